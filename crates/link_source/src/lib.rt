@@ -10,7 +10,7 @@ use dl_kinds::IoErr;
 
 mod endpoint;
 
-pub use endpoint::{EndErr, Endpoint};
+pub use endpoint::{EndErr, Endpoint, is_usable};
 
 /// One connection at a time to a mirror.
 pub trait Links {
