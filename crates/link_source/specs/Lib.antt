@@ -1,2 +1,4 @@
 pub mod Endpoint
+pub mod Mirrors
+pub mod Requests
 pub mod Streams

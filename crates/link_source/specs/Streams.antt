@@ -1,5 +1,5 @@
 -- What a link gave and took, one stream for each dial that was answered.
-use Rattle.std.specs.Prelude.{ℕ, Bool, true, false, List, [], ◌∷◌, ◌++◌, length}
+use Rattle.std.specs.Prelude.{◌≡◌, ℕ, Bool, true, false, List, [], ◌∷◌, ◌++◌, length, take, drop}
 
 pub record Stream : Type 0 where
   pub host : List ℕ
@@ -24,3 +24,9 @@ abbrev pub with_received : List ℕ → List Stream → List Stream
 with_received bytes [] = []
 with_received [] (stream ∷ older) = record stream { ended = true } ∷ older
 with_received (byte ∷ bytes) (stream ∷ older) = record stream { received = stream.received ++ byte ∷ bytes } ∷ older
+
+-- so many bytes came from what was due, and none of them only where nothing was
+pub record TakesDue (due : List ℕ) (count : ℕ) (came new_due : List ℕ) : Type 0 where
+  pub bytes : take count came ≡ take count due
+  pub rest : new_due ≡ drop count due
+  pub end : count ≡ 0 → due ≡ []

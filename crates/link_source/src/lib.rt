@@ -1,24 +1,33 @@
 //! Links to mirrors: where a URL leads, what a link gives, and mirrors in memory.
 #![tactic(auto)]
 
-ghost use Rattle.std.specs.Prelude.{◌≡◌, ◌<◌, ◌≤◌, ◌∷◌, Bool, ℕ, List, length, take, IsTrue, IsErrOf, IfOk, OnOk, OnErr};
+ghost use Rattle.std.specs.Prelude.{◌≡◌, ◌<◌, ◌≤◌, ◌∷◌, [], Bool, ℕ, List, length, take, IsTrue, IsErrOf, IfOk, OnOk, OnErr};
 ghost use Rattle.dl_kinds.specs.Causes.{HasCause};
 ghost use Rattle.dl_kinds.specs.declared.outside.IoErr.TheVariants.{NoMemory};
-ghost use Rattle.link_source.specs.Streams.{Stream, dialled, with_sent, with_received};
+ghost use Rattle.link_source.specs.Mirrors.{Content, AddsReply};
+ghost use Rattle.link_source.specs.Streams.{Stream, TakesDue, dialled, with_sent, with_received};
 
 use dl_kinds::IoErr;
 
 mod endpoint;
+mod mirrors;
 
 pub use endpoint::{EndErr, Endpoint, is_usable};
+pub use mirrors::{Manner, MemFile, MemMirror};
 
 /// One connection at a time to a mirror.
 pub trait Links {
     /// Whether what it gives is told.
     ghost tells: { Bool };
 
+    /// What the mirrors hold.
+    ghost content: { Self → Content };
+
     /// The streams of this link, one for each dial that was answered, the newest first.
     ghost streams: { Self → List Stream };
+
+    /// What the newest stream has still to give.
+    ghost due: { Self → List ℕ };
 
     /// How often it failed.
     ghost faults: { Self → ℕ };
@@ -26,16 +35,23 @@ pub trait Links {
     fn faults(&self) -> u64
         ensures { result ≡ faults self.now };
 
+    /// Opens a stream to a mirror. The host is written as in an `Endpoint`.
     fn dial(&mut self, host: &str, port: u16) -> Result<(), IoErr>
         ensures dialled { OnOk result (IsTrue tells → streams self.new ≡ dialled host.now port ∷ streams self.old) }
+        ensures fresh { OnOk result (IsTrue tells → due self.new ≡ []) }
         ensures failed { OnErr result (IsTrue tells → streams self.new ≡ streams self.old) }
+        ensures held { OnErr result (IsTrue tells → due self.new ≡ due self.old) }
+        ensures kept { IsTrue tells → content self.new ≡ content self.old }
         ensures cause { HasCause (faults self.old) (faults self.new) result }
         ensures same { IsErrOf result NoMemory → faults self.new ≡ faults self.old };
 
-    /// All of the bytes, or none.
+    /// Sends all of the bytes, or none.
     fn send(&mut self, bytes: &[u8]) -> Result<(), IoErr>
         ensures sent { OnOk result (IsTrue tells → streams self.new ≡ with_sent bytes.now (streams self.old)) }
+        ensures replied { OnOk result (IsTrue tells → AddsReply (streams self.old) bytes.now (content self.old) (content self.new) (due self.old) (due self.new)) }
         ensures failed { OnErr result (IsTrue tells → streams self.new ≡ streams self.old) }
+        ensures held { OnErr result (IsTrue tells → due self.new ≡ due self.old) }
+        ensures kept { OnErr result (IsTrue tells → content self.new ≡ content self.old) }
         ensures cause { HasCause (faults self.old) (faults self.new) result }
         ensures same { IsErrOf result NoMemory → faults self.new ≡ faults self.old };
 
@@ -44,11 +60,17 @@ pub trait Links {
         requires { 0 < length into.old }
         ensures bound { IfOk result (λ count. count ≤ length into.new) }
         ensures received { IfOk result (λ count. IsTrue tells → streams self.new ≡ with_received (take count into.new) (streams self.old)) }
+        ensures given { IfOk result (λ count. IsTrue tells → TakesDue (due self.old) count into.new (due self.new)) }
         ensures failed { OnErr result (IsTrue tells → streams self.new ≡ streams self.old) }
+        ensures held { OnErr result (IsTrue tells → due self.new ≡ due self.old) }
+        ensures kept { IsTrue tells → content self.new ≡ content self.old }
         ensures cause { HasCause (faults self.old) (faults self.new) result }
         ensures same { IsErrOf result NoMemory → faults self.new ≡ faults self.old };
 
+    /// Ends the stream. Only a dial opens another.
     fn hang_up(&mut self)
         ensures streams { IsTrue tells → streams self.new ≡ streams self.old }
+        ensures held { IsTrue tells → due self.new ≡ due self.old }
+        ensures kept { IsTrue tells → content self.new ≡ content self.old }
         ensures faults { faults self.new ≡ faults self.old };
 }
