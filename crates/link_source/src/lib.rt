@@ -11,6 +11,7 @@ use dl_kinds::IoErr;
 
 mod endpoint;
 mod mirrors;
+mod requests;
 
 pub use endpoint::{EndErr, Endpoint, is_usable};
 pub use mirrors::{Manner, MemFile, MemMirror};
