@@ -98,26 +98,26 @@ moved middle mark line_end lines range rest same =
 -- the lines of a request, and its text by the places of what varies
 regrouped : (get target version line_end name host lines range first dash last empty middle mark : List ℕ) → middle ++ mark ≡ line_end ++ (lines ++ range)
     → ((get ++ target ++ version) ++ line_end) ++ ((name ++ host) ++ line_end ++ (lines ++ ((range ++ first ++ dash ++ last) ++ line_end ++ empty)))
-        ≡ get ++ target ++ (version ++ (line_end ++ name) ++ (host ++ middle)) ++ mark ++ first ++ dash ++ last ++ (line_end ++ empty)
+    ≡ get ++ target ++ (version ++ (line_end ++ name) ++ (host ++ middle)) ++ mark ++ first ++ dash ++ last ++ (line_end ++ empty)
 regrouped get target version line_end name host lines range first dash last empty middle mark same =
     let tail : middle ++ (mark ++ (first ++ (dash ++ (last ++ (line_end ++ empty))))) ≡ line_end ++ (lines ++ (range ++ (first ++ (dash ++ (last ++ (line_end ++ empty))))))
-        = moved middle mark line_end lines range (first ++ (dash ++ (last ++ (line_end ++ empty)))) same in
+    = moved middle mark line_end lines range (first ++ (dash ++ (last ++ (line_end ++ empty)))) same in
     simp append_assoc (ap (λ l. get ++ (target ++ (version ++ (line_end ++ (name ++ (host ++ l)))))) (sym tail))
 
 request_spelled : (host target : List ℕ) (first last : ℕ) → request_of host target first last ≡ spelled (between_of host) target first last
 unfolding request_of spelled between_of
 request_spelled host target first last =
     regrouped (codes "GET ") target (codes " HTTP/1.1") line_end (codes "Host: ") host
-        (codes "User-Agent: aria_cli\r\nAccept: */*\r\nAccept-Encoding: identity\r\n") (codes "Range: bytes=") (decimal first) (codes "-") (decimal last) line_end
-        (codes "\r\nUser-Agent: aria_cli\r\nAccept: */*\r\nAccept-Encoding: identity\r\nRange: bytes") (codes "=") refl
+    (codes "User-Agent: aria_cli\r\nAccept: */*\r\nAccept-Encoding: identity\r\n") (codes "Range: bytes=") (decimal first) (codes "-") (decimal last) line_end
+    (codes "\r\nUser-Agent: aria_cli\r\nAccept: */*\r\nAccept-Encoding: identity\r\nRange: bytes") (codes "=") refl
 
 pub asks_read : (host : List ℕ) (port : ℕ) (between bytes target : List ℕ) (first last : ℕ) → between ≡ between_of (host_value host port)
     → bytes ≡ spelled between target first last → first ≤ last → last < 2 ^ 64 → Asks host port target first last bytes
 asks_read host port between bytes target first last is_between spelling ordered bounded = record {
-    text = spelling ∙ ap (λ b. spelled b target first last) is_between ∙ sym (request_spelled (host_value host port) target first last);
-    ordered = ordered;
-    bounded = bounded;
-  }
+  text = spelling ∙ ap (λ b. spelled b target first last) is_between ∙ sym (request_spelled (host_value host port) target first last);
+  ordered = ordered;
+  bounded = bounded;
+}
 
 -- what is asked is spelled so
 pub asks_spelled : (host : List ℕ) (port : ℕ) (between bytes target : List ℕ) (first last : ℕ) → between ≡ between_of (host_value host port)

@@ -35,7 +35,11 @@ returns-in_err-target c =
     (strip_prefix_is Decides-eqb _ (codes "GET ") None c.in_err-target.ensures.cases))
 
 pub returns : goal.returns
-returns c = (is_request _ _ _ _ _ _ _
-    (numbered _ _ _ _ _ _ (strip_suffix_is Decides-eqb _ _ (Some c.in_ok-lines.lines) c.in_ok-lines.ensures.cases) c.in_ok-front.ensures c.in_ok-front-2.ensures)
-    (strip_suffix_is Decides-eqb _ _ (Some c.in_ok-strip_suffix.field-0) c.in_ok-strip_suffix.ensures.cases)
-    (strip_prefix_is Decides-eqb _ (codes "GET ") (Some c.in_ok-target.target) c.in_ok-target.ensures.cases), c.in_ok-front-2.ensures.1, c.in_ok-front.ensures.1)
+returns c = (
+  is_request _ _ _ _ _ _ _
+      (numbered _ _ _ _ _ _ (strip_suffix_is Decides-eqb _ _ (Some c.in_ok-lines.lines) c.in_ok-lines.ensures.cases) c.in_ok-front.ensures c.in_ok-front-2.ensures)
+      (strip_suffix_is Decides-eqb _ _ (Some c.in_ok-strip_suffix.field-0) c.in_ok-strip_suffix.ensures.cases)
+      (strip_prefix_is Decides-eqb _ (codes "GET ") (Some c.in_ok-target.target) c.in_ok-target.ensures.cases),
+  c.in_ok-front-2.ensures.1,
+  c.in_ok-front.ensures.1,
+)
