@@ -2,5 +2,7 @@
 #![tactic(auto)]
 
 mod asked;
+mod range;
 
 pub use asked::{Asked, request};
+pub use range::{ContentRange, read_range};
