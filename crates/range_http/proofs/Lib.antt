@@ -1,2 +1,4 @@
+mod HeadLemmas
 mod NumberLemmas
 mod RequestLemmas
+mod Room

@@ -1,2 +1,4 @@
+pub mod Heads
 pub mod Range
 pub mod Request
+pub mod Spans

@@ -2,7 +2,9 @@
 #![tactic(auto)]
 
 mod asked;
+mod head;
 mod range;
 
 pub use asked::{Asked, request};
+pub use head::{Head, HeadRead, read_head};
 pub use range::{ContentRange, read_range};

@@ -1,0 +1,45 @@
+-- The head of a reply (RFC 9112 sections 2 to 5), by the grammar of httparse.
+use Rattle.std.specs.Prelude.{◌≡◌, ℕ, ◌≤◌, List, [], map, length, ⊤}
+use Rattle.http_header.specs.FieldValue.{FieldValue, plain_value}
+use Rattle.http_header.specs.HeaderMap.{append_all}
+use Rattle.http_header.specs.Token.{lowercase}
+use Rattle.httparse.specs.Grammar.{Field, field_value, ResponseHead, print_response, ReadsResponse, HasNoResponse, MayBecomeResponse, status_code}
+use Rattle.range_http.specs.declared.head.Head.{Head}
+use Rattle.range_http.specs.declared.head.HeadRead.{HeadRead}
+use Rattle.range_http.specs.declared.head.HeadRead.TheVariants.{Whole, More, Bad, NoMemory}
+
+-- the name in lower case, and the value without the white space around it
+abbrev pub entry_of : Field → List ℕ × FieldValue
+entry_of field = (lowercase field.name, plain_value (field_value field))
+
+-- what the text of a head says; the values of one name stand together, in their order
+abbrev pub head_of : ResponseHead → Head
+head_of text = record { status = status_code text; minor = text.minor; fields = append_all [] (map entry_of text.fields) }
+
+-- the bytes begin with a head of at most 65,536 bytes and 64 fields: what it says, and how many bytes it takes
+pub record IsHead (bytes : List ℕ) (head : Head) (used : ℕ) : Type 0 where
+  pub text : ResponseHead
+  pub rest : List ℕ
+  pub reads : ReadsResponse bytes text rest
+  pub says : head ≡ head_of text
+  pub takes : used ≡ length (print_response text)
+  pub bytes_fit : used ≤ 65536
+  pub fields_fit : length text.fields ≤ 64
+
+-- the bytes are no head yet, and can become one, of any number of fields
+pub record IsUnfinished (bytes : List ℕ) : Type 0 where
+  pub short : length bytes ≤ 65535
+  pub none : HasNoResponse bytes
+  pub some : MayBecomeResponse bytes
+
+-- neither of the two
+pub record IsNoHead (bytes : List ℕ) : Type 0 where
+  pub no_head : (head : Head) (used : ℕ) → IsHead bytes head used → ⊥
+  pub no_front : IsUnfinished bytes → ⊥
+
+-- P of the head and its length, where one is answered
+abbrev pub IfWhole : HeadRead → (Head → ℕ → Type 0) → Type 0
+IfWhole (Whole head used) P = P head used
+IfWhole More P = ⊤
+IfWhole Bad P = ⊤
+IfWhole NoMemory P = ⊤

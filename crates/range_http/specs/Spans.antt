@@ -1,0 +1,10 @@
+-- Fields as the spans of their names and values.
+use Rattle.std.specs.Prelude.{ℕ, List}
+use Rattle.http_header.specs.FieldValue.{FieldValue, plain_value}
+use Rattle.http_header.specs.Token.{lowercase}
+use Rattle.httparse.specs.Spans.{span_bytes}
+use Rattle.httparse.specs.declared.spans.HeaderSpan.{HeaderSpan}
+
+-- the name in lower case, and the value
+abbrev pub entry_at : List ℕ → HeaderSpan → List ℕ × FieldValue
+entry_at bytes span = (lowercase (span_bytes bytes span.name), plain_value (span_bytes bytes span.value))
