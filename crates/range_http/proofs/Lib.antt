@@ -1,3 +1,4 @@
+mod HeadLawLemmas
 mod HeadLemmas
 mod NumberLemmas
 mod RequestLemmas

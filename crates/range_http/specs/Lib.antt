@@ -1,3 +1,4 @@
+pub mod HeadLaws
 pub mod Heads
 pub mod Range
 pub mod Request

@@ -6,5 +6,5 @@ mod head;
 mod range;
 
 pub use asked::{Asked, request};
-pub use head::{Head, HeadRead, read_head};
+pub use head::{Head, HeadRead, head_laws, read_head};
 pub use range::{ContentRange, read_range};

@@ -1,0 +1,12 @@
+use Rattle.range_http.proofs.HeadLawLemmas.{one_head, head_stays, no_head_stays, head_is_finished, front_is_unfinished, head_comes_whole}
+use Rattle.range_http.proofs.head.head_laws.Goals as goal
+
+pub returns : goal.returns
+returns c = record {
+  one = one_head;
+  stays = head_stays;
+  none_stays = no_head_stays;
+  finished = head_is_finished;
+  front = front_is_unfinished;
+  whole = head_comes_whole;
+}
