@@ -1,3 +1,4 @@
+pub mod Fields
 pub mod HeadLaws
 pub mod Heads
 pub mod Range

@@ -2,9 +2,11 @@
 #![tactic(auto)]
 
 mod asked;
+mod fields;
 mod head;
 mod range;
 
 pub use asked::{Asked, request};
+pub use fields::location;
 pub use head::{Head, HeadRead, head_laws, read_head};
 pub use range::{ContentRange, read_range};
