@@ -1,0 +1,6 @@
+pub mod Value
+pub mod Placed
+pub mod Code
+pub mod Node
+pub mod Falls
+pub mod Reading

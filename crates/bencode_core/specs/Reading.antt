@@ -1,0 +1,140 @@
+-- Reading a value from left to right, with the first fault that is met. The bytes are what is left of the input, and
+-- place is where they begin in it. Some bytes by number: 45 is "-", 48 "0", 58 ":", 100 "d", 101 "e", 105 "i", 108 "l".
+use Rattle.std.specs.Prelude.{ℕ, zero, suc, ◌+◌, ◌^◌, ℤ, pos, neg_ℤ, Bool, true, false, ◌==◌, nat_lt, nat_le, if◌then◌else◌, is_some, List, [], ◌∷◌, ◌++◌, length, take, drop, Option, Some, None, option_map, option_and_then, Result, Ok, Err}
+use Rattle.std.specs.Char.{is_ascii_digit}
+use Rattle.std.specs.List.{take_while}
+use Rattle.std.specs.Str.Parse.{digits_value}
+use lib.Signed.{mag}
+use Rattle.bencode_core.specs.Value.{Value, Values, Members, integer, string, list, dict, no_values, value, no_members, member, spelling, string_spelling, is_behind}
+use Rattle.bencode_core.specs.declared.ben.BenKind.{BenKind}
+use Rattle.bencode_core.specs.declared.ben.BenKind.TheVariants as kinds
+use Rattle.bencode_core.specs.declared.fault.BenErr.{BenErr}
+use Rattle.bencode_core.specs.declared.fault.BenErr.TheVariants.{Wrong, TooDeep, TooWide, Trailing}
+
+infixl 10 ◌>>=◌
+abbrev pub ◌>>=◌ : {A B : Type 0} → Result A BenErr → (A → Result B BenErr) → Result B BenErr
+(Ok x) >>= f = f x
+(Err e) >>= f = Err e
+
+abbrev pub or_fault : {A : Type 0} → BenErr → Option A → Result A BenErr
+or_fault fault None = Err fault
+or_fault fault (Some x) = Ok x
+
+-- this byte stands at the front
+abbrev pub begins : ℕ → List ℕ → Bool
+begins byte [] = false
+begins byte (b ∷ bytes) = b == byte
+
+-- ---- integers and strings
+
+abbrev pub digits_at : List ℕ → List ℕ
+digits_at bytes = take_while is_ascii_digit bytes
+
+-- the number that digits write, without a leading zero but 0 itself
+abbrev pub number_of : List ℕ → Option ℕ
+number_of [] = None
+number_of (d ∷ []) = Some (digits_value 10 (d ∷ []))
+number_of (d ∷ e ∷ ds) = if d == 48 then None else Some (digits_value 10 (d ∷ e ∷ ds))
+
+-- a number and the byte that ends it, and the bytes behind that
+unfoldable pub number_at : ℕ → List ℕ → Option (ℕ × List ℕ)
+number_at end bytes =
+    let behind = drop (length (digits_at bytes)) bytes in
+    if begins end behind then option_map (λ n. (n, drop 1 behind)) (number_of (digits_at bytes)) else None
+
+-- the integer at the front, of any size
+unfoldable pub integer_at : List ℕ → Option ℤ
+integer_at [] = None
+integer_at (i ∷ bytes) =
+    if begins 45 bytes
+    then option_and_then (λ n. if n.0 == 0 then None else Some (neg_ℤ (pos n.0))) (number_at 101 (drop 1 bytes))
+    else option_map (λ n. pos n.0) (number_at 101 bytes)
+
+-- the integer, if it has 64 bits
+abbrev pub narrowed : ℤ → Option ℤ
+narrowed z = if nat_lt (mag z) (2 ^ 63) then Some z else None
+
+-- the bytes of the string at the front
+unfoldable pub string_at : List ℕ → Option (List ℕ)
+string_at bytes = option_and_then (λ n. if nat_le n.0 (length n.1) then Some (take n.0 n.1) else None) (number_at 58 bytes)
+
+-- ---- values
+
+-- what the first byte begins
+abbrev pub kind_at : List ℕ → Option BenKind
+kind_at [] = None
+kind_at (b ∷ bytes) =
+    if b == 105 then Some kinds.Integer
+    else if b == 108 then Some kinds.List
+    else if b == 100 then Some kinds.Dict
+    else if is_ascii_digit b then Some kinds.String
+    else None
+
+-- the values up to the "e", each read by one, and no more than turns
+unfoldable pub values_by : (ℕ → List ℕ → Result Value BenErr) → ℕ → ℕ → List ℕ → Result Values BenErr
+values_by one zero place bytes = Err (Wrong place)
+values_by one (suc turns) place bytes =
+    if begins 101 bytes then Ok no_values else (do
+      v ← one place bytes
+      vs ← values_by one turns (place + length (spelling v)) (drop (length (spelling v)) bytes)
+      Ok (value v vs))
+
+-- a key, which stands behind the one before it
+unfoldable pub key_at : Option (List ℕ) → ℕ → List ℕ → Result (List ℕ) BenErr
+key_at before place bytes = do
+  key ← or_fault (Wrong place) (string_at bytes)
+  if is_behind before key then Ok key else Err (Wrong place)
+
+unfoldable pub member_by : (ℕ → List ℕ → Result Value BenErr) → Option (List ℕ) → ℕ → List ℕ → Result (List ℕ × Value) BenErr
+member_by one before place bytes = do
+  key ← key_at before place bytes
+  v ← one (place + length (string_spelling key)) (drop (length (string_spelling key)) bytes)
+  Ok (key, v)
+
+abbrev pub member_spelling : List ℕ × Value → List ℕ
+member_spelling m = string_spelling m.0 ++ spelling m.1
+
+-- the members up to the "e"
+unfoldable pub members_by : (ℕ → List ℕ → Result Value BenErr) → ℕ → Option (List ℕ) → ℕ → List ℕ → Result Members BenErr
+members_by one zero before place bytes = Err (Wrong place)
+members_by one (suc turns) before place bytes =
+    if begins 101 bytes then Ok no_members else (do
+      m ← member_by one before place bytes
+      ms ← members_by one turns (Some m.0) (place + length (member_spelling m)) (drop (length (member_spelling m)) bytes)
+      Ok (member m.0 m.1 ms))
+
+-- A value of this kind whose parts are read by one. There are no more parts than bytes.
+unfoldable pub value_by : (ℕ → List ℕ → Result Value BenErr) → ℕ → List ℕ → Option BenKind → Result Value BenErr
+value_by one place bytes None = Err (Wrong place)
+value_by one place bytes (Some kinds.Integer) = do
+  z ← or_fault (Wrong place) (integer_at bytes)
+  n ← or_fault (TooWide place) (narrowed z)
+  Ok (integer n)
+value_by one place bytes (Some kinds.String) = do
+  s ← or_fault (Wrong place) (string_at bytes)
+  Ok (string s)
+value_by one place bytes (Some kinds.List) = do
+  vs ← values_by one (length bytes) (place + 1) (drop 1 bytes)
+  Ok (list vs)
+value_by one place bytes (Some kinds.Dict) = do
+  ms ← members_by one (length bytes) None (place + 1) (drop 1 bytes)
+  Ok (dict ms)
+
+-- a value of this kind is spelled at the front, as far as that can be told without reading its parts
+abbrev pub is_spelled : List ℕ → Option BenKind → Bool
+is_spelled bytes None = false
+is_spelled bytes (Some kinds.Integer) = is_some (integer_at bytes)
+is_spelled bytes (Some kinds.String) = is_some (string_at bytes)
+is_spelled bytes (Some kinds.List) = true
+is_spelled bytes (Some kinds.Dict) = true
+
+-- a value at the front that is at most so many levels deep
+unfoldable pub value_at : ℕ → ℕ → List ℕ → Result Value BenErr
+value_at zero place bytes = Err (if is_spelled bytes (kind_at bytes) then TooDeep place else Wrong place)
+value_at (suc levels) place bytes = value_by (value_at levels) place bytes (kind_at bytes)
+
+-- all of the input
+unfoldable pub reading : List ℕ → Result Value BenErr
+reading bytes = do
+  v ← value_at 100 0 bytes
+  if length (spelling v) == length bytes then Ok v else Err (Trailing (length (spelling v)))

@@ -1,0 +1,10 @@
+//! Bencoding (BEP 3): values, the one spelling of each, and the first fault of bytes that spell none.
+#![tactic(auto)]
+
+mod ben;
+mod fault;
+mod search;
+
+pub use ben::{Ben, BenKind, Member};
+pub use fault::BenErr;
+pub use std::alloc::AllocError as NoMemory;
