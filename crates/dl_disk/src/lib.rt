@@ -10,6 +10,13 @@ ghost use Rattle.dl_disk.specs.Files.{Files, Stays, Puts, ReadsAt, overwritten, 
 
 use dl_kinds::IoErr;
 
+mod contents;
+mod edits;
+mod memory;
+mod record;
+
+pub use memory::MemDisk;
+
 /// A disk. Between two syncs of a file a crash may leave any bytes in each range that was written and past the old end,
 /// and any length from the smaller to the greater; a file that was made since its last sync may be absent.
 ///
