@@ -7,7 +7,7 @@ use Rattle.std.proofs.lemmas.Bool.{cases_lt}
 use Rattle.dl_disk.specs.Files.{Files}
 use Rattle.dl_disk.specs.Record.{will_do, changed, shown_after, AreAnswered}
 use Rattle.dl_disk.specs.declared.record.Action.{Action}
-use Rattle.dl_disk.specs.declared.record.Action.TheVariants.{Look, Read, Change, Sync}
+use Rattle.dl_disk.specs.declared.record.Action.TheVariants.{Look, Read, Change, Sync, MakeDir}
 use Rattle.dl_disk.specs.declared.record.Call.{Call}
 
 -- the calls before the last, and the last
@@ -42,6 +42,7 @@ pub changed_same : (old new : Files) (name : List ℕ) (action : Action) → ((o
 changed_same old new name Look same other = same other
 changed_same old new name (Read at len) same other = same other
 changed_same old new name Sync same other = same other
+changed_same old new name MakeDir same other = same other
 changed_same old new name (Change edit) same other = rw (same name, same other) refl
 
 -- the files after a call

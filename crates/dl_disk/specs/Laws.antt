@@ -11,7 +11,7 @@ use Rattle.dl_disk.specs.MemDisk.{shown, IsImage, moment_of, shown_at, IsImageAt
 use Rattle.dl_disk.specs.Tears.{may_edit, may_leave}
 use Rattle.dl_disk.specs.declared.record.Call.{Call}
 use Rattle.dl_disk.specs.declared.record.Action.{Action}
-use Rattle.dl_disk.specs.declared.record.Action.TheVariants.{Look, Read, Change, Sync}
+use Rattle.dl_disk.specs.declared.record.Action.TheVariants.{Look, Read, Change, Sync, MakeDir}
 use Rattle.dl_disk.specs.declared.memory.MemDisk.{MemDisk}
 
 -- a call leaves the files as they are after it, where a crash might have left them as they were before
@@ -23,6 +23,8 @@ leaves_files files before name (Read at len) true was = was
 leaves_files files before name (Read at len) false was = was
 leaves_files files before name Sync true was = (was, refl)
 leaves_files files before name Sync false was = was
+leaves_files files before name MakeDir true was = was
+leaves_files files before name MakeDir false was = was
 leaves_files files before name (Change edit) true was = (
   files,
   was,

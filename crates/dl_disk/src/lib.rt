@@ -100,6 +100,15 @@ pub trait Disk {
         ensures reads { IsTrue tells → ReadsNothing (reads self.old) (reads self.new) }
         ensures same { IsErrOf result NoMemory → faults self.new ≡ faults self.old };
 
+    /// Makes this folder and its parents, and is content where it stands. Folders are no files, and nothing is told of
+    /// them; one that was made with Ok outlasts a crash.
+    fn make_dir(&mut self, name: &str) -> Result<(), IoErr>
+        ensures stays { IsTrue tells → Stays (seen self.old) (seen self.new) (may_leave self.old) (may_leave self.new) }
+        ensures cause { HasCause (faults self.old) (faults self.new) result }
+        ensures time { IsTrue tells → Elapses (moment self.old) (moment self.new) (seen_at self.old) (seen_at self.new) (left_at self.old) (left_at self.new) result }
+        ensures reads { IsTrue tells → ReadsNothing (reads self.old) (reads self.new) }
+        ensures same { IsErrOf result NoMemory → faults self.new ≡ faults self.old };
+
     /// A disk as it reads is one of its own images.
     ghost own_image: { (disk : Self) → IsTrue tells → may_leave disk (seen disk) };
 

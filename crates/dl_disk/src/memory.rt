@@ -13,7 +13,7 @@ use dl_kinds::{Blob, IoErr, Text};
 use std::alloc::{AllocError, Global};
 
 /// A disk in memory. It keeps the files as they are now, and beside them each call that it had, from which its earlier
-/// moments and its images are told. So it grows with each call, also with a read.
+/// moments and its images are told. So it grows with each call, also with a read. It keeps no folders.
 ///
 /// The calls that are made are numbered, from 0 on. A call fails exactly where its number was asked to fail, or a read
 /// goes past the end of its file or has none, or a write ends past 2^64 - 1. A failed write leaves the file as it was.
@@ -76,7 +76,7 @@ impl MemDisk {
         let can_do = match action {
             Action::Read { at, len } => reaches(self.file(name), *at, *len),
             Action::Change(edit) => edit.fits(),
-            Action::Look | Action::Sync => true,
+            Action::Look | Action::Sync | Action::MakeDir => true,
         };
         can_do && !self.failing.contains(&(self.calls.len() as u64))
     }
@@ -167,5 +167,9 @@ impl Disk for MemDisk {
 
     fn sync(&mut self, name: &str) -> Result<(), IoErr> {
         self.call(name, Action::Sync)
+    }
+
+    fn make_dir(&mut self, name: &str) -> Result<(), IoErr> {
+        self.call(name, Action::MakeDir)
     }
 }

@@ -8,7 +8,7 @@ use crate::edits::Edit;
 use dl_kinds::Text;
 use std::alloc::{AllocError, Global};
 
-/// What a call asks of a file.
+/// What a call asks of a file, or of a folder.
 #[derive(Debug, Drop)]
 pub enum Action {
     /// Its length.
@@ -16,6 +16,7 @@ pub enum Action {
     Read { at: u64, len: u64 },
     Change(Edit),
     Sync,
+    MakeDir,
 }
 
 #[derive(Debug, Drop)]
@@ -39,7 +40,7 @@ impl Action {
     {
         match self {
             Action::Change(edit) => contents.edit(alloc, name, edit),
-            Action::Look | Action::Read { .. } | Action::Sync => Ok(()),
+            Action::Look | Action::Read { .. } | Action::Sync | Action::MakeDir => Ok(()),
         }
     }
 }
