@@ -1,3 +1,4 @@
+mod FramingLemmas
 mod HeadLawLemmas
 mod HeadLemmas
 mod NumberLemmas

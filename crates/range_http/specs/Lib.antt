@@ -1,4 +1,5 @@
 pub mod Fields
+pub mod Framing
 pub mod HeadLaws
 pub mod Heads
 pub mod Range

@@ -3,10 +3,12 @@
 
 mod asked;
 mod fields;
+mod framing;
 mod head;
 mod range;
 
 pub use asked::{Asked, request};
 pub use fields::location;
+pub use framing::Framing;
 pub use head::{Head, HeadRead, head_laws, read_head};
 pub use range::{ContentRange, read_range};
