@@ -9,9 +9,9 @@ use Rattle.range_http.specs.declared.head.Head.{Head}
 use Rattle.range_http.specs.Fields.{values_of}
 use Rattle.range_http.specs.Range.{is_number, number_of, ◌>>=◌}
 
--- the text in any case
+-- the word in any case
 abbrev pub is_word : List ℕ → List ℕ → Bool
-is_word word text = bytes_eq (lowercase text) word
+is_word word text = bytes_eq (lowercase text) (lowercase word)
 
 -- the text writes this number
 abbrev pub is_number_text : ℕ → List ℕ → Bool

@@ -5,3 +5,4 @@ pub mod Heads
 pub mod Range
 pub mod Request
 pub mod Spans
+pub mod Verdict

@@ -25,6 +25,19 @@ fn writes(text: &[u8], number: u64) -> bool
     read_number(text) == Some(number)
 }
 
+fn is_word(text: &[u8], word: &[u8]) -> bool
+    ensures { result ≡ is_word word.now text.now }
+{
+    text.eq_ignore_ascii_case(word)
+}
+
+/// Whether each value is the word, in any case.
+pub(crate) fn all_words(mut values: ValueIter<'_, HeaderValue>, word: &[u8]) -> bool
+    ensures { result ≡ list_all (λ value. is_word word.now value.bytes) values.entry }
+{
+    values.all(|value| is_word(value.as_bytes(), word))
+}
+
 fn all_write(mut values: ValueIter<'_, HeaderValue>, number: u64) -> bool
     ensures { result ≡ list_all (λ value. is_number_text number value.bytes) values.entry }
 {
@@ -55,7 +68,7 @@ pub(crate) fn framing_of(head: &Head) -> Option<Framing>
     let Some(coding) = codings.next() else {
         return length_of(head);
     };
-    if codings.next().is_none() && coding.as_bytes().eq_ignore_ascii_case(b"chunked") {
+    if codings.next().is_none() && is_word(coding.as_bytes(), b"chunked") {
         Some(Framing::Chunked)
     } else {
         None

@@ -6,9 +6,11 @@ mod fields;
 mod framing;
 mod head;
 mod range;
+mod verdict;
 
 pub use asked::{Asked, request};
 pub use fields::location;
 pub use framing::Framing;
 pub use head::{Head, HeadRead, head_laws, read_head};
 pub use range::{ContentRange, read_range};
+pub use verdict::{Verdict, classify};
