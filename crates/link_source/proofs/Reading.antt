@@ -1,12 +1,11 @@
 -- Requests, read from their ends.
 use Rattle.std.proofs.Common.{◌≡◌, ◌≢◌, ℕ, ◌<◌, ◌≤◌, ◌^◌, List, [], ◌∷◌, ◌++◌, arith, refl, ap, sym, ◌∙◌, append_assoc}
 use Rattle.std.proofs.lemmas.List.{append_cancel_left, append_cancel_right}
-use Rattle.std.specs.Char.{digit_value}
 use Rattle.std.specs.Fmt.{decimal}
 use Rattle.std.specs.Prelude.{codes}
 use Rattle.link_source.proofs.Numbers.{one_number}
 use Rattle.link_source.specs.Endpoint.{host_value}
-use Rattle.link_source.specs.Requests.{Asks, between_of, line_end, request_of, spelled}
+use Rattle.link_source.specs.Requests.{Asks, AsksOnce, between_of, line_end, request_of, spelled}
 
 -- no request has these bytes
 abbrev pub NoRequest : List ℕ → List ℕ → Type 0
@@ -124,3 +123,11 @@ pub asks_spelled : (host : List ℕ) (port : ℕ) (between bytes target : List �
     → Asks host port target first last bytes → bytes ≡ spelled between target first last
 asks_spelled host port between bytes target first last is_between asks =
     asks.text ∙ request_spelled (host_value host port) target first last ∙ ap (λ b. spelled b target first last) (sym is_between)
+
+pub asks_once : AsksOnce
+asks_once host port bytes target other_target first last other_first other_last asks others =
+    one_request (between_of (host_value host port)) target other_target first last other_first other_last
+    (let ordered : first ≤ last = asks.ordered in let bounded : last < 2 ^ 64 = asks.bounded in omega arith) asks.bounded
+    (let ordered : other_first ≤ other_last = others.ordered in let bounded : other_last < 2 ^ 64 = others.bounded in omega arith) others.bounded
+    (sym (asks_spelled host port (between_of (host_value host port)) bytes target first last refl asks)
+    ∙ asks_spelled host port (between_of (host_value host port)) bytes other_target other_first other_last refl others)

@@ -1,4 +1,5 @@
 pub mod Endpoint
+pub mod MemLinks
 pub mod Memory
 pub mod Mirrors
 pub mod Requests

@@ -9,11 +9,18 @@ ghost use Rattle.link_source.specs.Streams.{Stream, TakesDue, dialled, with_sent
 
 use dl_kinds::IoErr;
 
+mod calls;
+mod due;
 mod endpoint;
+mod laws;
+mod memory;
 mod mirrors;
 mod requests;
+mod streams;
 
 pub use endpoint::{EndErr, Endpoint, is_usable};
+pub use laws::requests_are_unique;
+pub use memory::MemLinks;
 pub use mirrors::{Manner, MemFile, MemMirror};
 
 /// One connection at a time to a mirror.

@@ -1,9 +1,10 @@
 // Mirrors in memory, and their replies.
-ghost use Rattle.std.specs.Prelude.{◌≡◌, ◌≤◌, ◌<◌, ◌^◌, ◌+◌, IfOk, option_copied, string_bytes};
-ghost use Rattle.link_source.specs.Mirrors.{file_at, mirror_reply, ranges_reply, reply_by, part_head, not_satisfiable, not_found};
-ghost use Rattle.link_source.specs.Memory.{mirror_of};
+ghost use Rattle.std.specs.Prelude.{◌≡◌, ◌≤◌, ◌<◌, ◌^◌, ◌+◌, ◌==◌, ◌&&◌, find, IfOk, option_copied, string_bytes};
+ghost use Rattle.std.specs.Str.{bytes_eq};
+ghost use Rattle.link_source.specs.Mirrors.{Answers, reply_of, file_at, mirror_reply, ranges_reply, reply_by, part_head, not_satisfiable, not_found};
+ghost use Rattle.link_source.specs.Memory.{contents_of, mirror_of};
 
-use crate::requests::Asked;
+use crate::requests::{Asked, read_request};
 use dl_kinds::{Blob, Text};
 use std::alloc::{AllocError, Global};
 
@@ -97,5 +98,45 @@ impl MemMirror {
                 reply_by_range(alloc, bytes.bytes(), asked.first, asked.last)
             }
         }
+    }
+}
+
+// The first mirror of a host and a port.
+pub fn find_mirror<'a>(mirrors: &'a [MemMirror], host: &str, port: u16) -> Option<&'a MemMirror>
+    ensures { option_copied result ≡ find (λ mirror. (mirror.port == port) && bytes_eq mirror.host host.now) mirrors.now }
+{
+    mirrors.iter().find(|mirror| mirror.port == port && mirror.host.as_str() == host)
+}
+
+// What a host and a port reply to a request.
+fn reply_to(
+    alloc: Global,
+    mirrors: &[MemMirror],
+    host: &str,
+    port: u16,
+    asked: &Asked<'_>,
+) -> Result<Vec<u8>, AllocError>
+    requires { asked.now.first ≤ asked.now.last }
+    ensures { IfOk result (λ reply. reply.items ≡ reply_of (contents_of mirrors.now) host.now port asked.now.target.now asked.now.first asked.now.last) }
+{
+    match find_mirror(mirrors, host, port) {
+        Some(mirror) => mirror.reply(alloc, asked),
+        None => Ok(Vec::new(alloc)),
+    }
+}
+
+// What a host and a port reply to bytes.
+pub fn answer(
+    alloc: Global,
+    mirrors: &[MemMirror],
+    host: &str,
+    port: u16,
+    bytes: &[u8],
+) -> Result<Vec<u8>, AllocError>
+    ensures { IfOk result (λ reply. Answers (contents_of mirrors.now) host.now port bytes.now reply.items (contents_of mirrors.now)) }
+{
+    match read_request(alloc, host, port, bytes)? {
+        Some(asked) => reply_to(alloc, mirrors, host, port, &asked),
+        None => Ok(Vec::new(alloc)),
     }
 }

@@ -1,5 +1,5 @@
 use Rattle.std.proofs.Common.{◌∙◌}
-use Rattle.link_source.proofs.Heads.{not_satisfiable-text, part_head-text}
+use Rattle.link_source.proofs.Heads.{part_head-text}
 use Rattle.link_source.proofs.mirrors.head_of_part.Goals as goal
 
 pub returns : goal.returns

@@ -1,4 +1,4 @@
-use Rattle.std.proofs.Common.{arith, rules, ◌≤◌, length, get_or, ◌≡◌}
+use Rattle.std.proofs.Common.{arith, ◌≤◌, length}
 use Rattle.link_source.proofs.Numbers.{decimal_leads, plain_read}
 use Rattle.link_source.proofs.requests.plain_number.Goals as goal
 use Rattle.link_source.proofs.requests.plain_number.Goals.{else-digits-gt1-via-then-digits-gt1+else-digits-eq48, else-digits-gt1-via-else-digits-gt1}

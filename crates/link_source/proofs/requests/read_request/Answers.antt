@@ -1,4 +1,4 @@
-use Rattle.std.proofs.Common.{arith, ◌≡◌, ◌<◌, sym, ◌∙◌}
+use Rattle.std.proofs.Common.{arith, ◌≡◌, sym, ◌∙◌}
 use Rattle.link_source.proofs.Reading.{asks_read, asks_spelled, one_request}
 use Rattle.link_source.proofs.requests.read_request.Goals as goal
 use Rattle.link_source.proofs.requests.read_request.Goals.{in_default-via-in-Some+else-split_request, in_default-via-in_default}

@@ -1,4 +1,3 @@
-use Rattle.std.proofs.Common.{arith, rules}
 use Rattle.link_source.proofs.Numbers.{no_number}
 use Rattle.link_source.proofs.requests.split_number.Goals as goal
 

@@ -1,0 +1,115 @@
+// Links to mirrors in memory.
+ghost use Rattle.std.specs.Prelude.{◌≡◌, ◌<◌, [], IfOk};
+
+use crate::Links;
+use crate::calls::Calls;
+use crate::due::Due;
+use crate::mirrors::{MemMirror, answer, find_mirror};
+use crate::streams::MemStreams;
+use dl_kinds::{IoErr, NoMemory};
+use std::alloc::Global;
+
+/// A link to mirrors in memory.
+#[derive(Drop)]
+pub struct MemLinks {
+    alloc: Global,
+    mirrors: Vec<MemMirror>,
+    cut: u32,
+    calls: Calls,
+    streams: MemStreams,
+    open: bool,
+    due: Due,
+    ghost cuts: { 0 < cut },
+}
+
+impl MemLinks {
+    ghost use Rattle.link_source.specs.MemLinks.{content_of, due_of, faults_of, streams_of};
+    ghost use Rattle.link_source.specs.Memory.{contents_of};
+
+    /// A link that gives at most `cut` bytes at once. The calls of the given numbers fail: `dial`, `send` and `recv`
+    /// are numbered from 0, but for those that are answered with want of memory.
+    pub fn new(
+        alloc: Global,
+        mirrors: Vec<MemMirror>,
+        cut: u32,
+        failing: Vec<u64>,
+    ) -> Result<Self, NoMemory>
+        requires { 0 < cut }
+        ensures content { IfOk result (λ links. content_of links ≡ contents_of mirrors.items) }
+        ensures streams { IfOk result (λ links. streams_of links ≡ []) }
+        ensures due { IfOk result (λ links. due_of links ≡ []) }
+        ensures faults { IfOk result (λ links. faults_of links ≡ 0) }
+    {
+        Ok(MemLinks {
+            alloc,
+            mirrors,
+            cut,
+            calls: Calls::new(failing),
+            streams: MemStreams::new(alloc),
+            open: false,
+            due: Due::new(alloc),
+        })
+    }
+}
+
+impl Links for MemLinks {
+    ghost use Rattle.std.specs.Prelude.{true};
+    ghost use Rattle.link_source.specs.MemLinks.{content_of, due_of, faults_of, streams_of};
+
+    ghost tells = { true };
+
+    ghost content = { content_of };
+
+    ghost streams = { streams_of };
+
+    ghost due = { due_of };
+
+    ghost faults = { faults_of };
+
+    fn faults(&self) -> u64 {
+        self.calls.faults()
+    }
+
+    fn dial(&mut self, host: &str, port: u16) -> Result<(), IoErr> {
+        if self.calls.is_failing() || find_mirror(&self.mirrors, host, port).is_none() {
+            return Err(self.calls.fail());
+        }
+        self.streams.dial(self.alloc, host, port)?;
+        self.due = Due::new(self.alloc);
+        self.open = true;
+        self.calls.pass();
+        Ok(())
+    }
+
+    fn send(&mut self, bytes: &[u8]) -> Result<(), IoErr> {
+        if self.calls.is_failing() || !self.open {
+            return Err(self.calls.fail());
+        }
+        let Some((host, port)) = self.streams.peer() else {
+            return Err(self.calls.fail());
+        };
+        let reply = answer(self.alloc, &self.mirrors, host, port, bytes)?;
+        let due = self.due.with(self.alloc, reply)?;
+        self.streams.send(self.alloc, bytes)?;
+        self.due = due;
+        self.calls.pass();
+        Ok(())
+    }
+
+    fn recv(&mut self, into: &mut [u8]) -> Result<usize, IoErr> {
+        if self.calls.is_failing() || !self.open {
+            return Err(self.calls.fail());
+        }
+        let due = self.due.bytes();
+        let count = due.len().min(into.len()).min(self.cut as usize);
+        self.streams.receive(&due[..count])?;
+        into[..count].copy_from_slice(&due[..count]);
+        self.due.give(count);
+        self.calls.pass();
+        Ok(count)
+    }
+
+    fn hang_up(&mut self) {
+        self.open = false;
+    }
+}
