@@ -5,7 +5,7 @@ use Rattle.std.specs.Fmt.{decimal}
 use Rattle.std.specs.Prelude.{codes}
 use Rattle.link_source.proofs.Numbers.{one_number}
 use Rattle.link_source.specs.Endpoint.{host_value}
-use Rattle.link_source.specs.Requests.{Asks, AsksOnce, between_of, line_end, request_of, spelled}
+use Rattle.link_source.specs.Requests.{Asks, AsksOnce, between_of, line, request_of, spelled}
 
 -- no request has these bytes
 abbrev pub NoRequest : List ℕ → List ℕ → Type 0
@@ -89,25 +89,23 @@ numbered bytes lines front before first last split lasts firsts = record {
   last_small = lasts.1;
 }
 
-moved : (middle mark line_end lines range rest : List ℕ) → middle ++ mark ≡ line_end ++ (lines ++ range)
-    → middle ++ (mark ++ rest) ≡ line_end ++ (lines ++ (range ++ rest))
-moved middle mark line_end lines range rest same =
-    sym (append_assoc middle mark rest) ∙ ap (λ l. l ++ rest) same ∙ append_assoc line_end (lines ++ range) rest ∙ ap (λ l. line_end ++ l) (append_assoc lines range rest)
-
 -- the lines of a request, and its text by the places of what varies
-regrouped : (get target version line_end name host lines range first dash last empty middle mark : List ℕ) → middle ++ mark ≡ line_end ++ (lines ++ range)
-    → ((get ++ target ++ version) ++ line_end) ++ ((name ++ host) ++ line_end ++ (lines ++ ((range ++ first ++ dash ++ last) ++ line_end ++ empty)))
+regrouped : (get target version line_end name host agent accept encoding range first dash last empty middle mark : List ℕ)
+    → middle ++ mark ≡ line_end ++ (agent ++ (accept ++ (encoding ++ range)))
+    → ((get ++ target ++ version) ++ line_end) ++ ((name ++ host) ++ line_end) ++ agent ++ accept ++ encoding ++ ((range ++ first ++ dash ++ last) ++ line_end) ++ empty
     ≡ get ++ target ++ (version ++ (line_end ++ name) ++ (host ++ middle)) ++ mark ++ first ++ dash ++ last ++ (line_end ++ empty)
-regrouped get target version line_end name host lines range first dash last empty middle mark same =
-    let tail : middle ++ (mark ++ (first ++ (dash ++ (last ++ (line_end ++ empty))))) ≡ line_end ++ (lines ++ (range ++ (first ++ (dash ++ (last ++ (line_end ++ empty))))))
-    = moved middle mark line_end lines range (first ++ (dash ++ (last ++ (line_end ++ empty)))) same in
-    simp append_assoc (ap (λ l. get ++ (target ++ (version ++ (line_end ++ (name ++ (host ++ l)))))) (sym tail))
+regrouped get target version line_end name host agent accept encoding range first dash last empty middle mark same =
+    let rest : List ℕ = first ++ (dash ++ (last ++ (line_end ++ empty))) in
+    let moved : middle ++ (mark ++ rest) ≡ line_end ++ (agent ++ (accept ++ (encoding ++ (range ++ rest))))
+    = sym (append_assoc middle mark rest) ∙ ap (λ l. l ++ rest) same ∙ simp append_assoc in
+    simp append_assoc (ap (λ l. get ++ (target ++ (version ++ (line_end ++ (name ++ (host ++ l)))))) (sym moved))
 
 request_spelled : (host target : List ℕ) (first last : ℕ) → request_of host target first last ≡ spelled (between_of host) target first last
 unfolding request_of spelled between_of
 request_spelled host target first last =
-    regrouped (codes "GET ") target (codes " HTTP/1.1") line_end (codes "Host: ") host
-    (codes "User-Agent: aria_cli\r\nAccept: */*\r\nAccept-Encoding: identity\r\n") (codes "Range: bytes=") (decimal first) (codes "-") (decimal last) line_end
+    regrouped (codes "GET ") target (codes " HTTP/1.1") (codes "\r\n") (codes "Host: ") host
+    (line (codes "User-Agent: aria_cli")) (line (codes "Accept: */*")) (line (codes "Accept-Encoding: identity"))
+    (codes "Range: bytes=") (decimal first) (codes "-") (decimal last) (line [])
     (codes "\r\nUser-Agent: aria_cli\r\nAccept: */*\r\nAccept-Encoding: identity\r\nRange: bytes") (codes "=") refl
 
 pub asks_read : (host : List ℕ) (port : ℕ) (between bytes target : List ℕ) (first last : ℕ) → between ≡ between_of (host_value host port)

@@ -1,5 +1,5 @@
 -- What a link to mirrors in memory shows.
-use Rattle.std.specs.Prelude.{ℕ, List}
+use Rattle.std.specs.Prelude.{ℕ, Bool, List}
 use Rattle.link_source.specs.Memory.{contents_of}
 use Rattle.link_source.specs.Mirrors.{Content}
 use Rattle.link_source.specs.Streams.{Stream}
@@ -16,3 +16,7 @@ due_of links = links.due
 
 abbrev pub faults_of : MemLinks → ℕ
 faults_of links = links.calls.faults
+
+-- whether its newest stream may send and receive
+abbrev pub is_open : MemLinks → Bool
+is_open links = links.«open»

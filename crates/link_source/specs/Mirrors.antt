@@ -5,7 +5,7 @@ use Rattle.std.specs.Fmt.{decimal}
 use Rattle.std.specs.Option.{option_map_or}
 use Rattle.std.specs.Str.{bytes_eq}
 use Rattle.dl_words.specs.Lists.{part_at}
-use Rattle.link_source.specs.Requests.{head_of, Asks}
+use Rattle.link_source.specs.Requests.{Asks, line}
 use Rattle.link_source.specs.Streams.{Stream}
 use Rattle.link_source.specs.declared.mirrors.MemFile.{MemFile}
 use Rattle.link_source.specs.declared.mirrors.MemFile.TheVariants.{Bytes}
@@ -32,23 +32,23 @@ abbrev pub file_at : List (List ℕ × MemFile) → List ℕ → Option MemFile
 file_at files target = option_map (λ file. file.1) (find (λ file. bytes_eq file.0 target) files)
 
 unfoldable pub not_found : List ℕ
-not_found = head_of (codes "HTTP/1.1 404 Not Found" ∷ codes "Content-Length: 0" ∷ [])
+not_found = line (codes "HTTP/1.1 404 Not Found") ++ line (codes "Content-Length: 0") ++ line []
 
 -- no part of a resource of this length was asked for
 unfoldable pub not_satisfiable : ℕ → List ℕ
-not_satisfiable total = head_of (
-    codes "HTTP/1.1 416 Range Not Satisfiable"
-    ∷ (codes "Content-Range: bytes */" ++ decimal total)
-    ∷ codes "Content-Length: 0"
-    ∷ [])
+not_satisfiable total =
+    line (codes "HTTP/1.1 416 Range Not Satisfiable")
+    ++ line (codes "Content-Range: bytes */" ++ decimal total)
+    ++ line (codes "Content-Length: 0")
+    ++ line []
 
 -- the head before the bytes from first to last of a resource of this length
 unfoldable pub part_head : ℕ → ℕ → ℕ → List ℕ
-part_head first last total = head_of (
-    codes "HTTP/1.1 206 Partial Content"
-    ∷ (codes "Content-Range: bytes " ++ decimal first ++ codes "-" ++ decimal last ++ codes "/" ++ decimal total)
-    ∷ (codes "Content-Length: " ++ decimal (last + 1 - first))
-    ∷ [])
+part_head first last total =
+    line (codes "HTTP/1.1 206 Partial Content")
+    ++ line (codes "Content-Range: bytes " ++ decimal first ++ codes "-" ++ decimal last ++ codes "/" ++ decimal total)
+    ++ line (codes "Content-Length: " ++ decimal (last + 1 - first))
+    ++ line []
 
 abbrev pub part_reply : List ℕ → ℕ → ℕ → List ℕ
 part_reply bytes first last = part_head first last (length bytes) ++ part_at bytes first (last + 1 - first)

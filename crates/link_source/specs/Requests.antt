@@ -1,27 +1,22 @@
 -- How a mirror is asked for a part of a resource (RFC 9112 sections 2.1 and 3, RFC 9110 section 14.2).
-use Rattle.std.specs.Prelude.{◌≡◌, ◌≤◌, ◌<◌, ◌^◌, ℕ, List, [], ◌∷◌, ◌++◌, codes}
+use Rattle.std.specs.Prelude.{◌≡◌, ◌≤◌, ◌<◌, ◌^◌, ℕ, List, [], ◌++◌, codes}
 use Rattle.std.specs.Fmt.{decimal}
 use Rattle.link_source.specs.Endpoint.{host_value}
 
--- CR LF
-abbrev pub line_end : List ℕ
-line_end = 13 ∷ 10 ∷ []
-
--- the lines of a head, and the empty line behind them
-abbrev pub head_of : List (List ℕ) → List ℕ
-head_of [] = line_end
-head_of (line ∷ lines) = line ++ line_end ++ head_of lines
+-- a line of a head, which ends in CR LF
+abbrev pub line : List ℕ → List ℕ
+line text = text ++ codes "\r\n"
 
 -- a request for the bytes from first to last of a target
 unfoldable pub request_of : List ℕ → List ℕ → ℕ → ℕ → List ℕ
-request_of host target first last = head_of (
-    (codes "GET " ++ target ++ codes " HTTP/1.1")
-    ∷ (codes "Host: " ++ host)
-    ∷ codes "User-Agent: aria_cli"
-    ∷ codes "Accept: */*"
-    ∷ codes "Accept-Encoding: identity"
-    ∷ (codes "Range: bytes=" ++ decimal first ++ codes "-" ++ decimal last)
-    ∷ [])
+request_of host target first last =
+    line (codes "GET " ++ target ++ codes " HTTP/1.1")
+    ++ line (codes "Host: " ++ host)
+    ++ line (codes "User-Agent: aria_cli")
+    ++ line (codes "Accept: */*")
+    ++ line (codes "Accept-Encoding: identity")
+    ++ line (codes "Range: bytes=" ++ decimal first ++ codes "-" ++ decimal last)
+    ++ line []
 
 -- the bytes are such a request of a host and a port
 pub record Asks (host : List ℕ) (port : ℕ) (target : List ℕ) (first last : ℕ) (bytes : List ℕ) : Type 0 where

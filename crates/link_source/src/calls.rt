@@ -1,5 +1,5 @@
 // Calls that are numbered, so that some can be made to fail.
-ghost use Rattle.std.specs.Prelude.{◌≡◌, ◌≤◌, ℕ, List};
+ghost use Rattle.std.specs.Prelude.{◌≡◌, ◌≤◌, ◌↔◌, ◌+◌, ◌-◌, ◌^◌, min, Contains, IsTrue};
 ghost use Rattle.dl_words.specs.Counts.{Rose};
 ghost use Rattle.dl_kinds.specs.declared.outside.IoErr.TheVariants.{Fault};
 
@@ -15,7 +15,9 @@ pub struct Calls {
 
 impl Calls {
     pub fn new(failing: Vec<u64>) -> Self
-        ensures { result.faults ≡ 0 }
+        ensures failing { result.failing ≡ failing }
+        ensures made { result.made ≡ 0 }
+        ensures faults { result.faults ≡ 0 }
     {
         Calls {
             failing,
@@ -31,7 +33,9 @@ impl Calls {
     }
 
     /// Whether the next call is one of those that fail.
-    pub fn is_failing(&self) -> bool {
+    pub fn is_failing(&self) -> bool
+        ensures { IsTrue result ↔ Contains self.now.failing.items self.now.made }
+    {
         self.failing.contains(&self.made)
     }
 
@@ -40,6 +44,8 @@ impl Calls {
         ensures error { result ≡ IoErr.Fault }
         ensures later { self.old.faults ≤ self.new.faults }
         ensures rose { Rose self.old.faults self.new.faults }
+        ensures made { self.new.made ≡ min (self.old.made + 1) (2 ^ 64 - 1) }
+        ensures failing { self.new.failing ≡ self.old.failing }
     {
         self.made = self.made.saturating_add(1);
         self.faults = self.faults.saturating_add(1);
@@ -48,7 +54,7 @@ impl Calls {
 
     /// Ends a call that is answered.
     pub fn pass(&mut self)
-        ensures { self.new.faults ≡ self.old.faults }
+        ensures { self.new ≡ record self.old { made = min (self.old.made + 1) (2 ^ 64 - 1) } }
     {
         self.made = self.made.saturating_add(1);
     }

@@ -40,10 +40,11 @@ pub trait Links {
     /// How often it failed.
     ghost faults: { Self → ℕ };
 
+    /// The count of faults as it stands, which never falls and stands still at 2^64 - 1.
     fn faults(&self) -> u64
         ensures { result ≡ faults self.now };
 
-    /// Opens a stream to a mirror. The host is written as in an `Endpoint`.
+    /// Opens a stream to a mirror, in place of the one before. The host is written as in an `Endpoint`.
     fn dial(&mut self, host: &str, port: u16) -> Result<(), IoErr>
         ensures dialled { OnOk result (IsTrue tells → streams self.new ≡ dialled host.now port ∷ streams self.old) }
         ensures fresh { OnOk result (IsTrue tells → due self.new ≡ []) }
@@ -53,7 +54,7 @@ pub trait Links {
         ensures cause { HasCause (faults self.old) (faults self.new) result }
         ensures same { IsErrOf result NoMemory → faults self.new ≡ faults self.old };
 
-    /// Sends all of the bytes, or none.
+    /// Sends all of the bytes on the newest stream, or none.
     fn send(&mut self, bytes: &[u8]) -> Result<(), IoErr>
         ensures sent { OnOk result (IsTrue tells → streams self.new ≡ with_sent bytes.now (streams self.old)) }
         ensures replied { OnOk result (IsTrue tells → AddsReply (streams self.old) bytes.now (content self.old) (content self.new) (due self.old) (due self.new)) }
@@ -63,7 +64,7 @@ pub trait Links {
         ensures cause { HasCause (faults self.old) (faults self.new) result }
         ensures same { IsErrOf result NoMemory → faults self.new ≡ faults self.old };
 
-    /// Some bytes, and none only at the end of the stream.
+    /// Receives some bytes of the newest stream, and none only at its end.
     fn recv(&mut self, into: &mut [u8]) -> Result<usize, IoErr>
         requires { 0 < length into.old }
         ensures bound { IfOk result (λ count. count ≤ length into.new) }
@@ -75,7 +76,7 @@ pub trait Links {
         ensures cause { HasCause (faults self.old) (faults self.new) result }
         ensures same { IsErrOf result NoMemory → faults self.new ≡ faults self.old };
 
-    /// Ends the stream. Only a dial opens another.
+    /// Closes the newest stream. What it had still to give stays due.
     fn hang_up(&mut self)
         ensures streams { IsTrue tells → streams self.new ≡ streams self.old }
         ensures held { IsTrue tells → due self.new ≡ due self.old }

@@ -9,7 +9,8 @@ use crate::streams::MemStreams;
 use dl_kinds::{IoErr, NoMemory};
 use std::alloc::Global;
 
-/// A link to mirrors in memory.
+/// A link to mirrors in memory. A dial to a host and a port that no mirror has is a fault, and so are a `send` and a
+/// `recv` where no stream is open. Each `send` is one whole request, and other bytes get no reply.
 #[derive(Drop)]
 pub struct MemLinks {
     alloc: Global,
@@ -53,8 +54,8 @@ impl MemLinks {
 }
 
 impl Links for MemLinks {
-    ghost use Rattle.std.specs.Prelude.{true};
-    ghost use Rattle.link_source.specs.MemLinks.{content_of, due_of, faults_of, streams_of};
+    ghost use Rattle.std.specs.Prelude.{true, false};
+    ghost use Rattle.link_source.specs.MemLinks.{content_of, due_of, faults_of, is_open, streams_of};
 
     ghost tells = { true };
 
@@ -109,7 +110,13 @@ impl Links for MemLinks {
         Ok(count)
     }
 
-    fn hang_up(&mut self) {
+    fn hang_up(&mut self)
+        ensures streams { streams_of self.new ≡ streams_of self.old }
+        ensures held { due_of self.new ≡ due_of self.old }
+        ensures kept { content_of self.new ≡ content_of self.old }
+        ensures faults { faults_of self.new ≡ faults_of self.old }
+        ensures closed { is_open self.new ≡ false }
+    {
         self.open = false;
     }
 }
