@@ -5,7 +5,8 @@ use Rattle.std.specs.Fmt.{decimal}
 use Rattle.std.specs.Prelude.{codes}
 use Rattle.link_source.proofs.Numbers.{one_number}
 use Rattle.link_source.specs.Endpoint.{host_value}
-use Rattle.link_source.specs.Requests.{Asks, AsksOnce, between_of, line, request_of, spelled}
+use Rattle.link_source.specs.Reading.{between_of, spelled}
+use Rattle.link_source.specs.Requests.{Asks, AsksOnce, line, request_of}
 
 -- no request has these bytes
 abbrev pub NoRequest : List ℕ → List ℕ → Type 0

@@ -1,11 +1,12 @@
 -- What mirrors hold, and how they reply to requests for a part of a resource (RFC 9110 sections 14.4, 15.3.7, 15.5.5 and
 -- 15.5.17).
-use Rattle.std.specs.Prelude.{◌≡◌, ◌==◌, ℕ, List, [], ◌∷◌, ◌++◌, ◌+◌, ◌-◌, Option, Some, None, length, min, nat_lt, find, option_map, codes, if◌then◌else◌, ◌&&◌}
+use Rattle.std.specs.Prelude.{◌≡◌, ◌==◌, ◌≤◌, ◌<◌, ◌^◌, ℕ, List, [], ◌∷◌, ◌++◌, ◌+◌, ◌-◌, Option, Some, None, length, min, nat_lt, find, option_map, codes, if◌then◌else◌, ◌&&◌}
 use Rattle.std.specs.Fmt.{decimal}
 use Rattle.std.specs.Option.{option_map_or}
 use Rattle.std.specs.Str.{bytes_eq}
 use Rattle.dl_words.specs.Lists.{part_at}
-use Rattle.link_source.specs.Requests.{Asks, line}
+use Rattle.link_source.specs.Endpoint.{host_value}
+use Rattle.link_source.specs.Requests.{Asks, line, request_of}
 use Rattle.link_source.specs.Streams.{Stream}
 use Rattle.link_source.specs.declared.mirrors.MemFile.{MemFile}
 use Rattle.link_source.specs.declared.mirrors.MemFile.TheVariants.{Bytes}
@@ -22,6 +23,10 @@ pub record Mirror : Type 0 where
 -- what all the mirrors hold
 pub record Content : Type 0 where
   pub mirrors : List Mirror
+
+-- no mirrors, as where nothing is told
+abbrev pub no_content : Content
+no_content = record { mirrors = [] }
 
 -- the first mirror of this host and port
 abbrev pub mirror_at : List Mirror → List ℕ → ℕ → Option Mirror
@@ -79,6 +84,12 @@ pub record Answers (old : Content) (host : List ℕ) (port : ℕ) (bytes reply :
       → reply ≡ reply_of old host port target first last
   pub other : ((target : List ℕ) (first last : ℕ) → Asks host port target first last bytes → ⊥) → reply ≡ []
   pub stays : new ≡ old
+
+-- a request gets the reply to what it asks for
+abbrev pub AnswersRequests : Type 0
+AnswersRequests = (old new : Content) (host target reply : List ℕ) (port first last : ℕ) → first ≤ last → last < 2 ^ 64
+    → Answers old host port (request_of (host_value host port) target first last) reply new
+    → reply ≡ reply_of old host port target first last
 
 -- the newest stream gets a reply to the bytes, behind what it has still to give
 abbrev pub AddsReply : List Stream → List ℕ → Content → Content → List ℕ → List ℕ → Type 0

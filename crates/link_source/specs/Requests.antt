@@ -29,11 +29,3 @@ abbrev pub AsksOnce : Type 0
 AsksOnce = (host : List ℕ) (port : ℕ) (bytes target other_target : List ℕ) (first last other_first other_last : ℕ)
     → Asks host port target first last bytes → Asks host port other_target other_first other_last bytes
     → (target ≡ other_target) × (first ≡ other_first) × (last ≡ other_last)
-
--- what stands between the target and the numbers
-unfoldable pub between_of : List ℕ → List ℕ
-between_of host = codes " HTTP/1.1\r\nHost: " ++ (host ++ codes "\r\nUser-Agent: aria_cli\r\nAccept: */*\r\nAccept-Encoding: identity\r\nRange: bytes")
-
--- a request as it is read from its end
-unfoldable pub spelled : List ℕ → List ℕ → ℕ → ℕ → List ℕ
-spelled between target first last = codes "GET " ++ target ++ between ++ codes "=" ++ decimal first ++ codes "-" ++ decimal last ++ codes "\r\n\r\n"

@@ -25,7 +25,7 @@ with_received bytes [] = []
 with_received [] (stream ∷ older) = record stream { ended = true } ∷ older
 with_received (byte ∷ bytes) (stream ∷ older) = record stream { received = stream.received ++ byte ∷ bytes } ∷ older
 
--- so many bytes came from what was due, and none of them only where nothing was
+-- so many bytes of what was due came, and none only where nothing was due
 pub record TakesDue (due : List ℕ) (count : ℕ) (came new_due : List ℕ) : Type 0 where
   pub bytes : take count came ≡ take count due
   pub rest : new_due ≡ drop count due

@@ -19,7 +19,7 @@ mod requests;
 mod streams;
 
 pub use endpoint::{EndErr, Endpoint, is_usable};
-pub use laws::requests_are_unique;
+pub use laws::requests_are_read_once;
 pub use memory::MemLinks;
 pub use mirrors::{Manner, MemFile, MemMirror};
 

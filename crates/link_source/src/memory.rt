@@ -11,7 +11,7 @@ use std::alloc::Global;
 
 /// A link to mirrors in memory. A dial to a host and a port that no mirror has is a fault, and so are a `send` and a
 /// `recv` where no stream is open. Each `send` is one whole request, and other bytes get no reply.
-#[derive(Drop)]
+#[derive(Debug, Drop)]
 pub struct MemLinks {
     alloc: Global,
     mirrors: Vec<MemMirror>,

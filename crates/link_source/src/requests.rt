@@ -3,7 +3,8 @@ ghost use Rattle.std.specs.Prelude.{◌≡◌, ◌≢◌, ◌<◌, ◌≤◌, �
 ghost use Rattle.std.specs.Char.{digit_value};
 ghost use Rattle.std.specs.Fmt.{decimal};
 ghost use Rattle.link_source.specs.Endpoint.{host_value};
-ghost use Rattle.link_source.specs.Requests.{Asks, between_of, spelled};
+ghost use Rattle.link_source.specs.Reading.{between_of, spelled};
+ghost use Rattle.link_source.specs.Requests.{Asks};
 
 use crate::endpoint::host_field;
 use dl_words::numeral_value;
@@ -61,7 +62,7 @@ fn split_request<'a>(between: &[u8], bytes: &'a [u8]) -> Option<Asked<'a>>
 }
 
 // What stands between the target and the numbers of a request.
-#[tactic(auto, unfolding(crate::specs::Requests::between_of))]
+#[tactic(auto, unfolding(crate::specs::Reading::between_of))]
 fn between(alloc: Global, host: &str, port: u16) -> Result<String, AllocError>
     ensures { IfOk result (λ text. string_bytes text ≡ between_of (host_value host.now port)) }
 {
