@@ -89,7 +89,7 @@ fn read_any(alloc: Global, bytes: &[u8]) -> HeadRead
     ensures more { result ≡ More → IsUnfinished bytes.now }
     ensures bad { result ≡ Bad → IsNoHead bytes.now }
 {
-    let Ok(mut spans) = Vec::from_elem(alloc, EMPTY_HEADER_SPAN, bytes.len()) else {
+    let Ok(mut spans) = Vec::from_elem(alloc, EMPTY_HEADER_SPAN, bytes.len() / 3) else {
         return HeadRead::NoMemory;
     };
     match parse_response(bytes, spans.as_mut_slice()) {
