@@ -1,3 +1,4 @@
+mod EmptyLineLemmas
 mod FramingLemmas
 mod HeadLawLemmas
 mod HeadLemmas

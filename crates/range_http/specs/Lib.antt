@@ -1,3 +1,4 @@
+pub mod EmptyLine
 pub mod Fields
 pub mod Framing
 pub mod HeadLaws

@@ -2,6 +2,7 @@
 #![tactic(auto)]
 
 mod asked;
+mod empty_line;
 mod fields;
 mod framing;
 mod head;
@@ -9,6 +10,7 @@ mod range;
 mod verdict;
 
 pub use asked::{Asked, request};
+pub use empty_line::has_empty_line;
 pub use fields::location;
 pub use framing::Framing;
 pub use head::{Head, HeadRead, head_laws, read_head};
