@@ -1,4 +1,5 @@
 mod EmptyLineLemmas
+mod FieldLemmas
 mod FramingLemmas
 mod HeadLawLemmas
 mod HeadLemmas

@@ -8,7 +8,7 @@ use Rattle.httparse.specs.Ascii.{colon}
 use Rattle.httparse.specs.Grammar.{Field, IsField, LineEnd, lf, crlf, print_field, print_end, print_section, ResponseHead, print_response, print_blank, print_version, print_reason, ReadsResponse}
 use Rattle.httparse.specs.Spans.{ResponseExceeds}
 
-end_len : (e : LineEnd) → 1 ≤ length (print_end e)
+pub end_len : (e : LineEnd) → 1 ≤ length (print_end e)
 end_len crlf = omega arith
 end_len lf = omega arith
 

@@ -1,15 +1,20 @@
 // The head of a reply.
-ghost use Rattle.std.specs.Prelude.{◌≡◌, ◌≤◌, [], length, map, take, IfOk, All};
-ghost use Rattle.http_header.specs.HeaderMap.{append_all};
+ghost use Rattle.std.specs.Prelude.{◌≡◌, ◌<◌, ◌≤◌, [], length, map, take, IfOk, OnOk, All};
+ghost use Rattle.http_header.specs.FieldName.{IsFieldName};
+ghost use Rattle.http_header.specs.FieldValue.{IsFieldValue, plain_value};
+ghost use Rattle.http_header.specs.HeaderMap.{append, append_all, value_count};
+ghost use Rattle.http_header.specs.Token.{lowercase};
 ghost use Rattle.httparse.specs.Grammar.{HasNoResponse, MayBecomeResponse};
 ghost use Rattle.httparse.specs.Spans.{IsHeaderWithin, IsResponseWithin, IsResponseOf};
 ghost use Rattle.range_http.specs.declared.head.HeadRead.TheVariants.{More, Bad};
 ghost use Rattle.range_http.specs.Heads.{IfWhole, IsHead, IsUnfinished, IsNoHead};
 ghost use Rattle.range_http.specs.HeadLaws.{HasOneHead, HeadStays, NoHeadStays, HeadIsFinished, FrontIsUnfinished, HeadComesWhole};
-ghost use Rattle.range_http.specs.Spans.{entry_at};
+ghost use Rattle.range_http.specs.Spans.{entry_at, IsFieldAt};
 
 use dl_kinds::NoMemory;
-use http_header::{HeaderMap, HeaderName, HeaderValue};
+use http_header::{
+    HeaderMap, HeaderMapError, HeaderName, HeaderNameError, HeaderValue, HeaderValueError,
+};
 use httparse::spans::{EMPTY_HEADER_SPAN, HeaderSpan, ResponseSpans, parse_response};
 use httparse::{Error, Status};
 use std::alloc::Global;
@@ -41,19 +46,50 @@ pub enum HeadRead {
     NoMemory,
 }
 
+fn add_field(
+    alloc: Global,
+    fields: &mut HeaderMap<HeaderValue>,
+    name: &[u8],
+    value: &[u8],
+) -> Result<(), NoMemory>
+    requires name { IsFieldName name.now }
+    requires value { IsFieldValue value.now }
+    requires names_fit { length fields.old < MAX_FIELDS }
+    requires values_fit { value_count fields.old < MAX_FIELDS }
+    ensures { OnOk result (fields.new ≡ append fields.old (lowercase name.now) (plain_value value.now)) }
+{
+    let name = match HeaderName::from_bytes(alloc, name) {
+        Ok(name) => name,
+        Err(HeaderNameError::Invalid) => unreachable!(),
+        Err(HeaderNameError::OutOfMemory) => return Err(NoMemory),
+    };
+    let value = match HeaderValue::from_bytes(alloc, value) {
+        Ok(value) => value,
+        Err(HeaderValueError::Invalid) => unreachable!(),
+        Err(HeaderValueError::OutOfMemory) => return Err(NoMemory),
+    };
+    match fields.append(name, value) {
+        Ok(_) => Ok(()),
+        Err(HeaderMapError::MaxSizeReached) => unreachable!(),
+        Err(HeaderMapError::OutOfMemory) => Err(NoMemory),
+    }
+}
+
 fn fields_at(
     alloc: Global,
     bytes: &[u8],
     spans: &[HeaderSpan],
 ) -> Result<HeaderMap<HeaderValue>, NoMemory>
-    requires { All (IsHeaderWithin (length bytes.now)) spans.now }
+    requires within { All (IsHeaderWithin (length bytes.now)) spans.now }
+    requires fields { All (IsFieldAt bytes.now) spans.now }
+    requires few { length spans.now ≤ MAX_FIELDS }
     ensures { IfOk result (λ fields. fields ≡ append_all [] (map (entry_at bytes.now) spans.now)) }
 {
     let mut fields = HeaderMap::new(alloc);
     for span in spans {
-        let name = HeaderName::from_bytes(alloc, span.name.of(bytes)).map_err(|_| NoMemory)?;
-        let value = HeaderValue::from_bytes(alloc, span.value.of(bytes)).map_err(|_| NoMemory)?;
-        fields.append(name, value).map_err(|_| NoMemory)?;
+        let name = span.name.of(bytes);
+        let value = span.value.of(bytes);
+        add_field(alloc, &mut fields, name, value)?;
     }
     Ok(fields)
 }

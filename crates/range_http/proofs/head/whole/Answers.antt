@@ -1,4 +1,5 @@
 use Rattle.std.proofs.Common.{arith}
+use Rattle.range_http.proofs.FieldLemmas.{spans_cover}
 use Rattle.range_http.proofs.HeadLemmas.{head_found, head_too_large}
 use Rattle.range_http.proofs.head.whole.Goals as goal
 
@@ -11,3 +12,8 @@ pub returns-in-Ok-clause-whole : goal.returns-in-Ok-clause-whole
 returns-in-Ok-clause-whole c =
     let at = c.requires.found in
     rw c.in-Ok.ensures (head_found c.args.bytes.now c.args.spans.now c.args.parts.now at.0 c.requires.within at.1 (omega arith) (omega arith))
+
+pub fields_at-requires-clause-fields : goal.fields_at-requires-clause-fields
+fields_at-requires-clause-fields c =
+    let at = c.requires.found in
+    spans_cover c.args.bytes.now c.args.spans.now c.args.parts.now.headers at.0 at.1.reads.0.fields (omega (arith, at.1.len)) at.1.fields
