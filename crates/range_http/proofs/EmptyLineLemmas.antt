@@ -1,5 +1,5 @@
 -- A head ends in an empty line.
-use Rattle.std.proofs.Common.{◌≡◌, ℕ, ◌<◌, ◌≤◌, ◌⊎◌, List, [], ◌∷◌, ◌++◌, append_assoc, append-nil, length, take, drop, arith, ap, sym, ◌∙◌, refl, inl, inr, true}
+use Rattle.std.proofs.Common.{◌≡◌, ℕ, ◌≤◌, List, [], ◌∷◌, ◌++◌, append_assoc, append-nil, length, take, ap, sym, ◌∙◌, refl, inl, inr, true}
 use Rattle.std.proofs.lemmas.Bool.{or_left, or_right, cases_lt}
 use Rattle.std.proofs.lemmas.Bool.Decides.{Decides-eqb}
 use Rattle.std.proofs.lemmas.Slice.Eq.{ends_is}
@@ -7,7 +7,7 @@ use Rattle.std.proofs.Math.Seq.{take-append_seam}
 use Rattle.std.specs.List.{flat_map, ends_with}
 use Rattle.std.specs.Prelude.{codes, nat_eq}
 use Rattle.httparse.specs.Ascii.{colon}
-use Rattle.httparse.specs.Grammar.{Field, LineEnd, lf, crlf, print_field, print_end, print_section, ResponseHead, print_response, print_blank, print_version, print_reason}
+use Rattle.httparse.specs.Grammar.{Field, LineEnd, lf, crlf, print_field, print_end, ResponseHead, print_response, print_blank, print_version, print_reason}
 use Rattle.range_http.specs.declared.head.Head.{Head}
 use Rattle.range_http.specs.EmptyLine.{ends_in_empty_line, HasEmptyLine}
 use Rattle.range_http.specs.Heads.{IsHead}

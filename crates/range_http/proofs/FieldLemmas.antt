@@ -1,11 +1,10 @@
 -- The fields of a head of the grammar are fields that a map takes.
-use Rattle.std.proofs.Common.{◌≡◌, ℕ, suc, ◌+◌, ◌<◌, ◌≤◌, List, [], ◌∷◌, ◌++◌, length, map, take, arith, ap, sym, ◌∙◌, refl, Bool, true, false, cond, zero-add}
+use Rattle.std.proofs.Common.{◌≡◌, ℕ, ◌+◌, ◌<◌, ◌≤◌, List, [], ◌∷◌, ◌++◌, length, map, take, arith, ap, ◌∙◌, refl, true, false, cond}
 use Rattle.std.proofs.lemmas.List.{length-append, length-map, length-take-le}
 use Rattle.std.proofs.lemmas.List.Elements.{All-nil, All-cons, All-head, All-tail, All-same, All-map}
-use Rattle.std.proofs.lemmas.Bool.{cond_both}
 use Rattle.std.proofs.lemmas.List.Sums.{sum_by-cons}
 use Rattle.std.specs.List.{flat_map}
-use Rattle.std.specs.Prelude.{All, IsTrue, bytes_eq}
+use Rattle.std.specs.Prelude.{All, bytes_eq}
 use Rattle.http_header.specs.FieldName.{IsFieldName}
 use Rattle.http_header.specs.FieldValue.{FieldValue, IsFieldValue}
 use Rattle.http_header.specs.HeaderMap.{Entries, append, append_all, value_count}

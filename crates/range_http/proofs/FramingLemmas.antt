@@ -2,7 +2,7 @@
 use Rattle.std.proofs.Common.{◌≡◌, ℕ, List, ◌∷◌, Bool, map, cond, ap, sym, ◌∙◌}
 use Rattle.std.proofs.lemmas.List.Folds.{list_all-map}
 use Rattle.std.specs.List.{list_all}
-use Rattle.std.specs.Prelude.{Option, Some, None}
+use Rattle.std.specs.Prelude.{Some, None}
 use Rattle.http_header.specs.FieldValue.{FieldValue}
 use Rattle.range_http.specs.declared.framing.Framing.TheVariants.{Length}
 use Rattle.range_http.specs.Framing.{is_number_text, length_framing}

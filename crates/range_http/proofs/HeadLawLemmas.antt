@@ -1,12 +1,12 @@
 -- The laws of the head at the front of a stream.
-use Rattle.std.proofs.Common.{◌≡◌, ℕ, ◌<◌, ◌≤◌, ◌+◌, ◌-◌, List, [], ◌∷◌, ◌++◌, append-nil, append_assoc, length, take, drop, arith, ap, sym, ◌∙◌, refl, length-append, length-take-le, inl, inr}
+use Rattle.std.proofs.Common.{◌≡◌, ℕ, ◌<◌, ◌≤◌, List, [], ◌∷◌, ◌++◌, append-nil, append_assoc, length, take, drop, arith, ap, sym, ◌∙◌, refl, length-append, length-take-le, inl, inr}
 use Rattle.std.proofs.lemmas.Bool.{cases_lt}
 use Rattle.std.proofs.lemmas.List.{take-append-drop}
 use Rattle.httparse.proofs.GrammarLemmas.{response_unique, response_prefix_free, ReadsResponse-append}
-use Rattle.httparse.specs.Grammar.{ResponseHead, print_response, ReadsResponse, HasNoResponse, MayBecomeResponse}
+use Rattle.httparse.specs.Grammar.{ResponseHead, print_response, ReadsResponse, HasNoResponse}
 use Rattle.range_http.specs.declared.head.Head.{Head}
 use Rattle.range_http.specs.HeadLaws.{HasOneHead, HeadStays, NoHeadStays, HeadIsFinished, FrontIsUnfinished, HeadComesWhole}
-use Rattle.range_http.specs.Heads.{head_of, IsHead, IsUnfinished, IsNoHead}
+use Rattle.range_http.specs.Heads.{head_of, IsHead, IsUnfinished}
 
 pub one_head : HasOneHead
 one_head bytes head other used more a b =

@@ -1,15 +1,15 @@
 -- What the parser's answers say of the head at the front of the bytes.
-use Rattle.std.proofs.Common.{◌≡◌, ℕ, ◌<◌, ◌≤◌, ◌⊎◌, List, [], ◌∷◌, ◌++◌, append-nil, length, map, take, drop, arith, ap, sym, ◌∙◌, refl, inl, inr, length-append}
+use Rattle.std.proofs.Common.{◌≡◌, ℕ, ◌<◌, ◌≤◌, ◌⊎◌, List, [], ◌∷◌, append-nil, length, map, take, drop, arith, ap, sym, ◌∙◌, refl}
 use Rattle.std.proofs.lemmas.List.{length-map, length-take-le}
 use Rattle.httparse.proofs.GrammarLemmas.{response_unique}
-use Rattle.httparse.specs.Grammar.{Field, ResponseHead, print_response, ReadsResponse, HasNoResponse, NeverHasResponse, MayBecomeResponse}
+use Rattle.httparse.specs.Grammar.{Field, ResponseHead, print_response, HasNoResponse, NeverHasResponse}
 use Rattle.httparse.specs.Spans.{header_bytes, name_and_value, AreFieldsAt, IsResponseAt, IsResponseWithin}
 use Rattle.httparse.specs.declared.spans.HeaderSpan.{HeaderSpan}
 use Rattle.httparse.specs.declared.spans.ResponseSpans.{ResponseSpans}
 use Rattle.http_header.specs.FieldValue.{FieldValue, plain_value}
 use Rattle.http_header.specs.HeaderMap.{append_all}
 use Rattle.http_header.specs.Token.{lowercase}
-use Rattle.range_http.specs.Heads.{entry_of, head_of, IsHead, IsUnfinished, IsNoHead}
+use Rattle.range_http.specs.Heads.{entry_of, IsHead, IsNoHead}
 use Rattle.range_http.specs.Spans.{entry_at}
 
 -- two maps, one after the other

@@ -1,11 +1,11 @@
 -- A head has a field for every three bytes at most.
-use Rattle.std.proofs.Common.{◌≡◌, ℕ, suc, ◌≤◌, ◌<◌, ◌+◌, ◌*◌, ◌/◌, List, [], ◌∷◌, ◌++◌, length, arith, ap}
+use Rattle.std.proofs.Common.{◌≡◌, ℕ, suc, ◌≤◌, ◌+◌, ◌*◌, ◌/◌, List, [], ◌∷◌, ◌++◌, length, arith, ap}
 use Rattle.std.specs.List.{flat_map}
 use Rattle.std.specs.Prelude.{All}
 use Rattle.std.proofs.lemmas.List.{length-append}
 use Rattle.std.proofs.lemmas.List.Elements.{All-head, All-tail}
 use Rattle.httparse.specs.Ascii.{colon}
-use Rattle.httparse.specs.Grammar.{Field, IsField, LineEnd, lf, crlf, print_field, print_end, print_section, ResponseHead, print_response, print_blank, print_version, print_reason, ReadsResponse}
+use Rattle.httparse.specs.Grammar.{Field, IsField, LineEnd, lf, crlf, print_field, print_end, print_section, ResponseHead, print_response, print_blank, print_version, print_reason}
 use Rattle.httparse.specs.Spans.{ResponseExceeds}
 
 pub end_len : (e : LineEnd) → 1 ≤ length (print_end e)

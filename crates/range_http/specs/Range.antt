@@ -1,5 +1,5 @@
 -- The field Content-Range (RFC 9110 section 14.4).
-use Rattle.std.specs.Prelude.{ℕ, ◌+◌, ◌^◌, Bool, true, false, ◌&&◌, not, List, length, take, drop, codes, bytes_eq, nat_lt, nat_le, if◌then◌else◌, ◌==◌, position, Option, Some, None, option_map}
+use Rattle.std.specs.Prelude.{ℕ, ◌+◌, ◌^◌, Bool, true, false, ◌&&◌, List, length, take, drop, codes, bytes_eq, nat_lt, nat_le, if◌then◌else◌, ◌==◌, position, Option, Some, None, option_map}
 use Rattle.std.specs.Str.{all_ascii_digits}
 use Rattle.std.specs.Str.Parse.{digits_value}
 use Rattle.range_http.specs.declared.range.ContentRange.{ContentRange}

@@ -1,5 +1,5 @@
 -- What the head of a reply means for what was asked (RFC 9110 sections 14 and 15).
-use Rattle.std.specs.Prelude.{ℕ, ◌+◌, ◌-◌, Bool, true, false, ◌&&◌, ◌||◌, not, List, [], ◌∷◌, if◌then◌else◌, ◌==◌, nat_le, codes, Option, Some, None, is_none, is_some}
+use Rattle.std.specs.Prelude.{ℕ, ◌+◌, ◌-◌, Bool, true, false, ◌&&◌, ◌||◌, not, [], ◌∷◌, if◌then◌else◌, ◌==◌, nat_le, codes, Option, Some, None, is_none, is_some}
 use Rattle.std.specs.List.{list_all, list_any}
 use Rattle.range_http.specs.declared.asked.Asked.{Asked}
 use Rattle.range_http.specs.declared.framing.Framing.{Framing}
@@ -12,9 +12,16 @@ use Rattle.range_http.specs.Fields.{values_of, sole}
 use Rattle.range_http.specs.Framing.{is_word, framing_of}
 use Rattle.range_http.specs.Range.{range_of, ◌>>=◌}
 
--- refused, with an exit status of the program
-abbrev pub refused : ℕ → Verdict
-refused code = Refused (record { 0 = code })
+-- refused, with the exit status that the aria2 manual has for it: a reply that is bad or wasn't expected, one to who
+-- isn't allowed, and one of an overloaded server
+abbrev pub unexpected : Verdict
+unexpected = Refused (record { 0 = 22 })
+
+abbrev pub unauthorized : Verdict
+unauthorized = Refused (record { 0 = 24 })
+
+abbrev pub overloaded : Verdict
+overloaded = Refused (record { 0 = 29 })
 
 -- 301, 302, 303, 307 or 308, with one Location
 abbrev pub is_moved : Head → Bool
@@ -61,19 +68,19 @@ is_asked_part asked framing part =
 
 -- the verdict, where the length of the whole resource is known or told, and not another one is told than is known
 abbrev pub sized : Option ℕ → Option ℕ → Verdict → Verdict
-sized None None verdict = refused 22
+sized None None verdict = unexpected
 sized None (Some told) verdict = verdict
 sized (Some known) None verdict = verdict
 sized (Some known) (Some told) verdict = if told == known then verdict else WrongLength told
 
 -- 206 Partial Content, by what Content-Range tells
 abbrev pub part_verdict : Asked → Framing → Option (ℕ × ℕ) → Option ℕ → Verdict
-part_verdict asked framing None total = refused 22
+part_verdict asked framing None total = unexpected
 part_verdict asked framing (Some part) total =
-    if is_asked_part asked framing part then sized asked.total total (Part part.1 total framing) else refused 22
+    if is_asked_part asked framing part then sized asked.total total (Part part.1 total framing) else unexpected
 
 abbrev pub ranged_verdict : Asked → Framing → Option ContentRange → Verdict
-ranged_verdict asked framing None = refused 22
+ranged_verdict asked framing None = unexpected
 ranged_verdict asked framing (Some range) = part_verdict asked framing range.span range.total
 
 -- 200 OK, by what Content-Length tells
@@ -81,19 +88,22 @@ abbrev pub whole_verdict : Asked → Framing → Verdict
 whole_verdict asked framing = sized asked.total (told_length framing) (Whole (told_length framing) framing)
 
 -- 200 or 206, by the framing; none is bad
-abbrev pub content_verdict : Head → Asked → Option Framing → Verdict
-content_verdict head asked None = refused 22
-content_verdict head asked (Some framing) =
+abbrev pub framed_verdict : Head → Asked → Option Framing → Verdict
+framed_verdict head asked None = unexpected
+framed_verdict head asked (Some framing) =
     if head.status == 206 then ranged_verdict asked framing (told_range head) else whole_verdict asked framing
+
+-- 200 or 206
+abbrev pub content_verdict : Head → Asked → Verdict
+content_verdict head asked = if is_encoded head then unexpected else framed_verdict head asked (framing_of head)
 
 -- the first line that fits
 abbrev pub verdict_of : Head → Asked → Verdict
 verdict_of head asked =
     if head.status == 404 then NotFound else (
-    if head.status == 401 then refused 24 else (
-    if head.status == 503 then refused 29 else (
+    if head.status == 401 then unauthorized else (
+    if head.status == 503 then overloaded else (
     if is_moved head then Moved else (
     if is_empty head asked then Empty else (
-    if not (head.status == 200 || head.status == 206) then refused 22 else (
-    if is_encoded head then refused 22 else
-    content_verdict head asked (framing_of head)))))))
+    if head.status == 200 || head.status == 206 then content_verdict head asked else
+    unexpected)))))

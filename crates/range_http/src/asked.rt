@@ -22,7 +22,8 @@ pub fn request(alloc: Global, target: &str, host: &str, asked: &Asked) -> Result
     let first = asked.first;
     let last = asked.last;
     let text = format!(in alloc;
-        "GET {target} HTTP/1.1\r\nHost: {host}\r\nUser-Agent: aria_cli\r\nAccept: */*\r\nAccept-Encoding: identity\r\nRange: bytes={first}-{last}\r\n\r\n"
+        "GET {target} HTTP/1.1\r\nHost: {host}\r\nUser-Agent: aria_cli\r\nAccept: */*\r\n\
+         Accept-Encoding: identity\r\nRange: bytes={first}-{last}\r\n\r\n"
     )?;
     Ok(text.into_bytes())
 }

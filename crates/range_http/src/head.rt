@@ -26,7 +26,7 @@ const MAX_BYTES: usize = 65_536;
 const MAX_FIELDS: usize = 64;
 
 /// The head of a reply: its status, and its fields, whose names are in lower case.
-#[derive(Drop)]
+#[derive(Debug, Drop)]
 pub struct Head {
     pub status: u16,
     /// The minor version: 1 for HTTP/1.1, and 0 for HTTP/1.0.
@@ -35,7 +35,7 @@ pub struct Head {
 }
 
 /// What bytes begin with.
-#[derive(Drop)]
+#[derive(Debug, Drop)]
 pub enum HeadRead {
     /// A head, and how many bytes it takes.
     Whole { head: Head, used: u32 },
@@ -151,7 +151,8 @@ fn unfinished(bytes: &[u8]) -> HeadRead
     }
 }
 
-/// Reads the head of a reply at the front of the bytes.
+/// Reads the head of a reply at the front of the bytes. Lines end in CR LF or in LF alone, and empty lines before the
+/// head are passed over.
 pub fn read_head(alloc: Global, bytes: &[u8]) -> HeadRead
     ensures whole { IfWhole result (IsHead bytes.now) }
     ensures within { IfWhole result (λ _ used. used ≤ length bytes.now) }

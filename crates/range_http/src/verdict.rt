@@ -1,7 +1,6 @@
 // What the head of a reply means.
-ghost use Rattle.std.specs.Prelude.{◌≡◌, ◌+◌, ◌-◌, if◌then◌else◌};
-ghost use Rattle.range_http.specs.Framing.{framing_of};
-ghost use Rattle.range_http.specs.Verdict.{refused, told_range, is_empty_range, is_empty, is_encoded, told_length, is_told, sized, ranged_verdict, whole_verdict, content_verdict, verdict_of};
+ghost use Rattle.std.specs.Prelude.{◌≡◌, ◌+◌, ◌-◌};
+ghost use Rattle.range_http.specs.Verdict.{told_range, is_empty_range, is_empty, is_encoded, told_length, is_told, sized, ranged_verdict, whole_verdict, content_verdict, verdict_of};
 
 use crate::fields::sole_value;
 use crate::framing::{all_words, framing_of};
@@ -38,11 +37,14 @@ pub enum Verdict {
     },
 }
 
-fn refused(code: u8) -> Verdict
-    ensures { result ≡ refused code }
-{
-    Verdict::Refused { code: Code(code) }
-}
+/// A reply that is bad or wasn't expected.
+const UNEXPECTED: Verdict = Verdict::Refused { code: Code(22) };
+
+/// Who asks isn't allowed.
+const UNAUTHORIZED: Verdict = Verdict::Refused { code: Code(24) };
+
+/// The server is overloaded.
+const OVERLOADED: Verdict = Verdict::Refused { code: Code(29) };
 
 fn told_range(head: &Head) -> Option<ContentRange>
     ensures { result ≡ told_range head.now }
@@ -91,7 +93,7 @@ fn sized(known: Option<u64>, told: Option<u64>, verdict: Verdict) -> Verdict
     ensures { result ≡ sized known told verdict }
 {
     match (known, told) {
-        (None, None) => refused(22),
+        (None, None) => UNEXPECTED,
         (Some(known), Some(told)) if told != known => Verdict::WrongLength { told },
         _ => verdict,
     }
@@ -107,7 +109,7 @@ fn ranged_verdict(asked: &Asked, framing: Framing, range: Option<ContentRange>) 
         },
     ) = range
     else {
-        return refused(22);
+        return UNEXPECTED;
     };
     if first == asked.first && last <= asked.last && is_told(told_length(framing), first, last) {
         let part = Verdict::Part {
@@ -117,7 +119,7 @@ fn ranged_verdict(asked: &Asked, framing: Framing, range: Option<ContentRange>) 
         };
         sized(asked.total, total, part)
     } else {
-        refused(22)
+        UNEXPECTED
     }
 }
 
@@ -129,13 +131,13 @@ fn whole_verdict(asked: &Asked, framing: Framing) -> Verdict
 }
 
 fn content_verdict(head: &Head, asked: &Asked) -> Verdict
-    ensures { result ≡ (if is_encoded head.now then refused 22 else content_verdict head.now asked.now (framing_of head.now)) }
+    ensures { result ≡ content_verdict head.now asked.now }
 {
     if is_encoded(head) {
-        return refused(22);
+        return UNEXPECTED;
     }
     let Some(framing) = framing_of(head) else {
-        return refused(22);
+        return UNEXPECTED;
     };
     if head.status == 206 {
         ranged_verdict(asked, framing, told_range(head))
@@ -150,11 +152,11 @@ pub fn classify(head: &Head, asked: &Asked) -> Verdict
 {
     match head.status {
         404 => Verdict::NotFound,
-        401 => refused(24),
-        503 => refused(29),
+        401 => UNAUTHORIZED,
+        503 => OVERLOADED,
         301 | 302 | 303 | 307 | 308 if sole_value(head, "location").is_some() => Verdict::Moved,
         416 if asked.total.is_none() && is_empty_range(told_range(head)) => Verdict::Empty,
         200 | 206 => content_verdict(head, asked),
-        _ => refused(22),
+        _ => UNEXPECTED,
     }
 }

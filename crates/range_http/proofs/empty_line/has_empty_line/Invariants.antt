@@ -1,4 +1,4 @@
-use Rattle.std.proofs.Common.{◌≡◌, ◌<◌, ◌≤◌, ℕ, take}
+use Rattle.std.proofs.Common.{◌<◌, ◌≤◌, ℕ, take}
 use Rattle.std.specs.Prelude.{IsTrue}
 use Rattle.range_http.specs.EmptyLine.{ends_in_empty_line}
 use Rattle.range_http.proofs.empty_line.has_empty_line.Given as goal
