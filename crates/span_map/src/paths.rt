@@ -1,0 +1,142 @@
+// Which paths files may have, and which files may stand beside each other.
+ghost use Rattle.std.specs.Prelude.{◌≡◌, ◌↔◌, ◌≤◌, ◌<◌, ◌+◌, ◌^◌, ◌≢◌, ℕ, List, IsTrue, IsSomeAnd, IfOk, OnOk, IfErr, MatchOption, MatchBool, All, AllPairs, map, length, take, slice_get};
+ghost use Rattle.std.specs.List.{AllAdjacentBelow};
+ghost use Rattle.span_map.specs.Paths.{IsValidPart, IsPath, Begins, Clash};
+ghost use Rattle.span_map.specs.Keys.{key_of, SomeNext};
+ghost use Rattle.span_map.specs.Layout.{HavePaths, IsRefused, AreApart};
+
+use crate::{FileLen, LayoutErr};
+use dl_kinds::Texts;
+use std::alloc::{AllocError, Global};
+
+/// Whether these bytes may be the name of a folder or a file in a path: UTF-8, 1 to 255 bytes, not `.` or `..`, and
+/// without `/` and NUL.
+pub fn is_valid_part(bytes: &[u8]) -> bool
+    ensures { IsTrue result ↔ IsValidPart bytes.now }
+{
+    std::str::from_utf8(bytes).is_ok()
+        && !bytes.is_empty()
+        && bytes.len() <= 255
+        && bytes != b".".as_slice()
+        && bytes != b"..".as_slice()
+        && !bytes.contains(&b'/')
+        && !bytes.contains(&0)
+}
+
+fn part(path: &Texts, place: usize) -> &[u8]
+    requires { place < length path.now }
+    ensures { slice_get path.now place ≡ Some result.now }
+{
+    path.get(place).unwrap().bytes()
+}
+
+fn is_path(path: &Texts) -> bool
+    ensures { IsTrue result ↔ IsPath path.now }
+{
+    if path.is_empty() || path.len() > 64 {
+        return false;
+    }
+    for place in 0..path.len() {
+        if !is_valid_part(part(path, place)) {
+            return false;
+        }
+    }
+    true
+}
+
+fn key(alloc: Global, path: &Texts) -> Result<Vec<u8>, AllocError>
+    ensures { IfOk result (λ key. key.items ≡ key_of path.now) }
+{
+    let mut key = Vec::new(alloc);
+    for place in 0..path.len() {
+        key.extend_from_slice(part(path, place))?;
+        key.push(0)?;
+    }
+    Ok(key)
+}
+
+fn keys(alloc: Global, files: &[FileLen]) -> Result<Vec<Vec<u8>>, AllocError>
+    ensures { IfOk result (λ keys. map (λ key. key.items) keys.items ≡ map (λ file. key_of file.path) files.now) }
+{
+    let mut keys = Vec::with_capacity(alloc, files.len())?;
+    for file in files {
+        keys.push(key(alloc, &file.path)?)?;
+    }
+    Ok(keys)
+}
+
+// Whether a key begins the one that follows it.
+fn some_begins_next(keys: &[Vec<u8>]) -> bool
+    ensures { MatchBool result
+        (SomeNext (λ a b. Begins a.items b.items) keys.now)
+        (AllAdjacentBelow (λ a b. Begins a.items b.items → ⊥) keys.now (length keys.now)) }
+{
+    for place in 1..keys.len() {
+        if keys[place].starts_with(&keys[place - 1]) {
+            return true;
+        }
+    }
+    false
+}
+
+// In sorted keys whatever begins a later key begins the next one too, so neighbours tell.
+fn are_apart(alloc: Global, files: &[FileLen]) -> Result<bool, AllocError>
+    requires { All (λ file. IsPath file.path) files.now }
+    ensures { IfOk result (λ apart. IsTrue apart ↔ AreApart files.now) }
+{
+    let mut keys = keys(alloc, files)?;
+    keys.sort_unstable();
+    Ok(!some_begins_next(&keys))
+}
+
+// The first file whose path clashes with an earlier one.
+fn first_clash(alloc: Global, files: &[FileLen]) -> Result<Option<usize>, AllocError>
+    requires { All (λ file. IsPath file.path) files.now }
+    ensures { IfOk result (λ found. MatchOption found (AreApart files.now) (λ i.
+        (i < length files.now) × AreApart (take i files.now) × (AreApart (take (i + 1) files.now) → ⊥))) }
+{
+    if are_apart(alloc, files)? {
+        return Ok(None);
+    }
+    let mut apart = 0;
+    let mut clashing = files.len();
+    while apart + 1 < clashing {
+        let middle = apart + (clashing - apart) / 2;
+        if are_apart(alloc, &files[..middle])? {
+            apart = middle;
+        } else {
+            clashing = middle;
+        }
+    }
+    Ok(Some(apart))
+}
+
+// How many files at the front have valid paths.
+fn valid_len(files: &[FileLen]) -> usize
+    ensures within { result ≤ length files.now }
+    ensures valid { All (λ file. IsPath file.path) (take result files.now) }
+    ensures stops { result < length files.now → IsSomeAnd (slice_get files.now result) (λ file. ¬ IsPath file.path) }
+{
+    for (count, file) in files.iter().enumerate() {
+        if !is_path(&file.path) {
+            return count;
+        }
+    }
+    files.len()
+}
+
+/// Whether files may stand beside each other with these paths.
+pub(crate) fn check_paths(alloc: Global, files: &[FileLen]) -> Result<(), LayoutErr>
+    requires { length files.now < 2 ^ 32 }
+    ensures ok { OnOk result (HavePaths files.now) }
+    ensures refused { IfErr result (λ fault. fault ≢ LayoutErr.NoMemory → IsRefused files.now fault) }
+{
+    let valid = valid_len(files);
+    if let Some(place) = first_clash(alloc, &files[..valid])? {
+        return Err(LayoutErr::Repeated(place as u32));
+    }
+    if valid < files.len() {
+        return Err(LayoutErr::BadPath(valid as u32));
+    }
+    Ok(())
+}
