@@ -18,20 +18,22 @@ pub record HavePaths (files : List FileLen) : Type 0 where
   pub valid : All (λ file. IsPath file.path) files
   pub apart : AreApart files
 
+-- the files are a layout
 pub record IsLayout (files : List FileLen) : Type 0 where
   pub some : files ≢ []
   pub paths : HavePaths files
   pub bounded : total_of files ≤ 4398046511104
 
--- what is wrong with these files: none, the first path that is bad or clashes with an earlier one, or the length
+-- Why files are no layout, the first that fits of: there is none; a file, the first, whose path is bad or clashes with
+-- an earlier one; they are too long together.
 abbrev pub IsRefused : List FileLen → LayoutErr → Type 0
 IsRefused files Empty = files ≡ []
 IsRefused files (BadPath i) =
     HavePaths (take i files) × IsSomeAnd (slice_get files i) (λ file. ¬ IsPath file.path)
 IsRefused files (Repeated i) =
     HavePaths (take i files)
-    × IsSomeAnd (slice_get files i) (λ file.
-    IsPath file.path × Any (λ earlier. Clash earlier.path file.path) (take i files))
+    × IsSomeAnd (slice_get files i)
+    (λ file. IsPath file.path × Any (λ earlier. Clash earlier.path file.path) (take i files))
 IsRefused files TooLong = (files ≢ []) × HavePaths files × (4398046511104 < total_of files)
 IsRefused files NoMemory = ⊥
 

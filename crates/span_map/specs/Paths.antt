@@ -11,6 +11,7 @@ pub record IsValidPart (part : List ℕ) : Type 0 where
   pub no_slash : ¬ Contains part 47
   pub no_nul : ¬ Contains part 0
 
+-- a path of a file
 pub record IsPath (path : List (List ℕ)) : Type 0 where
   pub some : 1 ≤ length path
   pub short : length path ≤ 64

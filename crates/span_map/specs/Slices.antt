@@ -5,14 +5,15 @@ use Rattle.dl_words.specs.Lists.{part_at}
 use Rattle.span_map.specs.declared.files.FileLen.{FileLen}
 use Rattle.span_map.specs.declared.files.Part.{Part}
 
--- what a file holds of the bytes from `low` to before `high` of the payload, where its own begin at `start`
+-- what a file holds of the bytes of the payload from `low` to before `high`, where its own begin at `start`: one part,
+-- or none
 abbrev pub part_of : ℕ → ℕ → ℕ → ℕ → ℕ → List Part
 part_of file start len low high =
     let first = max start low in
     let end = min (start + len) high in
     if nat_lt first end then (record { file = file; at = first - start; len = end - first }) ∷ [] else []
 
--- The same of the files from a number on, of which the first begins at `start`.
+-- what each of these files holds of them, where the first has this number and begins at `start`
 abbrev pub parts_from : ℕ → ℕ → List FileLen → ℕ → ℕ → List Part
 parts_from file start [] low high = []
 parts_from file start (f ∷ fs) low high =

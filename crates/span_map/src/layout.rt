@@ -102,7 +102,8 @@ impl Layout {
         ensures layout { IfOk result (λ layout. layout ≡ files.items) }
         ensures ok { OnOk result (IsLayout files.items) }
         ensures refused { IfErr result (λ fault. fault ≢ NoMemory → IsRefused files.items fault) }
-        ensures exactly { (fault : LayoutErr) → IsRefused files.items fault → (result ≡ Err fault) ⊎ (result ≡ Err NoMemory) }
+        ensures exactly { (fault : LayoutErr) → IsRefused files.items fault
+            → (result ≡ Err fault) ⊎ (result ≡ Err NoMemory) }
     {
         if files.is_empty() {
             return Err(LayoutErr::Empty);
@@ -163,6 +164,7 @@ impl Layout {
         Ok(parts)
     }
 
+    /// The same layout again.
     pub fn copy(&self, alloc: Global) -> Result<Self, AllocError>
         ensures { IfOk result (λ copy. copy ≡ self.now) }
     {
