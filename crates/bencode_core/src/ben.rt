@@ -18,9 +18,9 @@ pub enum BenKind {
 #[cycle(ben)]
 #[derive(Debug, Drop)]
 pub struct Ben {
-    start: u32,
-    end: u32,
-    node: Node,
+    pub(crate) start: u32,
+    pub(crate) end: u32,
+    pub(crate) node: Node,
 }
 
 /// A key of a dictionary with its value.
@@ -33,7 +33,7 @@ pub struct Member {
 
 #[cycle(ben)]
 #[derive(Debug, Drop)]
-enum Node {
+pub(crate) enum Node {
     Integer(i64),
     String(Vec<u8>),
     List(Vec<Ben>),

@@ -3,7 +3,9 @@
 
 mod ben;
 mod fault;
+mod scalars;
 mod search;
+mod writing;
 
 pub use ben::{Ben, BenKind, Member};
 pub use fault::BenErr;
