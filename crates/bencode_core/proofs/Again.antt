@@ -9,7 +9,7 @@ use Rattle.std.proofs.lemmas.Bool.{cases_Bool, ne_eqb, lt-ltb, cond-true, cond-f
 use Rattle.std.proofs.lemmas.List.{drop_at, length-append}
 use Rattle.std.proofs.lemmas.Fmt.{decimal_is_IsNumeral}
 use Rattle.bencode_core.specs.Value.{Value, Values, Members, integer, string, list, dict, no_values, value, no_members, member, spelling, spellings, member_spellings, string_spelling, depth, depths, member_depths, IsSound, AreSound, AreMembers, is_behind}
-use Rattle.bencode_core.specs.Reading.{◌>>=◌, or_fault, begins, kind_at, integer_at, narrowed, string_at, values_by, key_at, member_by, member_spelling, members_by, value_by, value_at}
+use Rattle.bencode_core.specs.Reading.{◌>>=◌, or_fault, begins, kind_at, integer_at, narrowed, string_at, values_by, key_at, member_by, member_spelling, members_by, integer_value, string_value, list_value, dict_value, value_by, value_at}
 use Rattle.bencode_core.specs.declared.ben.BenKind.{BenKind}
 use Rattle.bencode_core.specs.declared.ben.BenKind.TheVariants as kinds
 use Rattle.bencode_core.specs.declared.fault.BenErr.{BenErr}
@@ -53,23 +53,23 @@ spelling_some (dict ms) = omega arith
 -- ---- one level, whose parts are read by one
 
 integer_again_at : (one : ℕ → List ℕ → Result Value BenErr) (place : ℕ) (z : ℤ) (rest : List ℕ) → mag z < 2 ^ 63 → value_by one place (spelling (integer z) ++ rest) (Some kinds.Integer) ≡ Ok (integer z)
-unfolding value_by
+unfolding integer_value
 integer_again_at one place z rest fits =
     let grouped : (signed_decimal z ++ 101 ∷ []) ++ rest ≡ signed_decimal z ++ 101 ∷ rest = append_assoc (signed_decimal z) (101 ∷ []) rest in
     rw (grouped, integer_again 105 z rest fits, lt-ltb (mag z) (2 ^ 63) fits) refl
 
 string_again_at : (one : ℕ → List ℕ → Result Value BenErr) (place : ℕ) (s rest : List ℕ) → length s < 2 ^ 64 → value_by one place (string_spelling s ++ rest) (Some kinds.String) ≡ Ok (string s)
-unfolding value_by
+unfolding string_value
 string_again_at one place s rest fits = rw (string_again s rest fits) refl
 
 list_again_at : (one : ℕ → List ℕ → Result Value BenErr) (place : ℕ) (vs : Values) (rest : List ℕ) → values_by one (suc (length (spellings vs ++ 101 ∷ rest))) (place + 1) (spellings vs ++ 101 ∷ rest) ≡ Ok vs → value_by one place (spelling (list vs) ++ rest) (Some kinds.List) ≡ Ok (list vs)
-unfolding value_by
+unfolding list_value
 list_again_at one place vs rest is =
     let grouped : (spellings vs ++ 101 ∷ []) ++ rest ≡ spellings vs ++ 101 ∷ rest = append_assoc (spellings vs) (101 ∷ []) rest in
     rw (grouped, is) refl
 
 dict_again_at : (one : ℕ → List ℕ → Result Value BenErr) (place : ℕ) (ms : Members) (rest : List ℕ) → members_by one (suc (length (member_spellings ms ++ 101 ∷ rest))) None (place + 1) (member_spellings ms ++ 101 ∷ rest) ≡ Ok ms → value_by one place (spelling (dict ms) ++ rest) (Some kinds.Dict) ≡ Ok (dict ms)
-unfolding value_by
+unfolding dict_value
 dict_again_at one place ms rest is =
     let grouped : (member_spellings ms ++ 101 ∷ []) ++ rest ≡ member_spellings ms ++ 101 ∷ rest = append_assoc (member_spellings ms) (101 ∷ []) rest in
     rw (grouped, is) refl

@@ -4,3 +4,8 @@ pub mod Fronts
 pub mod Takes
 pub mod Again
 pub mod Pushed
+pub mod Made
+pub mod Items
+pub mod Pairs
+pub mod Levels
+pub mod Whole

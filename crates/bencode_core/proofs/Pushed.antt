@@ -23,11 +23,11 @@ item_depth items i p within is = rw is (depth_at items i p within)
 pub member_depth : (ms : List Member) (i : ℕ) (m : Member) → i < length ms → m ≡ get_or ms i m → depth m.value.value ≤ member_depths (members_in ms)
 member_depth ms i m within is = rw is (member_depth_at ms i m within)
 
-spellings-push : (items : List Placed) (p : Placed) → spellings (values_in (items ++ p ∷ [])) ≡ spellings (values_in items) ++ spelling p.value
+pub spellings-push : (items : List Placed) (p : Placed) → spellings (values_in (items ++ p ∷ [])) ≡ spellings (values_in items) ++ spelling p.value
 spellings-push [] p = append-nil (spelling p.value)
 spellings-push (q ∷ items) p = ap (λ (xs : List ℕ). spelling q.value ++ xs) (spellings-push items p) ∙ sym (append_assoc (spelling q.value) (spellings (values_in items)) (spelling p.value))
 
-member_spellings-push : (ms : List Member) (m : Member) → member_spellings (members_in (ms ++ m ∷ [])) ≡ member_spellings (members_in ms) ++ (string_spelling m.key.items ++ spelling m.value.value)
+pub member_spellings-push : (ms : List Member) (m : Member) → member_spellings (members_in (ms ++ m ∷ [])) ≡ member_spellings (members_in ms) ++ (string_spelling m.key.items ++ spelling m.value.value)
 member_spellings-push [] m = append-nil (string_spelling m.key.items ++ spelling m.value.value)
 member_spellings-push (n ∷ ms) m = ap (λ (xs : List ℕ). (string_spelling n.key.items ++ spelling n.value.value) ++ xs) (member_spellings-push ms m) ∙ sym (append_assoc (string_spelling n.key.items ++ spelling n.value.value) (member_spellings (members_in ms)) (string_spelling m.key.items ++ spelling m.value.value))
 

@@ -8,7 +8,7 @@ use lib.Signed.{mag}
 use Rattle.std.proofs.lemmas.Bool.{cases_Bool, eqb-true, ltb-true, cond-true, cond-false}
 use Rattle.std.proofs.lemmas.List.{take-append-drop, drop_at, length-append, length-drop}
 use Rattle.bencode_core.specs.Value.{Value, Values, Members, integer, string, list, dict, no_values, value, no_members, member, spelling, spellings, member_spellings, string_spelling, depth, depths, member_depths, IsSound, AreSound, AreMembers, is_behind}
-use Rattle.bencode_core.specs.Reading.{◌>>=◌, or_fault, begins, kind_at, integer_at, narrowed, string_at, values_by, key_at, member_by, member_spelling, members_by, value_by, is_spelled, value_at}
+use Rattle.bencode_core.specs.Reading.{◌>>=◌, or_fault, begins, kind_at, integer_at, narrowed, string_at, values_by, key_at, member_by, member_spelling, members_by, integer_value, string_value, list_value, dict_value, value_by, value_at}
 use Rattle.bencode_core.specs.declared.ben.BenKind.{BenKind}
 use Rattle.bencode_core.specs.declared.ben.BenKind.TheVariants as kinds
 use Rattle.bencode_core.specs.declared.fault.BenErr.{BenErr}
@@ -102,11 +102,10 @@ module _ (levels : ℕ) (one : ℕ → List ℕ → Result Value BenErr) (reads 
   pub key_takes : (before : Option (List ℕ)) (place : ℕ) (bytes key : List ℕ) → length bytes < 2 ^ 64 → key_at before place bytes ≡ Ok key → (rest : List ℕ) × (bytes ≡ string_spelling key ++ rest) × IsTrue (is_behind before key)
   unfolding key_at
   key_takes before place bytes key fits is =
-      let a = bind_ok (or_fault (Wrong place) (string_at bytes)) (λ s. cond (is_behind before s) (Ok s) (Err (Wrong place))) key is in
-      let t = test_ok (is_behind before a.0) (Wrong place) a.0 key a.2 in
-      let found : string_at bytes ≡ Some key = option_ok (Wrong place) (string_at bytes) a.0 a.1 ∙ ap Some t.1 in
-      let s = string_takes bytes key found fits in
-      (s.0, s.1, ap (is_behind before) (sym t.1) ∙ t.0)
+      let a = bind_ok (or_fault (Wrong place) (string_at bytes)) (λ s. cond (is_behind before s.0) (Ok s.0) (Err (Wrong place))) key is in
+      let t = test_ok (is_behind before a.0.0) (Wrong place) a.0.0 key a.2 in
+      let found : string_at bytes ≡ Some (key, a.0.1) = option_ok (Wrong place) (string_at bytes) a.0 a.1 ∙ ap (λ (k : List ℕ). Some (k, a.0.1)) t.1 in
+      (a.0.1, string_takes bytes key a.0.1 found fits, ap (is_behind before) (sym t.1) ∙ t.0)
 
   pub member_takes : (before : Option (List ℕ)) (place : ℕ) (bytes : List ℕ) (m : List ℕ × Value) → length bytes < 2 ^ 64 → member_by one before place bytes ≡ Ok m → TakesMember levels before m bytes
   unfolding member_by
@@ -185,55 +184,54 @@ module _ (levels : ℕ) (one : ℕ → List ℕ → Result Value BenErr) (reads 
     deep = omega (arith, all.deep);
   }
 
-  integer_value : (place i : ℕ) (bytes : List ℕ) (v : Value) → i ≡ 105 → value_by one place (i ∷ bytes) (Some kinds.Integer) ≡ Ok v → Takes (suc levels) v (i ∷ bytes)
-  unfolding value_by
-  integer_value place i bytes v first is =
-      let a = bind_ok (or_fault (Wrong place) (integer_at (i ∷ bytes))) (λ z. or_fault (TooWide place) (narrowed z) >>= λ n. Ok (integer n)) v is in
-      let b = bind_ok (or_fault (TooWide place) (narrowed a.0)) (λ n. Ok (integer n)) v a.2 in
-      let g = guarded (ltb (mag a.0) (2 ^ 63)) (Some a.0) b.0 (option_ok (TooWide place) (narrowed a.0) b.0 b.1) in
-      let small : mag a.0 < 2 ^ 63 = ltb-true (mag a.0) (2 ^ 63) g.0 in
-      let t = integer_takes i bytes a.0 (option_ok (Wrong place) (integer_at (i ∷ bytes)) a.0 a.1) small in
-      let v_is : integer a.0 ≡ v = ap integer (some_is a.0 b.0 g.1) ∙ ok_is (integer b.0) v b.2 in
-      subst (λ (w : Value). Takes (suc levels) w (i ∷ bytes)) v_is (integer_made i bytes a.0 t.0 first small t.1)
+  integer_kind : (place i : ℕ) (bytes : List ℕ) (v : Value) → i ≡ 105 → value_by one place (i ∷ bytes) (Some kinds.Integer) ≡ Ok v → Takes (suc levels) v (i ∷ bytes)
+  unfolding integer_value
+  integer_kind place i bytes v first is =
+      let a = bind_ok (or_fault (Wrong place) (integer_at (i ∷ bytes))) (λ z. or_fault (TooWide place) (narrowed z.0) >>= λ n. Ok (integer n)) v is in
+      let b = bind_ok (or_fault (TooWide place) (narrowed a.0.0)) (λ n. Ok (integer n)) v a.2 in
+      let g = guarded (ltb (mag a.0.0) (2 ^ 63)) (Some a.0.0) b.0 (option_ok (TooWide place) (narrowed a.0.0) b.0 b.1) in
+      let small : mag a.0.0 < 2 ^ 63 = ltb-true (mag a.0.0) (2 ^ 63) g.0 in
+      let t = integer_takes i bytes a.0.0 a.0.1 (option_ok (Wrong place) (integer_at (i ∷ bytes)) a.0 a.1) small in
+      let v_is : integer a.0.0 ≡ v = ap integer (some_is a.0.0 b.0 g.1) ∙ ok_is (integer b.0) v b.2 in
+      subst (λ (w : Value). Takes (suc levels) w (i ∷ bytes)) v_is (integer_made i bytes a.0.0 a.0.1 first small t)
 
-  string_value : (place : ℕ) (bytes : List ℕ) (v : Value) → length bytes < 2 ^ 64 → value_by one place bytes (Some kinds.String) ≡ Ok v → Takes (suc levels) v bytes
-  unfolding value_by
-  string_value place bytes v fits is =
-      let a = bind_ok (or_fault (Wrong place) (string_at bytes)) (λ s. Ok (string s)) v is in
-      let t = string_takes bytes a.0 (option_ok (Wrong place) (string_at bytes) a.0 a.1) fits in
-      subst (λ (w : Value). Takes (suc levels) w bytes) (ok_is (string a.0) v a.2) (string_made bytes a.0 t.0 t.1)
+  string_kind : (place : ℕ) (bytes : List ℕ) (v : Value) → length bytes < 2 ^ 64 → value_by one place bytes (Some kinds.String) ≡ Ok v → Takes (suc levels) v bytes
+  unfolding string_value
+  string_kind place bytes v fits is =
+      let a = bind_ok (or_fault (Wrong place) (string_at bytes)) (λ s. Ok (string s.0)) v is in
+      let t = string_takes bytes a.0.0 a.0.1 (option_ok (Wrong place) (string_at bytes) a.0 a.1) fits in
+      subst (λ (w : Value). Takes (suc levels) w bytes) (ok_is (string a.0.0) v a.2) (string_made bytes a.0.0 a.0.1 t)
 
-  list_value : (place b : ℕ) (bytes : List ℕ) (v : Value) → b ≡ 108 → length bytes < 2 ^ 64 → value_by one place (b ∷ bytes) (Some kinds.List) ≡ Ok v → Takes (suc levels) v (b ∷ bytes)
-  unfolding value_by
-  list_value place b bytes v first fits is =
+  list_kind : (place b : ℕ) (bytes : List ℕ) (v : Value) → b ≡ 108 → length bytes < 2 ^ 64 → value_by one place (b ∷ bytes) (Some kinds.List) ≡ Ok v → Takes (suc levels) v (b ∷ bytes)
+  unfolding list_value
+  list_kind place b bytes v first fits is =
       let a = bind_ok (values_by one (length (b ∷ bytes)) (place + 1) bytes) (λ vs. Ok (list vs)) v is in
       let all = values_take (length (b ∷ bytes)) (place + 1) bytes a.0 fits a.1 in
       subst (λ (w : Value). Takes (suc levels) w (b ∷ bytes)) (ok_is (list a.0) v a.2) (list_made b bytes a.0 first all)
 
-  dict_value : (place b : ℕ) (bytes : List ℕ) (v : Value) → b ≡ 100 → length bytes < 2 ^ 64 → value_by one place (b ∷ bytes) (Some kinds.Dict) ≡ Ok v → Takes (suc levels) v (b ∷ bytes)
-  unfolding value_by
-  dict_value place b bytes v first fits is =
+  dict_kind : (place b : ℕ) (bytes : List ℕ) (v : Value) → b ≡ 100 → length bytes < 2 ^ 64 → value_by one place (b ∷ bytes) (Some kinds.Dict) ≡ Ok v → Takes (suc levels) v (b ∷ bytes)
+  unfolding dict_value
+  dict_kind place b bytes v first fits is =
       let a = bind_ok (members_by one (length (b ∷ bytes)) None (place + 1) bytes) (λ ms. Ok (dict ms)) v is in
       let all = members_take (length (b ∷ bytes)) None (place + 1) bytes a.0 fits a.1 in
       subst (λ (w : Value). Takes (suc levels) w (b ∷ bytes)) (ok_is (dict a.0) v a.2) (dict_made b bytes a.0 first all)
 
   nothing : (place : ℕ) (bytes : List ℕ) (v : Value) → value_by one place bytes None ≡ Ok v → Takes (suc levels) v bytes
-  unfolding value_by
   nothing place bytes v is = absurd cc
 
   kind_value : (place b : ℕ) (bytes : List ℕ) (v : Value) → length (b ∷ bytes) < 2 ^ 64 → value_by one place (b ∷ bytes) (kind_at (b ∷ bytes)) ≡ Ok v → Takes (suc levels) v (b ∷ bytes)
   kind_value place b bytes v fits is =
       elim (cases_Bool (eqb b 105)) [
-        | inl i ↦ integer_value place b bytes v (eqb-true b 105 i) (rw i at is)
+        | inl i ↦ integer_kind place b bytes v (eqb-true b 105 i) (rw i at is)
         | inr not_i ↦ let is : value_by one place (b ∷ bytes) (cond (eqb b 108) (Some kinds.List) (cond (eqb b 100) (Some kinds.Dict) (cond (is_ascii_digit b) (Some kinds.String) None))) ≡ Ok v = rw not_i at is in
             elim (cases_Bool (eqb b 108)) [
-              | inl l ↦ list_value place b bytes v (eqb-true b 108 l) (omega arith) (rw l at is)
+              | inl l ↦ list_kind place b bytes v (eqb-true b 108 l) (omega arith) (rw l at is)
               | inr not_l ↦ let is : value_by one place (b ∷ bytes) (cond (eqb b 100) (Some kinds.Dict) (cond (is_ascii_digit b) (Some kinds.String) None)) ≡ Ok v = rw not_l at is in
                   elim (cases_Bool (eqb b 100)) [
-                    | inl d ↦ dict_value place b bytes v (eqb-true b 100 d) (omega arith) (rw d at is)
+                    | inl d ↦ dict_kind place b bytes v (eqb-true b 100 d) (omega arith) (rw d at is)
                     | inr not_d ↦ let is : value_by one place (b ∷ bytes) (cond (is_ascii_digit b) (Some kinds.String) None) ≡ Ok v = rw not_d at is in
                         elim (cases_Bool (is_ascii_digit b)) [
-                          | inl digit ↦ string_value place (b ∷ bytes) v fits (rw digit at is)
+                          | inl digit ↦ string_kind place (b ∷ bytes) v fits (rw digit at is)
                           | inr not_digit ↦ nothing place (b ∷ bytes) v (rw not_digit at is)
                         ]
                   ]

@@ -1,5 +1,5 @@
 -- What the fields of a value mean.
-use Rattle.std.specs.Prelude.{◌≡◌, ℕ, ◌+◌, List, [], ◌∷◌, length, map}
+use Rattle.std.specs.Prelude.{◌≡◌, ℕ, ◌+◌, ◌-◌, List, [], ◌∷◌, length, map, Option, option_map, slice_get}
 use Rattle.bencode_core.specs.Value.{Value, Values, Members, list, dict, integer, string, no_values, value, no_members, member, spelling, IsValue}
 use Rattle.bencode_core.specs.Placed.{Placed, placed_values, placed_members}
 use Rattle.bencode_core.specs.declared.ben.Node.{Node}
@@ -35,3 +35,7 @@ pub record IsBen (start end : ℕ) (node : Node) : Type 0 where
   pub is_value : IsValue (value_of node)
   pub places : HasPlaces start node
   pub ends : end ≡ start + length (spelling (value_of node))
+
+-- the key of the last member
+abbrev pub last_key : List Member → Option (List ℕ)
+last_key ms = option_map (λ m. m.key.items) (slice_get ms (length ms - 1))

@@ -9,7 +9,7 @@ use Rattle.bencode_core.specs.Value.{Value, Values, Members, integer, string, li
 use Rattle.bencode_core.specs.declared.ben.BenKind.{BenKind}
 use Rattle.bencode_core.specs.declared.ben.BenKind.TheVariants as kinds
 use Rattle.bencode_core.specs.declared.fault.BenErr.{BenErr}
-use Rattle.bencode_core.specs.declared.fault.BenErr.TheVariants.{Wrong, TooDeep, TooWide, Trailing}
+use Rattle.bencode_core.specs.declared.fault.BenErr.TheVariants.{Wrong, TooDeep, TooWide, Trailing, NoMemory}
 
 infixl 10 ◌>>=◌
 abbrev pub ◌>>=◌ : {A B : Type 0} → Result A BenErr → (A → Result B BenErr) → Result B BenErr
@@ -42,21 +42,21 @@ number_at end bytes =
     let behind = drop (length (digits_at bytes)) bytes in
     if begins end behind then option_map (λ n. (n, drop 1 behind)) (number_of (digits_at bytes)) else None
 
--- the integer at the front, of any size
-unfoldable pub integer_at : List ℕ → Option ℤ
+-- the integer at the front, of any size, and the bytes behind it
+unfoldable pub integer_at : List ℕ → Option (ℤ × List ℕ)
 integer_at [] = None
 integer_at (i ∷ bytes) =
     if begins 45 bytes
-    then option_and_then (λ n. if n.0 == 0 then None else Some (neg_ℤ (pos n.0))) (number_at 101 (drop 1 bytes))
-    else option_map (λ n. pos n.0) (number_at 101 bytes)
+    then option_and_then (λ n. if n.0 == 0 then None else Some (neg_ℤ (pos n.0), n.1)) (number_at 101 (drop 1 bytes))
+    else option_map (λ n. (pos n.0, n.1)) (number_at 101 bytes)
 
 -- the integer, if it has 64 bits
 abbrev pub narrowed : ℤ → Option ℤ
 narrowed z = if nat_lt (mag z) (2 ^ 63) then Some z else None
 
--- the bytes of the string at the front
-unfoldable pub string_at : List ℕ → Option (List ℕ)
-string_at bytes = option_and_then (λ n. if nat_le n.0 (length n.1) then Some (take n.0 n.1) else None) (number_at 58 bytes)
+-- the string at the front, and the bytes behind it
+unfoldable pub string_at : List ℕ → Option (List ℕ × List ℕ)
+string_at bytes = option_and_then (λ n. if nat_le n.0 (length n.1) then Some (take n.0 n.1, drop n.0 n.1) else None) (number_at 58 bytes)
 
 -- ---- values
 
@@ -83,7 +83,7 @@ values_by one (suc turns) place bytes =
 unfoldable pub key_at : Option (List ℕ) → ℕ → List ℕ → Result (List ℕ) BenErr
 key_at before place bytes = do
   key ← or_fault (Wrong place) (string_at bytes)
-  if is_behind before key then Ok key else Err (Wrong place)
+  if is_behind before key.0 then Ok key.0 else Err (Wrong place)
 
 unfoldable pub member_by : (ℕ → List ℕ → Result Value BenErr) → Option (List ℕ) → ℕ → List ℕ → Result (List ℕ × Value) BenErr
 member_by one before place bytes = do
@@ -103,22 +103,36 @@ members_by one (suc turns) before place bytes =
       ms ← members_by one turns (Some m.0) (place + length (member_spelling m)) (drop (length (member_spelling m)) bytes)
       Ok (member m.0 m.1 ms))
 
--- A value of this kind whose parts are read by one. There are no more parts than bytes.
-unfoldable pub value_by : (ℕ → List ℕ → Result Value BenErr) → ℕ → List ℕ → Option BenKind → Result Value BenErr
-value_by one place bytes None = Err (Wrong place)
-value_by one place bytes (Some kinds.Integer) = do
+-- ---- a value of each kind; there are no more parts than bytes
+
+unfoldable pub integer_value : ℕ → List ℕ → Result Value BenErr
+integer_value place bytes = do
   z ← or_fault (Wrong place) (integer_at bytes)
-  n ← or_fault (TooWide place) (narrowed z)
+  n ← or_fault (TooWide place) (narrowed z.0)
   Ok (integer n)
-value_by one place bytes (Some kinds.String) = do
+
+unfoldable pub string_value : ℕ → List ℕ → Result Value BenErr
+string_value place bytes = do
   s ← or_fault (Wrong place) (string_at bytes)
-  Ok (string s)
-value_by one place bytes (Some kinds.List) = do
+  Ok (string s.0)
+
+unfoldable pub list_value : (ℕ → List ℕ → Result Value BenErr) → ℕ → List ℕ → Result Value BenErr
+list_value one place bytes = do
   vs ← values_by one (length bytes) (place + 1) (drop 1 bytes)
   Ok (list vs)
-value_by one place bytes (Some kinds.Dict) = do
+
+unfoldable pub dict_value : (ℕ → List ℕ → Result Value BenErr) → ℕ → List ℕ → Result Value BenErr
+dict_value one place bytes = do
   ms ← members_by one (length bytes) None (place + 1) (drop 1 bytes)
   Ok (dict ms)
+
+-- a value whose parts are read by one
+abbrev pub value_by : (ℕ → List ℕ → Result Value BenErr) → ℕ → List ℕ → Option BenKind → Result Value BenErr
+value_by one place bytes None = Err (Wrong place)
+value_by one place bytes (Some kinds.Integer) = integer_value place bytes
+value_by one place bytes (Some kinds.String) = string_value place bytes
+value_by one place bytes (Some kinds.List) = list_value one place bytes
+value_by one place bytes (Some kinds.Dict) = dict_value one place bytes
 
 -- a value of this kind is spelled at the front, as far as that can be told without reading its parts
 abbrev pub is_spelled : List ℕ → Option BenKind → Bool
@@ -138,3 +152,8 @@ unfoldable pub reading : List ℕ → Result Value BenErr
 reading bytes = do
   v ← value_at 100 0 bytes
   if length (spelling v) == length bytes then Ok v else Err (Trailing (length (spelling v)))
+
+-- what an error tells: want of memory tells nothing
+abbrev pub told : BenErr → Option BenErr
+told NoMemory = None
+told e = Some e

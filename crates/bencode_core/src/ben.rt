@@ -67,6 +67,13 @@ impl Ben {
     ghost use Rattle.bencode_core.specs.Placed.{items_of, members_of, member_of, integer_of, string_of, kind_of};
     ghost use Rattle.bencode_core.specs.Node.{pairs_of};
 
+    /// How many bytes spell it.
+    pub(crate) fn spelled_len(&self) -> u32
+        ensures { result ≡ length (spelling self.now.value) }
+    {
+        self.end - self.start
+    }
+
     /// From which place to which it stood, the second one not included.
     pub fn span(&self) -> (u32, u32)
         ensures { result ≡ (self.now.place, self.now.place + length (spelling self.now.value)) }

@@ -1,5 +1,5 @@
 // Integers and strings at the front of bytes.
-ghost use Rattle.std.specs.Prelude.{◌≡◌, ℕ, List, ◌-◌, ◌^◌, ◌<◌, length, min, pos, neg_ℤ, option_map};
+ghost use Rattle.std.specs.Prelude.{◌≡◌, ℕ, List, ◌-◌, ◌^◌, ◌<◌, length, min, Option, ℤ, pos, neg_ℤ, option_map};
 ghost use Rattle.std.specs.Str.Parse.{AllDigits};
 ghost use Rattle.bencode_core.specs.Reading as specs;
 
@@ -58,29 +58,32 @@ fn below_zero(number: u64) -> Option<i64>
     0i64.checked_sub_unsigned(number)
 }
 
-/// The integer at the front, behind its "i". Some(None) is for one that has more than 64 bits.
+/// The integer at the front and the bytes behind it. The integer is None where it has more than 64 bits.
 #[tactic(auto, unfolding(crate::specs::Reading::integer_at))]
-pub(crate) fn integer_at(bytes: &[u8]) -> Option<Option<i64>>
-    ensures { result ≡ option_map specs.narrowed (specs.integer_at bytes.now) }
+pub(crate) fn integer_at(bytes: &[u8]) -> Option<(Option<i64>, &[u8])>
+    ensures { option_map {U = Option ℤ × List ℕ} (λ n. (n.0, n.1.now)) result ≡ option_map {U = Option ℤ × List ℕ} (λ n. (specs.narrowed n.0, n.1)) (specs.integer_at bytes.now) }
 {
     let signed = bytes.get(1..)?;
     if begins(b'-', signed) {
-        let (number, _) = number_at(b'e', &signed[1..])?;
+        let (number, rest) = number_at(b'e', &signed[1..])?;
         if number == 0 {
             return None;
         }
-        return Some(below_zero(number));
+        return Some((below_zero(number), rest));
     }
-    let (number, _) = number_at(b'e', signed)?;
-    Some(above_zero(number))
+    let (number, rest) = number_at(b'e', signed)?;
+    Some((above_zero(number), rest))
 }
 
-/// The bytes of the string at the front.
+/// The string at the front and the bytes behind it.
 #[tactic(auto, unfolding(crate::specs::Reading::string_at))]
-pub(crate) fn string_at(bytes: &[u8]) -> Option<&[u8]>
+pub(crate) fn string_at(bytes: &[u8]) -> Option<(&[u8], &[u8])>
     requires { length bytes.now < 2 ^ 32 }
-    ensures { option_map (λ s. s.now) result ≡ specs.string_at bytes.now }
+    ensures { option_map {U = List ℕ × List ℕ} (λ s. (s.0.now, s.1.now)) result ≡ specs.string_at bytes.now }
 {
     let (len, rest) = number_at(b':', bytes)?;
-    rest.get(..len as usize)
+    if (rest.len() as u64) < len {
+        return None;
+    }
+    Some(rest.split_at(len as usize))
 }
