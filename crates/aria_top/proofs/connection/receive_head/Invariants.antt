@@ -1,0 +1,12 @@
+use Rattle.std.proofs.Common.{◌≤◌, ◌-◌, [], length, false, IsTrue}
+use Rattle.aria_top.specs.Streams.{Dialling, Received}
+use Rattle.aria_top.proofs.connection.receive_head.Given as goal
+
+abbrev pub invariant-turns : goal.invariant-turns
+invariant-turns g l = record {
+  later : g.L.Links.faults l.fn.link ≤ g.L.Links.faults l.link;
+  received : IsTrue g.L.Links.tells → (dial : Dialling) → Received dial (g.L.Links.streams l.fn.link) false [] → Received dial (g.L.Links.streams l.link) false l.bytes.items;
+}
+
+abbrev pub decreases-turns : goal.decreases-turns
+decreases-turns g l = 65536 - length l.bytes.items

@@ -1,0 +1,10 @@
+use Rattle.std.proofs.Common.{◌≡◌, ◌∙◌, ◌++◌, Some, sym, ap, arith, option_copied}
+use Rattle.std.specs.Prelude.{codes}
+use Rattle.aria_top.specs.Words.{metainfo_of}
+use Rattle.aria_top.proofs.Saying.{to_says, says_to, longer_name, lacks_on}
+use Rattle.aria_top.proofs.top.run.Goals as goal
+
+pub returns-clause-done : goal.returns-clause-done
+returns-clause-done g c done tells wanted to =
+    let named : metainfo_of c.args.words.now ≡ Some c.in-Some.name.now = sym c.metainfo_name.ensures ∙ ap option_copied c.in-Some.is in
+    (c.run_named-status.ensures.done done tells wanted (to_says c.args.words.now (g.D.Disk.seen c.args.disk) c.in-Some.name.now wanted named to)).reads

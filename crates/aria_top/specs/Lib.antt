@@ -1,0 +1,12 @@
+pub mod Ends
+pub mod Fetch
+pub mod Load
+pub mod Loss
+pub mod Payload
+pub mod Reply
+pub mod Run
+pub mod Single
+pub mod Spelling
+pub mod Streams
+pub mod Wanted
+pub mod Words

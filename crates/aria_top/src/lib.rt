@@ -1,0 +1,15 @@
+//! The run of the downloader: from the words of the command line to the payload, the summary and the exit status.
+#![tactic(auto)]
+
+mod connection;
+mod ends;
+mod metainfo_file;
+mod reply;
+mod report;
+mod seed;
+mod single;
+mod top;
+mod words;
+mod work;
+
+pub use top::{Finished, run};

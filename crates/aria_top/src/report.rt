@@ -1,0 +1,112 @@
+// What a run writes.
+ghost use Rattle.std.specs.Prelude.{◌≡◌, ◌⊎◌, ◌≤◌, ◌++◌, ℕ, IfOk, IsTrue, IsErrOf, string_bytes};
+ghost use Rattle.dl_words.specs.Counts.{Rose};
+ghost use Rattle.aria_top.specs.Ends.{refusal_status, work_status};
+ghost use Rattle.aria_top.specs.Wanted.{wanted_of};
+ghost use Rattle.aria_top.specs.Run.{error_line, first_gid, stat_of, rest_of_summary, summary, Told};
+
+use crate::ends::{Progress, Refusal};
+use crate::seed::Single;
+use dl_kinds::{Gid, IoErr, NoMemory, Sink};
+use std::alloc::Global;
+
+/// The status of a run for which memory was wanting, and of one whose summary the sink didn't take.
+const WANTS_MEMORY: u8 = 40;
+
+const SINK_FAILED: u8 = 41;
+
+/// Writes why nothing was fetched, and gives the status. It stays where the sink fails.
+pub fn report_refusal<O: Sink>(alloc: Global, refusal: Refusal, out: &mut O) -> u8
+    ensures status { (result ≡ refusal_status refusal) ⊎ (result ≡ 40) }
+    ensures line { result ≡ refusal_status refusal → IsTrue O.tells
+        → Told (O.taken out.old) (O.taken out.new) (error_line (refusal_status refusal)) (O.faults out.old) (O.faults out.new) }
+{
+    let status = refusal.status();
+    let Ok(text) = format!(in alloc; "error {status}\n") else {
+        return WANTS_MEMORY;
+    };
+    match out.write(text.as_bytes()) {
+        Ok(()) | Err(IoErr::Fault) => status,
+        Err(IoErr::NoMemory) => WANTS_MEMORY,
+    }
+}
+
+fn status_of(progress: &Progress) -> u8
+    ensures { result ≡ work_status progress.now.failure }
+{
+    match progress.failure {
+        Some(failure) => failure.status(),
+        None => 0,
+    }
+}
+
+fn gid_of(gids: u64) -> Gid
+    ensures { result.0 ≡ first_gid gids }
+{
+    if gids == 0 {
+        Gid(0x9E37_79B9_7F4A_7C15)
+    } else {
+        Gid(gids)
+    }
+}
+
+fn stat(status: u8) -> &'static str
+    ensures { result.now ≡ stat_of status }
+{
+    if status == 0 { "OK" } else { "ERR" }
+}
+
+// What follows the number of a download in its line.
+fn rest_of_line(
+    alloc: Global,
+    single: &Single,
+    status: u8,
+    completed: u64,
+) -> Result<String, NoMemory>
+    ensures { IfOk result (λ text. string_bytes text ≡ rest_of_summary (wanted_of single.now) status completed) }
+{
+    let stat = stat(status);
+    let total = single.plan.total;
+    let name = single.name.as_str();
+    format!(in alloc; "|{stat}|{completed}|{total}|{status}|{name}\n")
+}
+
+fn summary_text(
+    alloc: Global,
+    gids: u64,
+    single: &Single,
+    status: u8,
+    completed: u64,
+) -> Result<Vec<u8>, NoMemory>
+    ensures { IfOk result (λ text. text.items ≡ summary gids (wanted_of single.now) status completed) }
+{
+    let mut text = b"gid|stat|completed|total|code|path\n".to_vec(alloc)?;
+    text.extend_from_slice(&gid_of(gids).text())?;
+    let rest = rest_of_line(alloc, single, status, completed)?;
+    text.extend_from_slice(rest.as_bytes())?;
+    Ok(text)
+}
+
+/// Writes the summary, and gives the status.
+pub fn report_progress<O: Sink>(
+    alloc: Global,
+    gids: u64,
+    single: &Single,
+    progress: &Progress,
+    out: &mut O,
+) -> u8
+    ensures status { (result ≡ work_status progress.now.failure) ⊎ (result ≡ 40) ⊎ (result ≡ 41) }
+    ensures sink { result ≡ 41 → Rose (O.faults out.old) (O.faults out.new) }
+    ensures told { result ≡ work_status progress.now.failure → IsTrue O.tells
+        → O.taken out.new ≡ O.taken out.old ++ summary gids (wanted_of single.now) (work_status progress.now.failure) progress.now.completed }
+{
+    let status = status_of(progress);
+    let Ok(text) = summary_text(alloc, gids, single, status, progress.completed) else {
+        return WANTS_MEMORY;
+    };
+    match out.write(&text) {
+        Ok(()) => status,
+        Err(IoErr::Fault) => SINK_FAILED,
+        Err(IoErr::NoMemory) => WANTS_MEMORY,
+    }
+}
