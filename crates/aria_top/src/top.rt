@@ -145,6 +145,14 @@ pub fn run<D: Disk, L: Links, O: Sink>(
     ensures known { IsStatus result.status }
     ensures metainfo { IsTrue D.tells → IfSome (metainfo_of words.now) (λ name.
         TellsMetainfo (D.seen disk name) result.status (D.faults disk) (D.faults result.disk)) }
+    ensures disk { result.status ≡ 17 → Rose (D.faults disk) (D.faults result.disk) }
+    ensures sink { result.status ≡ 41 → Rose (O.faults out.old) (O.faults out.new) }
+    ensures says { IsEnd result.status → result.status ≢ 40 → result.status ≢ 17 → IsTrue D.tells
+        → (wanted : Wanted) × IsToFetch words.now (D.seen disk) wanted }
+    ensures stream { IsTrue D.tells → IsTrue L.tells → (wanted : Wanted) → IsToFetch words.now (D.seen disk) wanted
+        → TellsStream wanted (at_first L.streams [] links.items) (at_first L.streams [] result.links.items) result.status
+        (at_first L.faults 0 links.items) (at_first L.faults 0 result.links.items) }
+    ensures other_links { drop 1 result.links.items ≡ drop 1 links.items }
 
     // The payload, and what else is on the disk.
     ensures done { result.status ≡ 0 → IsTrue D.tells → (wanted : Wanted) → IsToFetch words.now (D.seen disk) wanted

@@ -4,6 +4,12 @@ use Rattle.aria_top.specs.Words.{metainfo_of}
 use Rattle.aria_top.proofs.Saying.{to_says, says_to, longer_name, lacks_on}
 use Rattle.aria_top.proofs.top.run.Goals as goal
 
+pub returns-clause-says : goal.returns-clause-says
+returns-clause-says g c ends not_memory not_disk tells =
+    let named : metainfo_of c.args.words.now ≡ Some c.in-Some.name.now = sym c.metainfo_name.ensures ∙ ap option_copied c.in-Some.is in
+    let says = c.run_named-status.ensures.says ends not_memory not_disk tells in
+    (says.0, says_to c.args.words.now (g.D.Disk.seen c.args.disk) c.in-Some.name.now says.0 named says.1)
+
 pub returns-clause-done : goal.returns-clause-done
 returns-clause-done g c done tells wanted to =
     let named : metainfo_of c.args.words.now ≡ Some c.in-Some.name.now = sym c.metainfo_name.ensures ∙ ap option_copied c.in-Some.is in
