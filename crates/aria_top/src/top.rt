@@ -3,7 +3,7 @@ ghost use Rattle.std.specs.Prelude.{◌≡◌, ◌≢◌, ◌⊎◌, ◌≤◌, 
 ghost use Rattle.dl_words.specs.Counts.{Rose};
 ghost use Rattle.dl_disk.specs.Files.{Files, Stays};
 ghost use Rattle.aria_top.specs.Wanted.{Wanted, wanted_of};
-ghost use Rattle.aria_top.specs.Payload.{KeepsOthers, HoldsPayload};
+ghost use Rattle.aria_top.specs.Payload.{KeepsOthers};
 ghost use Rattle.aria_top.specs.Run.{IsRefused, IsEnd, IsStatus, Says, IsToFetch, TellsMetainfo, TellsStream, Stands, Summarized, Told, IsAbsent, error_line, at_first};
 ghost use Rattle.aria_top.specs.Words.{metainfo_of};
 ghost use Rattle.aria_top.specs.declared.ends.Refusal.TheVariants.{Words, Missing, Metainfo, Disk as DiskRefused};
@@ -156,11 +156,20 @@ pub fn run<D: Disk, L: Links, O: Sink>(
 
     // The payload, and what else is on the disk.
     ensures done { result.status ≡ 0 → IsTrue D.tells → (wanted : Wanted) → IsToFetch words.now (D.seen disk) wanted
-        → HoldsPayload wanted (D.seen result.disk) }
+        → Stands wanted (D.seen result.disk) (D.may_leave result.disk) }
+    ensures others { IsTrue D.tells → (wanted : Wanted) → IsToFetch words.now (D.seen disk) wanted
+        → KeepsOthers wanted.name (D.seen disk) (D.seen result.disk) (D.may_leave disk) (D.may_leave result.disk) }
+    ensures no_control_file { IsTrue D.tells → (wanted : Wanted) → IsToFetch words.now (D.seen disk) wanted
+        → IsAbsent (wanted.name ++ codes ".aria2") (D.seen disk) (D.may_leave disk)
+        → IsAbsent (wanted.name ++ codes ".aria2") (D.seen result.disk) (D.may_leave result.disk) }
 
     // What is written.
     ensures refusal { (result.status ≡ 28) ⊎ (result.status ≡ 3) ⊎ (result.status ≡ 26) → IsTrue O.tells
         → Told (O.taken out.old) (O.taken out.new) (error_line result.status) (O.faults out.old) (O.faults out.new) }
+    ensures summary { result.status ≢ 40 → result.status ≢ 41 → IsTrue D.tells → IsTrue O.tells
+        → (wanted : Wanted) → IsToFetch words.now (D.seen disk) wanted
+        → Summarized gids wanted result.status (D.seen result.disk) (O.taken out.old) (O.taken out.new)
+        ⊎ ((result.status ≡ 17) × Told (O.taken out.old) (O.taken out.new) (error_line 17) (O.faults out.old) (O.faults out.new)) }
 {
     let Some(name) = metainfo_name(words) else {
         let status = report_refusal(alloc, Refusal::Words, out);

@@ -13,4 +13,16 @@ returns-clause-says g c ends not_memory not_disk tells =
 pub returns-clause-done : goal.returns-clause-done
 returns-clause-done g c done tells wanted to =
     let named : metainfo_of c.args.words.now ≡ Some c.in-Some.name.now = sym c.metainfo_name.ensures ∙ ap option_copied c.in-Some.is in
-    (c.run_named-status.ensures.done done tells wanted (to_says c.args.words.now (g.D.Disk.seen c.args.disk) c.in-Some.name.now wanted named to)).reads
+    c.run_named-status.ensures.done done tells wanted (to_says c.args.words.now (g.D.Disk.seen c.args.disk) c.in-Some.name.now wanted named to)
+
+pub returns-clause-no_control_file : goal.returns-clause-no_control_file
+returns-clause-no_control_file g c tells wanted to lacks =
+    let named : metainfo_of c.args.words.now ≡ Some c.in-Some.name.now = sym c.metainfo_name.ensures ∙ ap option_copied c.in-Some.is in
+    let differs = longer_name wanted.name (codes ".aria2") (omega arith) in
+    lacks_on wanted.name (wanted.name ++ codes ".aria2") _ _ _ _ differs
+    (c.run_named-status.ensures.others tells wanted (to_says c.args.words.now (g.D.Disk.seen c.args.disk) c.in-Some.name.now wanted named to)) lacks
+
+pub returns-clause-summary : goal.returns-clause-summary
+returns-clause-summary g c not_memory not_sink tells sink_tells wanted to =
+    let named : metainfo_of c.args.words.now ≡ Some c.in-Some.name.now = sym c.metainfo_name.ensures ∙ ap option_copied c.in-Some.is in
+    c.run_named-status.ensures.summary not_memory not_sink tells sink_tells wanted (to_says c.args.words.now (g.D.Disk.seen c.args.disk) c.in-Some.name.now wanted named to)
