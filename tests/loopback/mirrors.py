@@ -1,0 +1,263 @@
+"""Mirrors on loopback: one that records what it is asked, and nginx."""
+import contextlib
+import os
+import socket
+import struct
+import subprocess
+import threading
+import time
+
+PATIENCE = 100
+
+
+def reply(payload, *more, status=b"206 Partial Content", first=0, total=None):
+    """A right reply to a request for all of the payload, with further fields."""
+    total = len(payload) if total is None else total
+    fields = [
+        b"HTTP/1.1 " + status,
+        b"Content-Range: bytes %d-%d/%d" % (first, first + len(payload) - 1, total),
+        b"Content-Length: %d" % len(payload),
+        *more,
+    ]
+    return b"\r\n".join(fields) + b"\r\n\r\n" + payload
+
+
+def head(*fields, status=b"206 Partial Content"):
+    return b"\r\n".join([b"HTTP/1.1 " + status, *fields]) + b"\r\n\r\n"
+
+
+class Mirror:
+    """Serves each connection by a function, and records its bytes.
+
+    The function gets the connection once a request came, and may give what it read after it. The connection is closed
+    when it returns.
+    """
+
+    def __init__(self, serve, host="127.0.0.1", port=0):
+        family = socket.AF_INET6 if ":" in host else socket.AF_INET
+        self.serve = serve
+        self.requests = []
+        self.connections = []
+        self.threads = []
+        self.listener = socket.socket(family, socket.SOCK_STREAM)
+        self.listener.setsockopt(socket.SOL_SOCKET, socket.SO_REUSEADDR, 1)
+        self.listener.bind((host, port))
+        self.port = self.listener.getsockname()[1]
+
+    def __enter__(self):
+        self.listener.listen(16)
+        threading.Thread(target=self.accept, daemon=True).start()
+        return self
+
+    def __exit__(self, *_):
+        # shutdown wakes the thread that waits in accept
+        for it in (self.listener, *self.connections):
+            with contextlib.suppress(OSError):
+                it.shutdown(socket.SHUT_RDWR)
+            it.close()
+
+    def accept(self):
+        while True:
+            try:
+                connection, _ = self.listener.accept()
+            except OSError:
+                return
+            self.connections.append(connection)
+            self.threads.append(threading.Thread(target=self.attend, args=(connection,), daemon=True))
+            self.threads[-1].start()
+
+    def attend(self, connection):
+        connection.settimeout(PATIENCE)
+        connection.setsockopt(socket.IPPROTO_TCP, socket.TCP_NODELAY, 1)
+        with contextlib.suppress(OSError), connection:
+            asked = b""
+            while b"\r\n\r\n" not in asked:
+                piece = connection.recv(65536)
+                if not piece:
+                    break
+                asked += piece
+            place = len(self.requests)
+            self.requests.append(asked)
+            self.requests[place] += self.serve(connection) or b""
+
+    def wait(self):
+        """Until each connection has ended, so that its bytes are all recorded."""
+        for it in self.threads:
+            it.join(10)
+
+    def url(self, host="127.0.0.1", target="/a.bin"):
+        return f"http://{host}:{self.port}{target}".encode()
+
+
+def sends(whole):
+    """Sends these bytes at once, and closes."""
+
+    def serve(connection):
+        connection.sendall(whole)
+
+    return serve
+
+
+def sends_and_stays(whole):
+    """Sends these bytes at once, and closes only after the other side did."""
+
+    def serve(connection):
+        connection.sendall(whole)
+        return rest_of(connection)
+
+    return serve
+
+
+def sends_byte_by_byte(whole):
+    """Sends each byte in a packet of its own."""
+
+    def serve(connection):
+        for at in range(len(whole)):
+            connection.sendall(whole[at : at + 1])
+            time.sleep(0.001)
+
+    return serve
+
+
+def sends_and_resets(whole):
+    """Sends these bytes, and then breaks the connection off."""
+
+    def serve(connection):
+        connection.sendall(whole)
+        time.sleep(0.1)
+        connection.setsockopt(socket.SOL_SOCKET, socket.SO_LINGER, struct.pack("ii", 1, 0))
+
+    return serve
+
+
+def sends_for_ever(begin, again):
+    """Sends the beginning and then the rest again and again, until nobody takes it."""
+
+    def serve(connection):
+        connection.sendall(begin)
+        while True:
+            connection.sendall(again)
+
+    return serve
+
+
+def rest_of(connection):
+    """What still comes until the other side closes."""
+    rest = b""
+    while piece := connection.recv(65536):
+        rest += piece
+    return rest
+
+
+def says_nothing(connection):
+    """Waits until the other side closes."""
+    return rest_of(connection)
+
+
+def free_port(*hosts):
+    """A port that nobody listens on at these addresses."""
+    for _ in range(100):
+        with contextlib.ExitStack() as stack:
+            port = 0
+            try:
+                for host in hosts:
+                    it = stack.enter_context(socket.socket(socket.AF_INET6 if ":" in host else socket.AF_INET))
+                    it.bind((host, port))
+                    port = it.getsockname()[1]
+            except OSError:
+                continue
+            return port
+    raise OSError("no free port")
+
+
+@contextlib.contextmanager
+def deaf_port():
+    """A port whose queue of connections is full, so that a further one gets no answer; None where that can't be had."""
+    with contextlib.ExitStack() as stack:
+        listener = stack.enter_context(socket.socket())
+        listener.bind(("127.0.0.1", 0))
+        listener.listen(0)
+        for _ in range(8):
+            it = stack.enter_context(socket.socket())
+            it.settimeout(1)
+            try:
+                it.connect(listener.getsockname())
+            except TimeoutError:
+                yield listener.getsockname()[1]
+                return
+        yield None
+
+
+CONFIG = """
+daemon off;
+master_process off;
+pid {room}/nginx.pid;
+error_log {room}/error.log;
+events {{ worker_connections 64; }}
+http {{
+    access_log off;
+    default_type application/octet-stream;
+    sendfile on;
+    client_body_temp_path {room}/body;
+    proxy_temp_path {room}/proxy;
+    fastcgi_temp_path {room}/fastcgi;
+    uwsgi_temp_path {room}/uwsgi;
+    scgi_temp_path {room}/scgi;
+    server {{
+        {listen}
+        root {room}/www;
+    }}
+}}
+"""
+
+
+class Nginx:
+    """nginx over the folder `www` of a room, on one port of each of these addresses."""
+
+    def __init__(self, room, hosts):
+        self.room, self.hosts = room, hosts
+        self.www = f"{room}/www"
+        os.mkdir(self.www)
+
+    def __enter__(self):
+        for _ in range(5):
+            self.port = free_port(*self.hosts)
+            listen = " ".join(f"listen {f'[{it}]' if ':' in it else it}:{self.port};" for it in self.hosts)
+            with open(f"{self.room}/nginx.conf", "w", encoding="ascii") as it:
+                it.write(CONFIG.format(room=self.room, listen=listen))
+            words = ["nginx", "-p", self.room, "-c", f"{self.room}/nginx.conf", "-e", f"{self.room}/error.log"]
+            with open(f"{self.room}/nginx.out", "wb") as out:
+                self.process = subprocess.Popen(words, stdin=subprocess.DEVNULL, stdout=out, stderr=out)
+            if self.answers():
+                return self
+            self.__exit__()
+        with open(f"{self.room}/error.log", encoding="utf-8", errors="replace") as it:
+            raise OSError(f"nginx doesn't start: {it.read()[-300:]}")
+
+    def answers(self):
+        for _ in range(200):
+            if self.process.poll() is not None:
+                return False
+            try:
+                socket.create_connection((self.hosts[0], self.port), 1).close()
+                return True
+            except OSError:
+                time.sleep(0.05)
+        return False
+
+    def __exit__(self, *_):
+        self.process.terminate()
+        try:
+            self.process.wait(5)
+        except subprocess.TimeoutExpired:
+            self.process.kill()
+            self.process.wait()
+
+    def put(self, name, payload):
+        path = f"{self.www}/{name}"
+        os.makedirs(os.path.dirname(path), exist_ok=True)
+        with open(path, "wb") as it:
+            it.write(payload)
+
+    def url(self, host="127.0.0.1", target="/a.bin"):
+        return f"http://{host}:{self.port}{target}".encode()

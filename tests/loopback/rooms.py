@@ -1,0 +1,135 @@
+"""A folder in which the program runs, what is wanted of a run, and the list of cases."""
+import os
+import re
+import subprocess
+import sys
+
+from torrents import metainfo
+
+TOP = os.path.realpath(f"{os.path.dirname(__file__)}/../..")
+BUILT = f"{TOP}/crates/aria_cli/out/aria_cli"
+PROGRAM = os.path.realpath(sys.argv[1])
+
+# The seconds that a run may take.
+LIMIT = 30
+
+HEADER = b"gid|stat|completed|total|code|path\n"
+CASES = []
+
+
+class Wrong(Exception):
+    """What a case wants isn't so."""
+
+
+class Skipped(Exception):
+    """A case can't be tried here."""
+
+
+def case(name, *needs, slow=False):
+    """Lists a function as a case. It gets a room, and is tried where what it needs is there."""
+
+    def add(function):
+        CASES.append((name, needs, slow, function))
+        return function
+
+    return add
+
+
+def want(holds, text):
+    if not holds:
+        raise Wrong(text)
+
+
+def request(host, last, target="/a.bin"):
+    """The bytes of a request for a resource from its first byte to this one."""
+    lines = [
+        f"GET {target} HTTP/1.1",
+        f"Host: {host}",
+        "User-Agent: aria_cli",
+        "Accept: */*",
+        "Accept-Encoding: identity",
+        f"Range: bytes=0-{last}",
+        "",
+    ]
+    return "".join(f"{it}\r\n" for it in lines).encode()
+
+
+class Room:
+    """A folder with a metainfo file and what a run makes."""
+
+    def __init__(self, folder):
+        self.folder = folder
+
+    def path(self, name):
+        return f"{self.folder}/{name}"
+
+    def put(self, name, content):
+        with open(self.path(name), "wb") as it:
+            it.write(content)
+
+    def get(self, name):
+        """A file's bytes, and None where there is none."""
+        try:
+            with open(self.path(name), "rb") as it:
+                return it.read()
+        except FileNotFoundError:
+            return None
+
+    def torrent(self, *words, **more):
+        self.put("t.torrent", metainfo(*words, **more))
+
+    def run(self, *words, program=PROGRAM, out=subprocess.PIPE, shell="", within=(), meanwhile=None, limit=LIMIT):
+        """Runs the program on these words, and gives its status and what it wrote.
+
+        A line of shell may come first, and another command may begin it all; `meanwhile` gets the process.
+        """
+        begin = ["sh", "-c", f'{shell}\nexec "$@"', "sh"] if shell else []
+        started = subprocess.Popen(
+            [*within, *begin, program, *words],
+            cwd=self.folder,
+            stdin=subprocess.DEVNULL,
+            stdout=out,
+            stderr=subprocess.PIPE,
+        )
+        try:
+            if meanwhile:
+                meanwhile(started)
+            wrote, said = started.communicate(timeout=limit)
+        except subprocess.TimeoutExpired:
+            raise Wrong(f"the program had not ended after {limit} seconds") from None
+        finally:
+            if started.poll() is None:
+                started.kill()
+                started.communicate()
+        want(said == b"", f"it wrote to standard error: {said[:200]!r}")
+        left = [it for it in os.listdir(self.folder) if it.endswith(".aria2")]
+        want(not left, f"a control file stands: {left}")
+        return started.returncode, wrote
+
+    def refuses(self, status, *words, **how):
+        """The run ends with this status, and writes it as an error."""
+        ended, wrote = self.run(*words, **how)
+        line = b"error %d\n" % status
+        want((ended, wrote) == (status, line), f"status {ended}, output {wrote!r}, and not {line!r}")
+
+    def ends(self, status, total, name="a", words=("t.torrent",), **how):
+        """The run ends with this status, and writes the summary of one download, which is whole or lacks all."""
+        ended, wrote = self.run(*words, **how)
+        stat, completed = ("OK", total) if status == 0 else ("ERR", 0)
+        line = f"|{stat}|{completed}|{total}|{status}|{name}\n".encode()
+        said = f"status {ended}, output {wrote!r}, and not status {status} with {line!r} after the gid"
+        want(ended == status, said)
+        want(re.fullmatch(re.escape(HEADER) + rb"[0-9a-f]{16}" + re.escape(line), wrote), said)
+
+    def fetches(self, payload, name="a", **how):
+        """The run ends well, and the payload has these bytes."""
+        self.ends(0, len(payload), name, **how)
+        got = self.get(name)
+        want(got is not None, "there is no payload")
+        want(got == payload, f"the payload has {len(got)} bytes, {got[:64]!r}")
+
+    def fails(self, status, total=5, **how):
+        """The run ends so, and the payload has none of the bytes that came."""
+        self.ends(status, total, **how)
+        got = self.get("a") or b""
+        want(not got.strip(b"\0"), f"the payload has {got[:64]!r}")
