@@ -201,9 +201,10 @@ def _(room):
 
 @case("a reply that comes byte by byte")
 def _(room):
-    with Mirror(sends_byte_by_byte(reply(b"hello", b"X-Long: " + b"x" * 1000))) as mirror:
-        room.torrent(mirror.url())
-        room.fetches(b"hello")
+    for length, pause in ((1_000, 0.001), (65_000, 0)):
+        with Mirror(sends_byte_by_byte(reply(b"hello", b"X: " + b"y" * length), pause)) as mirror:
+            room.torrent(mirror.url())
+            room.fetches(b"hello")
 
 
 @case("a reply that comes while the program is stopped")

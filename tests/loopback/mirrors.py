@@ -108,13 +108,13 @@ def sends_and_stays(whole):
     return serve
 
 
-def sends_byte_by_byte(whole):
-    """Sends each byte in a packet of its own."""
+def sends_byte_by_byte(whole, pause=0.001):
+    """Sends each byte by itself, with a pause of so many seconds between two."""
 
     def serve(connection):
         for at in range(len(whole)):
             connection.sendall(whole[at : at + 1])
-            time.sleep(0.001)
+            time.sleep(pause)
 
     return serve
 
@@ -182,7 +182,7 @@ def deaf_port():
             it.settimeout(1)
             try:
                 it.connect(listener.getsockname())
-            except TimeoutError:
+            except socket.timeout:
                 yield listener.getsockname()[1]
                 return
         yield None
