@@ -1,5 +1,5 @@
 // One resource over one connection.
-ghost use Rattle.std.specs.Prelude.{◌≡◌, ◌∷◌, min, IfErr, IsOkUnless, MatchResult, None, IfSome, ◌≢◌, Err, ◌<◌, ◌≤◌, ◌-◌, ◌+◌, ◌++◌, ◌^◌, Bool, false, true, ℕ, List, [], Ok, length, take, drop, IfOk, OnOk, OnErr, IsTrue, IsErrOf};
+ghost use Rattle.std.specs.Prelude.{◌≡◌, ◌∷◌, min, MatchResult, None, IfSome, ◌≢◌, Err, ◌<◌, ◌≤◌, ◌-◌, ◌+◌, ◌++◌, false, true, ℕ, List, [], Ok, length, take, drop, IfOk, OnOk, OnErr, IsTrue, IsErrOf};
 ghost use Rattle.dl_words.specs.Counts.{Rose};
 ghost use Rattle.std.specs.List.{between};
 ghost use Rattle.aria_top.specs.Loss.{IsOutside};
@@ -12,9 +12,7 @@ ghost use Rattle.aria_top.specs.declared.connection.Loss.TheVariants.{Link, Shor
 use crate::reply::{HeadState, all_of, read_reply};
 use dl_kinds::IoErr;
 use link_source::{Endpoint, Links};
-use range_http::{
-    Asked, Framing, Head, HeadRead, Verdict, classify, head_laws, read_head, request,
-};
+use range_http::{head_laws, request};
 use std::alloc::{AllocError, Global};
 
 /// Why a resource didn't come.

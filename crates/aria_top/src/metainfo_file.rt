@@ -1,5 +1,5 @@
 // The metainfo file.
-ghost use Rattle.std.specs.Prelude.{◌≡◌, ◌≤◌, ◌<◌, None, IsTrue, IfOk, IsErrOf, length};
+ghost use Rattle.std.specs.Prelude.{◌≡◌, ◌≤◌, ◌<◌, None, IsTrue, IfOk, IsErrOf};
 ghost use Rattle.dl_words.specs.Counts.{Rose};
 ghost use Rattle.dl_disk.specs.Files.{Stays};
 ghost use Rattle.aria_top.specs.Load.{IsRead, IsTooLarge};

@@ -1,5 +1,5 @@
 // What a run writes.
-ghost use Rattle.std.specs.Prelude.{◌≡◌, ◌⊎◌, ◌≤◌, ◌++◌, ℕ, IfOk, IsTrue, IsErrOf, string_bytes};
+ghost use Rattle.std.specs.Prelude.{◌≡◌, ◌⊎◌, ◌++◌, IfOk, IsTrue, string_bytes};
 ghost use Rattle.dl_words.specs.Counts.{Rose};
 ghost use Rattle.aria_top.specs.Ends.{refusal_status, work_status};
 ghost use Rattle.aria_top.specs.Wanted.{wanted_of};

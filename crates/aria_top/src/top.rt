@@ -1,7 +1,7 @@
 // The top call.
-ghost use Rattle.std.specs.Prelude.{◌≡◌, ◌≢◌, ◌⊎◌, ◌≤◌, ◌<◌, ◌++◌, List, ℕ, None, Some, Err, IsTrue, IfOk, IfErr, IsErrOf, MatchResult, OnOk, IfSome, length, drop, [], codes};
+ghost use Rattle.std.specs.Prelude.{◌≡◌, ◌≢◌, ◌⊎◌, ◌≤◌, ◌<◌, ◌++◌, None, Some, Err, IsTrue, IfOk, IsErrOf, IfSome, length, drop, [], codes};
 ghost use Rattle.dl_words.specs.Counts.{Rose};
-ghost use Rattle.dl_disk.specs.Files.{Files, Stays};
+ghost use Rattle.dl_disk.specs.Files.{Stays};
 ghost use Rattle.aria_top.specs.Wanted.{Wanted, wanted_of};
 ghost use Rattle.aria_top.specs.Payload.{KeepsOthers};
 ghost use Rattle.aria_top.specs.Run.{IsRefused, IsEnd, IsStatus, Says, IsToFetch, TellsMetainfo, TellsStream, Stands, Summarized, Told, IsAbsent, error_line, at_first};

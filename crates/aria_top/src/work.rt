@@ -1,8 +1,8 @@
 // The work on a payload: it is fetched, compared with its digest, and stored.
-ghost use Rattle.std.specs.Prelude.{◌≡◌, ◌≤◌, ◌<◌, ◌⊎◌, ◌≢◌, List, ℕ, None, Some, Option, IsTrue, IfOk, OnOk, IsErrOf, MatchResult, length};
+ghost use Rattle.std.specs.Prelude.{◌≡◌, ◌≤◌, ◌<◌, ◌⊎◌, None, Some, IsTrue, IfOk, OnOk, IsErrOf, length};
 ghost use Rattle.dl_words.specs.Counts.{Rose};
 ghost use Rattle.sha1.specs.Sha1.{sha1};
-ghost use Rattle.dl_disk.specs.Files.{Files, bytes_of};
+ghost use Rattle.dl_disk.specs.Files.{bytes_of};
 ghost use Rattle.aria_top.specs.Wanted.{wanted_of};
 ghost use Rattle.aria_top.specs.Payload.{HoldsPayload, Always, KeepsOthers, Ended, Completed};
 ghost use Rattle.aria_top.specs.declared.ends.Failure.TheVariants.{Disk, Link};
