@@ -125,3 +125,10 @@ lacks_on name other a b p q differs keeps lacks = record {
   reads = keeps.seen other differs ∙ lacks.reads;
   images_lack = keeps.images other differs None lacks.images_lack;
 }
+
+-- the line of a refusal with this status
+pub refused_line : (refusal : Refusal) (status m : ℕ) (old new : List ℕ) (before now : ℕ) → (status ≡ refusal_status refusal) ⊎ (status ≡ 40) → status ≡ m → m < 40
+    → (status ≡ refusal_status refusal → Told old new (error_line (refusal_status refusal)) before now) → Told old new (error_line m) before now
+refused_line refusal status m old new before now told same low line =
+    let is : status ≡ refusal_status refusal = ⊎_elim (λ e. e) (λ e. absurd (omega arith)) told in
+    subst (λ (n : ℕ). Told old new (error_line n) before now) (sym is ∙ same) (line is)

@@ -112,6 +112,8 @@ fn run_named<D: Disk, L: Links, O: Sink>(
     ensures sink { result ≡ 41 → Rose (O.faults out.old) (O.faults out.new) }
     ensures refusal { (result ≡ 3) ⊎ (result ≡ 26) → IsTrue O.tells
         → Told (O.taken out.old) (O.taken out.new) (error_line result) (O.faults out.old) (O.faults out.new) }
+    ensures unread { result ≡ 17 → IsTrue D.tells → IsTrue O.tells → ((wanted : Wanted) → Says (D.seen disk.old name.now) wanted → ⊥)
+        → Told (O.taken out.old) (O.taken out.new) (error_line 17) (O.faults out.old) (O.faults out.new) }
     ensures summary { result ≢ 40 → result ≢ 41 → IsTrue D.tells → IsTrue O.tells → (wanted : Wanted) → Says (D.seen disk.old name.now) wanted
         → Summarized gids wanted result (D.seen disk.new) (O.taken out.old) (O.taken out.new)
         ⊎ ((result ≡ 17) × Told (O.taken out.old) (O.taken out.new) (error_line 17) (O.faults out.old) (O.faults out.new)) }
@@ -166,6 +168,10 @@ pub fn run<D: Disk, L: Links, O: Sink>(
     // What is written.
     ensures refusal { (result.status ≡ 28) ⊎ (result.status ≡ 3) ⊎ (result.status ≡ 26) → IsTrue O.tells
         → Told (O.taken out.old) (O.taken out.new) (error_line result.status) (O.faults out.old) (O.faults out.new) }
+    // Where the disk failed at the metainfo file, which wants nothing, that is all that is written.
+    ensures unread { result.status ≡ 17 → IsTrue D.tells → IsTrue O.tells → ((wanted : Wanted) → IsToFetch words.now (D.seen disk) wanted → ⊥)
+        → Told (O.taken out.old) (O.taken out.new) (error_line 17) (O.faults out.old) (O.faults out.new) }
+    // Otherwise it is the summary, but for a disk that failed at the metainfo file.
     ensures summary { result.status ≢ 40 → result.status ≢ 41 → IsTrue D.tells → IsTrue O.tells
         → (wanted : Wanted) → IsToFetch words.now (D.seen disk) wanted
         → Summarized gids wanted result.status (D.seen result.disk) (O.taken out.old) (O.taken out.new)

@@ -26,3 +26,8 @@ pub returns-clause-summary : goal.returns-clause-summary
 returns-clause-summary g c not_memory not_sink tells sink_tells wanted to =
     let named : metainfo_of c.args.words.now ≡ Some c.in-Some.name.now = sym c.metainfo_name.ensures ∙ ap option_copied c.in-Some.is in
     c.run_named-status.ensures.summary not_memory not_sink tells sink_tells wanted (to_says c.args.words.now (g.D.Disk.seen c.args.disk) c.in-Some.name.now wanted named to)
+
+pub returns-clause-unread : goal.returns-clause-unread
+returns-clause-unread g c is tells sink_tells none =
+    let named : metainfo_of c.args.words.now ≡ Some c.in-Some.name.now = sym c.metainfo_name.ensures ∙ ap option_copied c.in-Some.is in
+    c.run_named-status.ensures.unread is tells sink_tells (λ wanted says. none wanted (says_to c.args.words.now (g.D.Disk.seen c.args.disk) c.in-Some.name.now wanted named says))

@@ -1,4 +1,4 @@
-use Rattle.std.proofs.Common.{◌≡◌, Result, Err, inl, inr, ap, subst}
+use Rattle.std.proofs.Common.{arith, ◌≡◌, Result, Err, inl, inr, ap, subst}
 use Rattle.aria_top.specs.Wanted.{Wanted, wanted_of}
 use Rattle.aria_top.specs.Run.{TellsStream, Stands, Summarized}
 use Rattle.aria_top.specs.Payload.{KeepsOthers}
@@ -7,7 +7,7 @@ use Rattle.aria_top.specs.declared.seed.Single.{Single}
 use Rattle.aria_top.specs.declared.top.Stop.{Stop}
 use Rattle.aria_top.specs.declared.top.Stop.TheVariants.{Refused}
 use Rattle.aria_top.proofs.Keeping.{stayed_on}
-use Rattle.aria_top.proofs.Saying.{says_once, said_tells, refused_disk, quiet_tells, disk_line}
+use Rattle.aria_top.proofs.Saying.{says_once, said_tells, refused_disk, refused_line, quiet_tells, disk_line}
 use Rattle.aria_top.proofs.top.run_named.Goals as goal
 
 as_error : (refusal other : Refusal) → refusal ≡ other → ◌≡◌ {A = Result Single Stop} (Err (Refused refusal)) (Err (Refused other))
@@ -52,3 +52,10 @@ returns-in-Err-Refused-clause-summary g c not_memory not_sink tells sink_tells w
     let metainfo = rw c.in-Err-Refused.field-0-is at c.in-Err-Refused.ensures.metainfo in
     let disk = refused_disk _ wanted c.in-Err-Refused.refusal says (λ e. words (as_error _ _ e)) (λ e. missing (as_error _ _ e) tells) (λ e. metainfo (as_error _ _ e) tells) in
     inr (disk_line c.in-Err-Refused.refusal c.report_refusal.result _ _ _ _ disk c.report_refusal.ensures.status not_memory (λ is. c.report_refusal.ensures.line is sink_tells))
+
+pub returns-in-Ok-clause-unread : goal.returns-in-Ok-clause-unread
+returns-in-Ok-clause-unread g c is tells sink_tells none = absurd (none (wanted_of c.in-Ok.single) (c.in-Ok.ensures.read tells))
+
+pub returns-in-Err-Refused-clause-unread : goal.returns-in-Err-Refused-clause-unread
+returns-in-Err-Refused-clause-unread g c is tells sink_tells none =
+    refused_line c.in-Err-Refused.refusal c.report_refusal.result 17 _ _ _ _ c.report_refusal.ensures.status is (omega arith) (λ e. c.report_refusal.ensures.line e sink_tells)
