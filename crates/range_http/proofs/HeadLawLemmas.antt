@@ -4,9 +4,8 @@ use Rattle.std.proofs.lemmas.Bool.{cases_lt}
 use Rattle.std.proofs.lemmas.List.{take-append-drop}
 use Rattle.httparse.proofs.GrammarLemmas.{response_unique, response_prefix_free, ReadsResponse-append}
 use Rattle.httparse.specs.Grammar.{ResponseHead, print_response, ReadsResponse, HasNoResponse}
-use Rattle.range_http.specs.declared.head.Head.{Head}
-use Rattle.range_http.specs.HeadLaws.{HasOneHead, HeadStays, NoHeadStays, HeadIsFinished, FrontIsUnfinished, HeadComesWhole}
-use Rattle.range_http.specs.Heads.{head_of, IsHead, IsUnfinished}
+use Rattle.range_http.specs.HeadLaws.{HasOneHead, HeadStays, NoHeadStays, HeadIsFinished, FrontIsUnfinished, HeadStoodBefore, HeadComesWhole}
+use Rattle.range_http.specs.Heads.{head_of, IsUnfinished}
 
 pub one_head : HasOneHead
 one_head bytes head other used more a b =
@@ -67,7 +66,7 @@ unfinished_before bytes more text rest reads fits longer = record {
 }
 
 -- a head that takes no more than the front stands in it
-head_before : (bytes more : List ℕ) (head : Head) (used : ℕ) → IsHead (bytes ++ more) head used → used ≤ length bytes → IsHead bytes head used
+pub head_before : HeadStoodBefore
 head_before bytes more head used is fits = record {
   text = is.text;
   rest = drop (length (print_response is.text)) bytes;

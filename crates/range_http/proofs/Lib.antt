@@ -4,5 +4,6 @@ mod FramingLemmas
 mod HeadLawLemmas
 mod HeadLemmas
 mod NumberLemmas
+mod RangeLemmas
 mod RequestLemmas
 mod Room

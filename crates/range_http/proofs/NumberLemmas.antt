@@ -10,7 +10,7 @@ use Rattle.range_http.specs.Range.{is_number, number_of}
 tells : IsNumeralModel (λ ds. all_ascii_digits ds ≡ true) (digits_value 10)
 tells = numerals_by_value _ tells_all_ascii_digits
 
-is_number-true : (text : List ℕ) → is_number text ≡ true → IsNumeral 10 text × (digits_value 10 text < 2 ^ 63)
+pub is_number-true : (text : List ℕ) → is_number text ≡ true → IsNumeral 10 text × (digits_value 10 text < 2 ^ 63)
 is_number-true text is =
     let outer = and_parts (nat_lt 0 (length text) && all_ascii_digits text) (nat_lt (digits_value 10 text) (2 ^ 63)) is in
     let inner = and_parts (nat_lt 0 (length text)) (all_ascii_digits text) outer.0 in

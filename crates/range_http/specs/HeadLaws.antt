@@ -24,6 +24,10 @@ HeadIsFinished = (bytes : List ℕ) (head : Head) (used : ℕ) → IsHead bytes 
 abbrev pub FrontIsUnfinished : Type 0
 FrontIsUnfinished = (bytes more : List ℕ) → IsUnfinished (bytes ++ more) → IsUnfinished bytes
 
+-- a head that takes no more than the front stands in the front
+abbrev pub HeadStoodBefore : Type 0
+HeadStoodBefore = (bytes more : List ℕ) (head : Head) (used : ℕ) → IsHead (bytes ++ more) head used → used ≤ length bytes → IsHead bytes head used
+
 -- a head stands once its last byte has come, and before that it is unfinished
 abbrev pub HeadComesWhole : Type 0
 HeadComesWhole = (bytes : List ℕ) (head : Head) (used : ℕ) → IsHead bytes head used

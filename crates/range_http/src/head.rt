@@ -8,7 +8,7 @@ ghost use Rattle.httparse.specs.Grammar.{HasNoResponse, MayBecomeResponse};
 ghost use Rattle.httparse.specs.Spans.{IsHeaderWithin, IsResponseWithin, IsResponseOf};
 ghost use Rattle.range_http.specs.declared.head.HeadRead.TheVariants.{More, Bad};
 ghost use Rattle.range_http.specs.Heads.{IfWhole, IsHead, IsUnfinished, IsNoHead};
-ghost use Rattle.range_http.specs.HeadLaws.{HasOneHead, HeadStays, NoHeadStays, HeadIsFinished, FrontIsUnfinished, HeadComesWhole};
+ghost use Rattle.range_http.specs.HeadLaws.{HasOneHead, HeadStays, NoHeadStays, HeadIsFinished, FrontIsUnfinished, HeadStoodBefore, HeadComesWhole};
 ghost use Rattle.range_http.specs.Spans.{entry_at, IsFieldAt};
 
 use dl_kinds::NoMemory;
@@ -176,5 +176,6 @@ pub fn head_laws()
     ensures none_stays { NoHeadStays }
     ensures finished { HeadIsFinished }
     ensures front { FrontIsUnfinished }
+    ensures stood { HeadStoodBefore }
     ensures whole { HeadComesWhole }
 {}

@@ -1,6 +1,6 @@
 // The field Content-Range.
-ghost use Rattle.std.specs.Prelude.{◌≡◌, ◌<◌, ◌==◌, length, position, option_map, IfSome};
-ghost use Rattle.range_http.specs.Range.{number_of, parts_at, starred, span_of, is_range, range_of};
+ghost use Rattle.std.specs.Prelude.{◌≡◌, ◌↔◌, ◌<◌, ◌==◌, length, position, option_map, IfSome};
+ghost use Rattle.range_http.specs.Range.{number_of, parts_at, starred, span_of, is_range, unitless_range_of, range_of, IsContentRange};
 
 use dl_words::numeral_value;
 
@@ -73,12 +73,10 @@ fn fits(span: Option<(u64, u64)>, total: Option<u64>) -> bool
     }
 }
 
-/// Reads the value of a Content-Range: `bytes 0-4/5`, `bytes 0-4/*` or `bytes */5`. None is for any other text, for a
-/// span that ends before it begins, and for one that reaches past the length.
-pub fn read_range(text: &[u8]) -> Option<ContentRange>
-    ensures { result ≡ range_of text.now }
+// What stands behind the unit.
+fn read_unitless(text: &[u8]) -> Option<ContentRange>
+    ensures { result ≡ unitless_range_of text.now }
 {
-    let text = text.strip_prefix(b"bytes ")?;
     let (span, total) = cut_at(text, b'/')?;
     let span = read_span(span)?;
     let total = read_total(total)?;
@@ -87,4 +85,13 @@ pub fn read_range(text: &[u8]) -> Option<ContentRange>
     } else {
         None
     }
+}
+
+/// Reads the value of a Content-Range: `bytes 0-4/5`, `bytes 0-4/*` or `bytes */5`. None is for any other text, for a
+/// span that ends before it begins, and for one that reaches past the length.
+pub fn read_range(text: &[u8]) -> Option<ContentRange>
+    ensures exact { (range : ContentRange) → (result ≡ Some range) ↔ IsContentRange text.now range }
+    ensures value { result ≡ range_of text.now }
+{
+    text.strip_prefix(b"bytes ").and_then(read_unitless)
 }

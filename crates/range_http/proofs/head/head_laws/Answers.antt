@@ -1,4 +1,4 @@
-use Rattle.range_http.proofs.HeadLawLemmas.{one_head, head_stays, no_head_stays, head_is_finished, front_is_unfinished, head_comes_whole}
+use Rattle.range_http.proofs.HeadLawLemmas.{one_head, head_stays, no_head_stays, head_is_finished, front_is_unfinished, head_before, head_comes_whole}
 use Rattle.range_http.proofs.head.head_laws.Goals as goal
 
 pub returns : goal.returns
@@ -8,5 +8,6 @@ returns c = record {
   none_stays = no_head_stays;
   finished = head_is_finished;
   front = front_is_unfinished;
+  stood = head_before;
   whole = head_comes_whole;
 }
