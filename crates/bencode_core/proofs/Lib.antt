@@ -9,3 +9,4 @@ pub mod Items
 pub mod Pairs
 pub mod Levels
 pub mod Whole
+pub mod Slices

@@ -1,6 +1,7 @@
 -- A value that stands at a place of the input, and what it holds, each part at its own place.
-use Rattle.std.specs.Prelude.{ℕ, ◌+◌, ℤ, List, [], ◌∷◌, length, find, Option, Some, None, option_map}
+use Rattle.std.specs.Prelude.{◌≡◌, ◌≤◌, ℕ, ◌+◌, ◌-◌, ℤ, List, [], ◌∷◌, length, find, Option, Some, None, option_map}
 use Rattle.std.specs.Str.{bytes_eq}
+use Rattle.dl_words.specs.Lists.{part_at}
 use Rattle.bencode_core.specs.Value.{Value, Values, Members, list, dict, integer, string, no_values, value, no_members, member, spelling, string_spelling}
 use Rattle.bencode_core.specs.declared.ben.BenKind.{BenKind}
 use Rattle.bencode_core.specs.declared.ben.BenKind.TheVariants as kinds
@@ -53,3 +54,8 @@ members_of p = members_at p.place p.value
 -- the value of the key
 abbrev pub member_of : List ℕ → Placed → Option Placed
 member_of key p = option_map (λ m. m.1) (find (λ m. bytes_eq m.0 key) (members_of p))
+
+-- the part is spelled by the slice of the whole's spelling that stands at its place
+pub record StandsIn (whole part : Placed) : Type 0 where
+  pub behind : whole.place ≤ part.place
+  pub slice : part_at (spelling whole.value) (part.place - whole.place) (length (spelling part.value)) ≡ spelling part.value

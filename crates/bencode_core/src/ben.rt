@@ -1,5 +1,5 @@
 // A bencoded value.
-ghost use Rattle.std.specs.Prelude.{◌≡◌, ◌+◌, length, option_map};
+ghost use Rattle.std.specs.Prelude.{◌≡◌, ◌+◌, length, All, IfSome, option_map};
 ghost use Rattle.std.specs.Option.{option_copied};
 
 use crate::search::value_of_key;
@@ -64,7 +64,7 @@ impl Model for Ben {
 
 impl Ben {
     ghost use Rattle.bencode_core.specs.Value.{spelling};
-    ghost use Rattle.bencode_core.specs.Placed.{items_of, members_of, member_of, integer_of, string_of, kind_of};
+    ghost use Rattle.bencode_core.specs.Placed.{items_of, members_of, member_of, integer_of, string_of, kind_of, StandsIn};
     ghost use Rattle.bencode_core.specs.Node.{pairs_of};
 
     /// How many bytes spell it.
@@ -114,7 +114,8 @@ impl Ben {
 
     /// The values of a list, in their order; none of another kind.
     pub fn items(&self) -> &[Ben]
-        ensures { result.now ≡ items_of self.now }
+        ensures items { result.now ≡ items_of self.now }
+        ensures slices { All (StandsIn self.now) result.now }
     {
         match &self.node {
             Node::List(items) => items.as_slice(),
@@ -124,7 +125,8 @@ impl Ben {
 
     /// The members of a dictionary, in their order; none of another kind.
     pub fn members(&self) -> &[Member]
-        ensures { pairs_of result.now ≡ members_of self.now }
+        ensures members { pairs_of result.now ≡ members_of self.now }
+        ensures slices { All (λ member. StandsIn self.now member.value) result.now }
     {
         match &self.node {
             Node::Dict(members) => members.as_slice(),
@@ -134,7 +136,8 @@ impl Ben {
 
     /// The value of this key in a dictionary.
     pub fn member(&self, key: &[u8]) -> Option<&Ben>
-        ensures { option_copied result ≡ member_of key.now self.now }
+        ensures member { option_copied result ≡ member_of key.now self.now }
+        ensures slice { IfSome result (λ value. StandsIn self.now value.now) }
     {
         match &self.node {
             Node::Dict(members) => value_of_key(members.as_slice(), key),
