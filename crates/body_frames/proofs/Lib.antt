@@ -1,0 +1,11 @@
+pub mod LineText
+pub mod SizeText
+pub mod SizeSteps
+pub mod LineAt
+pub mod Steady
+pub mod Chunks
+pub mod Places
+pub mod Runs
+pub mod Law
+pub mod Still
+pub mod Feeding

@@ -1,0 +1,4 @@
+pub mod Bodies
+pub mod Lines
+pub mod Open
+pub mod Reading
