@@ -1,9 +1,9 @@
 -- A chunked body, a chunk at a time.
-use Rattle.std.proofs.Common.{◌≡◌, ℕ, zero, suc, ◌+◌, ◌-◌, ◌<◌, ◌≤◌, ◌==◌, Bool, true, false, cond, List, [], ◌∷◌, ◌++◌, length, take, drop, Result, Ok, Err, refl, sym, ap, ◌∙◌, arith, length-drop}
+use Rattle.std.proofs.Common.{◌≡◌, ℕ, zero, suc, ◌+◌, ◌≤◌, ◌==◌, cond, List, [], length, take, drop, Result, Ok, Err, refl, sym, ap, ◌∙◌, arith, length-drop}
 use Rattle.std.proofs.lemmas.List.{nil_from_length}
-use Rattle.body_frames.specs.Lines.{Standing, Whole, Short, Wrong, line_at, size_line, chunk_size}
-use Rattle.body_frames.specs.Bodies.{Framing, Chunked, StreamBody, bare, with_front, behind, trailers, chunks, body_of}
-use Rattle.body_frames.specs.Reading.{chunk_end, chunk_data}
+use Rattle.body_frames.specs.Lines.{Standing, Short, line_at, size_line, chunk_size}
+use Rattle.body_frames.specs.Bodies.{Chunked, StreamBody, bare, with_front, behind, trailers, chunks, body_of}
+use Rattle.body_frames.specs.Reading.{chunk_data}
 use Rattle.body_frames.specs.declared.BodyErr.TheVariants.{BadChunk}
 use Rattle.body_frames.proofs.Steady.{line_at-ok_len, size_line-ok_len}
 

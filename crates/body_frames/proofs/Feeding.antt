@@ -1,17 +1,16 @@
 -- What a piece makes of a body.
-use Rattle.std.proofs.Common.{◌≡◌, ◌≢◌, ◌↔◌, ℕ, zero, suc, ◌+◌, ◌-◌, ◌<◌, ◌≤◌, ◌⊎◌, Bool, true, false, List, [], ◌∷◌, ◌++◌, length, take, drop, refl, sym, ap, subst, ◌∙◌, inl, inr, arith, append-nil, append_assoc, length-append, length-drop, take-append-drop}
+use Rattle.std.proofs.Common.{◌≡◌, ◌≢◌, ℕ, ◌+◌, ◌-◌, ◌≤◌, ◌⊎◌, List, [], ◌∷◌, ◌++◌, length, take, drop, refl, sym, ap, subst, ◌∙◌, inl, inr, arith, append-nil, append_assoc, length-append, length-drop, take-append-drop}
 use Rattle.std.proofs.lemmas.List.{drop_all, take_rest}
 use Rattle.std.proofs.Math.Seq.{take-add}
-use Rattle.body_frames.specs.Lines.{Standing, Whole, Short, Wrong, IsFault}
-use Rattle.body_frames.specs.Bodies.{Framing, Length, Chunked, ToEnd, StreamBody, bare, with_front, body_of, content_of, standing_of, used_of, IsOver, IsWrong, GainAlike}
+use Rattle.body_frames.specs.Lines.{Standing, Whole, Wrong}
+use Rattle.body_frames.specs.Bodies.{Framing, ToEnd, StreamBody, bare, with_front, body_of, content_of, standing_of, used_of, IsOver, IsWrong, GainAlike}
 use Rattle.body_frames.specs.Reading.{Means, Moves, Stops, Reads, ReadsWrong, IsFed}
 use Rattle.body_frames.specs.declared.BodyErr.{BodyErr}
 use Rattle.body_frames.specs.declared.body.Body.{Body}
-use Rattle.body_frames.specs.declared.phase.Run.{Run}
 use Rattle.body_frames.specs.declared.phase.Phase.{Phase}
 use Rattle.body_frames.specs.declared.phase.Phase.TheVariants.{Content, Line as InLine, Over, Stopped}
 use Rattle.body_frames.specs.declared.phase.Run.TheVariants.{Length as RunLength, Chunk, ToEnd as RunToEnd}
-use Rattle.body_frames.proofs.Law.{GoesOn, goes_on}
+use Rattle.body_frames.proofs.Law.{goes_on}
 use Rattle.body_frames.proofs.Runs.{with_front-append}
 use Rattle.body_frames.proofs.Still.{StandsAt, IsStill, still}
 
@@ -87,9 +86,9 @@ module _ (framing : Framing) (stream : List ℕ) (body : Body) (is : IsFed frami
   over at = (
     at_phase Over at,
     λ to_end.
-      let none : (body_of framing (stream ++ 0 ∷ [])).rest ≡ [] = ap (λ f. (body_of f (stream ++ 0 ∷ [])).rest) to_end ∙ to_end_rest (stream ++ 0 ∷ []) in
-      let some : (body_of framing (stream ++ 0 ∷ [])).rest ≡ is.unused ++ 0 ∷ [] = later_rest (0 ∷ []) ∙ ap (λ (b : StreamBody). b.rest) (means_at Over at (is.unused ++ 0 ∷ [])) in
-      omega (arith, ap length (sym none ∙ some), length-append is.unused (0 ∷ [])),
+        let none : (body_of framing (stream ++ 0 ∷ [])).rest ≡ [] = ap (λ f. (body_of f (stream ++ 0 ∷ [])).rest) to_end ∙ to_end_rest (stream ++ 0 ∷ []) in
+        let some : (body_of framing (stream ++ 0 ∷ [])).rest ≡ is.unused ++ 0 ∷ [] = later_rest (0 ∷ []) ∙ ap (λ (b : StreamBody). b.rest) (means_at Over at (is.unused ++ 0 ∷ [])) in
+        omega (arith, ap length (sym none ∙ some), length-append is.unused (0 ∷ [])),
   )
 
   not_to_end : IsOver framing stream → body.phase ≡ Content RunToEnd → ⊥

@@ -1,8 +1,8 @@
 -- What `line_at` and `size_line` give.
-use Rattle.std.proofs.Common.{◌≡◌, ℕ, ◌+◌, ◌<◌, ◌≤◌, Bool, true, false, List, [], ◌∷◌, ◌++◌, length, take, drop, Result, Ok, Err, refl, sym, ap, ◌∙◌, arith, length-append}
+use Rattle.std.proofs.Common.{◌≡◌, ℕ, ◌+◌, ◌<◌, ◌≤◌, Bool, true, false, List, [], ◌∷◌, length, drop, Ok, Err, refl, ap, ◌∙◌, arith, length-append}
 use Rattle.std.proofs.lemmas.Bool.{lt-ltb, le-ltb}
-use Rattle.std.proofs.lemmas.List.{drop_all, drop-append-le}
-use Rattle.body_frames.specs.Lines.{Standing, Whole, Short, Wrong, line_text, line_at, size_line}
+use Rattle.std.proofs.lemmas.List.{drop_all}
+use Rattle.body_frames.specs.Lines.{Short, Wrong, line_text, line_at, size_line}
 use Rattle.body_frames.specs.Open.{IsOpenLine, may_be_size, last_cr}
 use Rattle.body_frames.specs.declared.BodyErr.{BodyErr}
 use Rattle.body_frames.specs.declared.BodyErr.TheVariants.{BadChunk, LineTooLong}

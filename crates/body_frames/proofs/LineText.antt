@@ -1,8 +1,8 @@
 -- The text of a line, as bytes come.
-use Rattle.std.proofs.Common.{◌≡◌, ℕ, suc, ◌+◌, ◌<◌, ◌≤◌, ◌==◌, ◌&&◌, Bool, true, false, not, cond, List, [], ◌∷◌, ◌++◌, length, take, drop, refl, sym, ap, ◌∙◌, arith, append-nil, append_assoc, length-append}
+use Rattle.std.proofs.Common.{◌≡◌, ℕ, ◌+◌, ◌≤◌, ◌==◌, ◌&&◌, Bool, true, false, not, cond, List, [], ◌∷◌, ◌++◌, length, refl, sym, ap, ◌∙◌, arith, append-nil, append_assoc, length-append}
 use Rattle.std.proofs.lemmas.Bool.{eqb-true}
 use mir.Val.{bool_byte}
-use Rattle.body_frames.specs.Lines.{is_line_end, line_text}
+use Rattle.body_frames.specs.Lines.{line_text}
 use Rattle.body_frames.specs.Open.{last_cr}
 
 not_last : (x y : ℕ) (r : List ℕ) (cr : Bool) → x ∷ y ∷ r ≡ [] ++ last_cr cr → ⊥

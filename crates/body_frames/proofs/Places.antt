@@ -1,8 +1,8 @@
 -- One step of each place in a body.
-use Rattle.std.proofs.Common.{◌≡◌, ◌≢◌, ℕ, zero, suc, ◌+◌, ◌-◌, ◌<◌, ◌≤◌, ◌==◌, Bool, true, false, cond, List, [], ◌∷◌, ◌++◌, length, take, drop, Result, Ok, Err, refl, sym, ap, ◌∙◌, inl, inr, arith, append_assoc, append-nil, length-append}
+use Rattle.std.proofs.Common.{◌≡◌, ◌≢◌, ℕ, zero, suc, ◌-◌, ◌<◌, ◌≤◌, ◌==◌, cond, List, [], ◌∷◌, ◌++◌, length, Ok, Err, refl, sym, ap, ◌∙◌, inl, inr, arith, append_assoc}
 use Rattle.std.proofs.lemmas.Bool.{eq-eqb, ne_eqb, eqb-true, cond_both}
-use Rattle.body_frames.specs.Lines.{Standing, Whole, Short, Wrong, IsFault, line_text, line_at, size_line, chunk_size}
-use Rattle.body_frames.specs.Bodies.{Framing, Length, Chunked, ToEnd, StreamBody, bare, with_front, behind, trailers, body_of}
+use Rattle.body_frames.specs.Lines.{Whole, Wrong, IsFault, line_text, line_at, size_line}
+use Rattle.body_frames.specs.Bodies.{Chunked, StreamBody, behind, trailers, body_of}
 use Rattle.body_frames.specs.Open.{IsOpenLine, LineGoesOn, IsOpenSize, SizeLineGoesOn}
 use Rattle.body_frames.specs.Reading.{Means, Moves, Stops, chunk_end, chunk_data}
 use Rattle.body_frames.specs.declared.BodyErr.{BodyErr}
@@ -10,9 +10,9 @@ use Rattle.body_frames.specs.declared.BodyErr.TheVariants.{BadChunk, LineTooLong
 use Rattle.body_frames.specs.declared.line.OpenLine.{OpenLine}
 use Rattle.body_frames.specs.declared.line.LineStep.TheVariants.{Open, Ended, TooLong}
 use Rattle.body_frames.specs.declared.line.SizeLine.{SizeLine}
-use Rattle.body_frames.specs.declared.line.SizeStep.TheVariants.{Open as SizeOpen, Ended as SizeEnded}
+use Rattle.body_frames.specs.declared.line.SizeStep.TheVariants.{Ended as SizeEnded}
 use Rattle.body_frames.specs.declared.phase.Phase.{Phase}
-use Rattle.body_frames.specs.declared.phase.Phase.TheVariants.{Content, Line as InLine, Over, Stopped}
+use Rattle.body_frames.specs.declared.phase.Phase.TheVariants.{Line as InLine, Over, Stopped}
 use Rattle.body_frames.specs.declared.phase.Line.TheVariants.{Size, ChunkEnd, Trailer}
 use Rattle.body_frames.proofs.LineAt.{line_at-long, line_at-just_ended}
 use Rattle.body_frames.proofs.Steady.{line_at-ok_fits, line_at-append_ok, line_at-append_wrong, size_line-append_ok, size_line-append_wrong}

@@ -1,16 +1,15 @@
 -- Runs of content.
-use Rattle.std.proofs.Common.{◌≡◌, ◌≢◌, ℕ, ◌+◌, ◌-◌, ◌<◌, ◌≤◌, ◌==◌, Bool, true, false, cond, nat_le, List, [], ◌∷◌, ◌++◌, length, take, drop, refl, sym, ap, ◌∙◌, inl, inr, arith, append_assoc, length-append}
+use Rattle.std.proofs.Common.{◌≡◌, ◌≢◌, ℕ, ◌+◌, ◌-◌, ◌≤◌, cond, nat_le, List, [], ◌++◌, length, take, drop, refl, sym, ap, ◌∙◌, inl, inr, arith, append_assoc, length-append}
 use Rattle.std.proofs.lemmas.Bool.{le-leb, lt-leb, cases_lt}
 use Rattle.std.proofs.lemmas.List.{drop_at, drop-drop}
 use Rattle.std.specs.Int.NonZero.{non_zero_u32_get, non_zero_u64_get}
 use Rattle.body_frames.specs.Lines.{Standing, Whole, Short}
-use Rattle.body_frames.specs.Bodies.{Framing, Length, Chunked, ToEnd, StreamBody, with_front, body_of}
+use Rattle.body_frames.specs.Bodies.{Length, ToEnd, StreamBody, with_front, body_of}
 use Rattle.body_frames.specs.Reading.{Means, Moves, chunk_end, chunk_data}
 use Rattle.std.specs.declared.num.NonZeroU32.{NonZeroU32}
 use Rattle.std.specs.declared.num.NonZeroU64.{NonZeroU64}
 use Rattle.body_frames.specs.declared.phase.Phase.{Phase}
 use Rattle.body_frames.specs.declared.phase.Phase.TheVariants.{Content, Stopped}
-use Rattle.body_frames.specs.declared.phase.Run.{Run}
 use Rattle.body_frames.specs.declared.phase.Run.TheVariants.{Length as RunLength, Chunk, ToEnd as RunToEnd}
 use Rattle.body_frames.proofs.SizeText.{take-append_longer}
 
@@ -24,9 +23,9 @@ reached len stream = cond (nat_le len (length stream)) Whole Short
 
 reached-append : (len : ℕ) (bytes more : List ℕ) → length bytes ≤ len → nat_le len (length (bytes ++ more)) ≡ nat_le (len - length bytes) (length more)
 reached-append len bytes more fits = elim (cases_lt (length (bytes ++ more)) len) [
-    inl short ↦ lt-leb len (length (bytes ++ more)) short ∙ sym (lt-leb (len - length bytes) (length more) (omega (arith, short, length-append bytes more)))
+  | inl short ↦ lt-leb len (length (bytes ++ more)) short ∙ sym (lt-leb (len - length bytes) (length more) (omega (arith, short, length-append bytes more)))
   | inr whole ↦ le-leb len (length (bytes ++ more)) whole ∙ sym (le-leb (len - length bytes) (length more) (omega (arith, whole, length-append bytes more)))
-  ]
+]
 
 pub none_left : (more : List ℕ) → body_of (Length 0) more ≡ record { content = []; rest = more; standing = Whole }
 unfolding body_of

@@ -1,12 +1,12 @@
 -- One byte more in a size line.
-use Rattle.std.proofs.Common.{◌≡◌, ◌≢◌, ℕ, ◌+◌, ◌-◌, ◌*◌, ◌^◌, ◌<◌, ◌≤◌, ◌==◌, ◌&&◌, ◌||◌, ◌⊎◌, Bool, true, false, cond, nat_lt, List, [], ◌∷◌, ◌++◌, length, take, drop, Ok, Err, refl, sym, ap, ◌∙◌, inl, inr, arith, append-nil, length-append}
+use Rattle.std.proofs.Common.{◌≡◌, ◌≢◌, ℕ, ◌+◌, ◌-◌, ◌*◌, ◌^◌, ◌<◌, ◌≤◌, ◌==◌, ◌||◌, Bool, true, false, cond, nat_lt, List, [], ◌∷◌, ◌++◌, length, take, Ok, Err, refl, sym, ap, ◌∙◌, inl, inr, arith, append-nil, length-append}
 use Rattle.std.specs.List.{list_any, list_all}
 use Rattle.std.specs.Char.{digit_value}
 use Rattle.std.specs.Str.Parse.{digits_value}
 use Rattle.std.proofs.lemmas.Bool.{both_ways, ne_eqb, and_left, and_right, le-ltb, lt-ltb, cond_both}
 use Rattle.std.proofs.lemmas.Int.Digits.{digits_value_push}
 use Rattle.std.proofs.lemmas.List.{take_all, nil_from_length}
-use Rattle.body_frames.specs.Lines.{Wrong, line_text, size_line, size_digits, is_size, is_size_text, chunk_size}
+use Rattle.body_frames.specs.Lines.{Wrong, line_text, size_line, is_size, is_size_text, chunk_size}
 use Rattle.body_frames.specs.Open.{IsOpenLine, LineGoesOn, IsOpenSize, may_be_size, SizeGoesOn, SizeLineGoesOn, last_cr}
 use Rattle.body_frames.specs.declared.BodyErr.{BodyErr}
 use Rattle.body_frames.specs.declared.BodyErr.TheVariants.{BadChunk, LineTooLong}
@@ -17,7 +17,7 @@ use Rattle.body_frames.specs.declared.line.OpenLine.{OpenLine}
 use Rattle.body_frames.specs.declared.line.SizeLine.{SizeLine}
 use Rattle.std.proofs.lemmas.List.Folds.{list_any-append}
 use Rattle.std.proofs.Math.Bool.{or-false}
-use Rattle.body_frames.proofs.LineText.{line_text-append, ends, Pushed, pushed}
+use Rattle.body_frames.proofs.LineText.{line_text-append, ends, pushed}
 use Rattle.body_frames.proofs.SizeText.{is_semicolon, is_hex, Plain, digits-append_extension, is_size-parts, is_size_push, digits_plain, digit_more, extension_more, other_more, other_first, not_digit, take-append_longer, take_some}
 
 -- a line that begins with a byte that is no digit
@@ -36,7 +36,7 @@ module _ (came : List ℕ) (self : SizeLine) (is : IsOpenSize came self) where
 
   -- what has a byte has a size
   begun : 0 < length came → is_size_text (line_text came) ≡ true
-  begun some = elim is.is_size [ inl nil ↦ absurd (omega (arith, ap length nil)) | inr size ↦ size ]
+  begun some = elim is.fits [ inl nil ↦ absurd (omega (arith, ap length nil)) | inr size ↦ size ]
 
   -- a text that fits is judged whole
   judged : (text : List ℕ) → length text ≤ 257 → take 257 text ≡ text
@@ -46,9 +46,8 @@ module _ (came : List ℕ) (self : SizeLine) (is : IsOpenSize came self) where
   pub in_extension : (byte : ℕ) → self.in_extension ≡ true → SizeGoesOn (came ++ byte ∷ []) (Ok self.size)
   in_extension byte extension =
       let has : list_any is_semicolon (line_text came) ≡ true = sym is.extension ∙ extension in
-      let size : is_size_text (line_text came) ≡ true = elim is.is_size [ inl nil ↦ absurd (both_ways _ (ap (list_any is_semicolon) (text_nil nil)) has) | inr size ↦ size ] in
-      let next = line_text-append came (byte ∷ []) in
-      (
+      let size : is_size_text (line_text came) ≡ true = elim is.fits [ inl nil ↦ absurd (both_ways _ (ap (list_any is_semicolon) (text_nil nil)) has) | inr size ↦ size ] in
+      let next = line_text-append came (byte ∷ []) in (
         ap (λ t. is_size_text (take 257 t)) next.1 ∙ (ap is_size_text (take-append_longer (line_text came) next.0 257 (omega (arith, fits))) ∙ (ap is_size (digits-append_extension (line_text came) _ has) ∙ size)),
         is.value ∙ sym (ap chunk_size next.1 ∙ ap (digits_value 16) (digits-append_extension (line_text came) next.0 has)),
       )
@@ -58,7 +57,7 @@ module _ (came : List ℕ) (self : SizeLine) (is : IsOpenSize came self) where
     plain = sym is.extension ∙ digits
 
     hex : list_all is_hex (line_text came) ≡ true
-    hex = elim is.is_size [ inl nil ↦ ap (list_all is_hex) (text_nil nil) | inr size ↦ (is_size-parts (line_text came) (ap is_size (sym (digits_plain (line_text came) plain)) ∙ size)).1.0 ]
+    hex = elim is.fits [ inl nil ↦ ap (list_all is_hex) (text_nil nil) | inr size ↦ (is_size-parts (line_text came) (ap is_size (sym (digits_plain (line_text came) plain)) ∙ size)).1.0 ]
 
     -- the CR LF
     pub at_end : self.line.cr ≡ true → SizeGoesOn (came ++ 10 ∷ []) (Ok self.size)
@@ -126,11 +125,10 @@ module _ (came : List ℕ) (self : SizeLine) (is : IsOpenSize came self) where
       other_byte byte no_extension no_cr' no_digit = (ap (λ t. is_size_text (take 257 t)) (text_more byte no_cr') ∙ wrong byte [] no_extension no_digit, refl)
 
       pub semicolon : 0 < self.line.len → SizeGoesOn (came ++ 59 ∷ []) (Ok self.size)
-      semicolon some =
-          (
-            ap is_size_text (judged_more 59 (λ e. omega (arith, e))) ∙ (ap is_size (extension_more (line_text came) plain) ∙ begun (some_came some)),
-            is.value ∙ sym (ap chunk_size (text_more 59 (λ e. omega (arith, e))) ∙ ap (digits_value 16) (extension_more (line_text came) plain)),
-          )
+      semicolon some = (
+        ap is_size_text (judged_more 59 (λ e. omega (arith, e))) ∙ (ap is_size (extension_more (line_text came) plain) ∙ begun (some_came some)),
+        is.value ∙ sym (ap chunk_size (text_more 59 (λ e. omega (arith, e))) ∙ ap (digits_value 16) (extension_more (line_text came) plain)),
+      )
 
       pub cr_comes : 0 < self.line.len → SizeGoesOn (came ++ 13 ∷ []) (Ok self.size)
       cr_comes some =
@@ -156,7 +154,7 @@ goes_on came byte size in_extension old new is becomes fits sized extension =
       line = becomes;
       value = sized.1;
       extension = extension ∙ (ap (λ b. b || byte == 59) is.extension ∙ sym (has_semicolon_push came byte old.line new is.line becomes));
-      is_size = inr (ap is_size_text (sym (take_all 257 (line_text (came ++ byte ∷ [])) (omega (arith, becomes.len)))) ∙ sized.0);
+      fits = inr (ap is_size_text (sym (take_all 257 (line_text (came ++ byte ∷ [])) (omega (arith, becomes.len)))) ∙ sized.0);
     }
 
 some_pushed : (came : List ℕ) (byte : ℕ) → 0 < length (came ++ byte ∷ [])

@@ -1,27 +1,23 @@
 -- What a place says of the stream so far.
-use Rattle.std.proofs.Common.{◌≡◌, ◌≢◌, ℕ, zero, suc, ◌+◌, ◌-◌, ◌<◌, ◌≤◌, ◌⊎◌, Bool, true, false, cond, nat_le, List, [], ◌∷◌, ◌++◌, length, take, drop, Result, Ok, Err, refl, sym, ap, subst, ◌∙◌, inl, inr, arith, append-nil, append_assoc, length-append, length-drop, zero-le}
+use Rattle.std.proofs.Common.{◌≡◌, ℕ, ◌-◌, ◌⊎◌, List, [], length, Err, refl, ap, ◌∙◌, inl, inr, arith, append-nil, zero-le}
 use Rattle.std.proofs.lemmas.Bool.{lt-leb, cases_lt}
 use Rattle.std.proofs.lemmas.List.{take_all, drop_all, nil_from_length}
 use Rattle.std.specs.Int.NonZero.{non_zero_u32_get, non_zero_u64_get}
 use Rattle.std.specs.declared.num.NonZeroU64.{NonZeroU64}
-use Rattle.body_frames.specs.Lines.{Standing, Whole, Short, Wrong, IsFault, line_text, line_at, size_line, is_size_text}
-use Rattle.body_frames.specs.Bodies.{Framing, Length, Chunked, ToEnd, StreamBody, bare, with_front, behind, trailers, body_of, content_of, standing_of, used_of, IsOver, IsWrong}
-use Rattle.body_frames.specs.Open.{IsOpenLine, IsOpenSize}
-use Rattle.body_frames.specs.Reading.{Means, RunMeans, LineMeans, IsFed, chunk_end, chunk_data}
+use Rattle.body_frames.specs.Lines.{Standing, Whole, Short, Wrong, line_text, line_at, size_line, is_size_text}
+use Rattle.body_frames.specs.Bodies.{Length, Chunked, StreamBody, bare, behind, trailers, body_of}
+use Rattle.body_frames.specs.Open.{IsOpenSize}
+use Rattle.body_frames.specs.Reading.{Means, chunk_end, chunk_data}
 use Rattle.body_frames.specs.declared.BodyErr.{BodyErr}
 use Rattle.body_frames.specs.declared.BodyErr.TheVariants.{BadChunk, LineTooLong}
-use Rattle.body_frames.specs.declared.body.Body.{Body}
-use Rattle.body_frames.specs.declared.line.OpenLine.{OpenLine}
 use Rattle.body_frames.specs.declared.line.SizeLine.{SizeLine}
 use Rattle.body_frames.specs.declared.phase.Phase.{Phase}
 use Rattle.body_frames.specs.declared.phase.Phase.TheVariants.{Content, Line as InLine, Over, Stopped}
-use Rattle.body_frames.specs.declared.phase.Run.{Run}
 use Rattle.body_frames.specs.declared.phase.Run.TheVariants.{Length as RunLength, Chunk, ToEnd as RunToEnd}
-use Rattle.body_frames.specs.declared.phase.Line.{Line}
 use Rattle.body_frames.specs.declared.phase.Line.TheVariants.{Size, ChunkEnd, Trailer}
 use Rattle.body_frames.proofs.LineAt.{line_at-open, size_line-line}
 use Rattle.body_frames.proofs.Chunks.{chunk_of, chunked_step}
-use Rattle.body_frames.proofs.Places.{limit_of, fits_limit, trailer_line, trailers_step, after_end, whole_before}
+use Rattle.body_frames.proofs.Places.{limit_of, fits_limit, trailer_line, trailers_step, after_end}
 
 -- how a body stands at a place
 abbrev pub StandsAt : Phase → Standing → Type 0
@@ -55,13 +51,13 @@ unfolding size_line
 no_size_line = refl
 
 size_still : (came : List ℕ) (size : SizeLine) → IsOpenSize came size → size_line came ≡ Err Short
-size_still came size is = elim is.is_size [
-    inl nil ↦ ap size_line nil ∙ no_size_line
+size_still came size is = elim is.fits [
+  | inl nil ↦ ap size_line nil ∙ no_size_line
   | inr fits ↦ elim (cases_lt 0 (length came)) [
-      inl some ↦ size_line-line came some (ap is_size_text (take_all 257 (line_text came) (omega (arith, is.line.len, size.line.in_limit))) ∙ fits) ∙ line_at-open 256 LineTooLong came size.line is.line size.line.in_limit
+    | inl some ↦ size_line-line came some (ap is_size_text (take_all 257 (line_text came) (omega (arith, is.line.len, size.line.in_limit))) ∙ fits) ∙ line_at-open 256 LineTooLong came size.line is.line size.line.in_limit
     | inr none ↦ ap size_line (nil_from_length came (omega (arith, none))) ∙ no_size_line
-    ]
   ]
+]
 
 still_over : (later : List ℕ → StreamBody) (rest : List ℕ) → Means Over later → IsStill Over (later rest) rest
 still_over later rest m = record { content = ap (λ (b : StreamBody). b.content) (m rest); rest_is = ap (λ (b : StreamBody). b.rest) (m rest); stands = ap (λ (b : StreamBody). b.standing) (m rest) }

@@ -1,5 +1,5 @@
 -- The body of an HTTP reply, as a function of the whole stream that follows the head (RFC 9112, sections 6 and 7).
-use Rattle.std.specs.Prelude.{◌≡◌, ◌≢◌, ℕ, zero, suc, ◌-◌, ◌==◌, nat_le, if◌then◌else◌, List, [], ◌∷◌, ◌++◌, length, take, drop, Result, Ok, Err}
+use Rattle.std.specs.Prelude.{◌≡◌, ◌≢◌, ℕ, zero, suc, ◌-◌, ◌==◌, nat_le, if◌then◌else◌, List, [], ◌++◌, length, take, drop, Result, Ok, Err}
 use Rattle.body_frames.specs.Lines.{Standing, Whole, Short, Wrong, line_at, line_limit, size_line, chunk_size}
 use Rattle.body_frames.specs.declared.BodyErr.{BodyErr}
 use Rattle.body_frames.specs.declared.BodyErr.TheVariants.{BadChunk, LineTooLong}
@@ -10,7 +10,7 @@ pub data Framing : Type 0 where
   Chunked : Framing
   ToEnd : Framing
 
--- A body in a stream: its content, the bytes behind it, and how it stands there. No bytes are behind a body that isn't whole.
+-- A body in a stream: its content as far as it came, the stream's bytes behind it, and how it stands there.
 pub record StreamBody : Type 0 where
   pub content : List ℕ
   pub rest : List ℕ
@@ -29,7 +29,8 @@ abbrev pub behind : {A : Type 0} → Result A Standing → (A → StreamBody) �
 behind (Ok part) body = body part
 behind (Err standing) body = bare standing
 
--- Trailer lines, of which so many may come, up to an empty line, which ends the body (7.1.2).
+-- Trailer lines, of which so many may come, up to an empty line, which ends the body (7.1.2). One more is too long for
+-- the empty line's place.
 unfoldable pub trailers : ℕ → List ℕ → StreamBody
 trailers zero stream =
     behind (line_at 0 LineTooLong stream) (λ line. record { content = []; rest = line.1; standing = Whole })
@@ -40,7 +41,7 @@ trailers (suc more) stream =
 abbrev pub trailer_limit : ℕ
 trailer_limit = 64
 
--- At most so many chunks, up to one of size 0, and then the trailer lines (7.1). Behind a chunk's bytes stands CR LF.
+-- So many chunks at most, up to one of size 0, and then the trailer lines (7.1). Behind a chunk's bytes stands CR LF.
 unfoldable pub chunks : ℕ → List ℕ → StreamBody
 chunks zero stream = bare Short
 chunks (suc more) stream =
@@ -48,10 +49,13 @@ chunks (suc more) stream =
     else with_front (take (chunk_size line.0) line.1)
     (behind (line_at 0 BadChunk (drop (chunk_size line.0) line.1)) (λ end. chunks more end.1)))
 
--- The body that the stream has. No stream has more chunks than bytes.
+-- The body that the whole stream has. It has no more chunks than bytes.
 unfoldable pub body_of : Framing → List ℕ → StreamBody
-body_of (Length len) stream =
-    record { content = take len stream; rest = drop len stream; standing = if nat_le len (length stream) then Whole else Short }
+body_of (Length len) stream = record {
+  content = take len stream;
+  rest = drop len stream;
+  standing = if nat_le len (length stream) then Whole else Short;
+}
 body_of Chunked stream = chunks (length stream) stream
 body_of ToEnd stream = record { content = stream; rest = []; standing = Whole }
 
@@ -65,7 +69,7 @@ standing_of framing stream = (body_of framing stream).standing
 abbrev pub used_of : Framing → List ℕ → ℕ
 used_of framing stream = length stream - length (body_of framing stream).rest
 
--- the body is whole, and bytes that come later aren't its own
+-- the body is whole, and bytes that follow aren't its own
 abbrev pub IsOver : Framing → List ℕ → Type 0
 IsOver framing stream = (standing_of framing stream ≡ Whole) × (framing ≢ ToEnd)
 

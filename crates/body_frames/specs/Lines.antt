@@ -6,7 +6,8 @@ use Rattle.std.specs.Str.Parse.{digits_value}
 use Rattle.body_frames.specs.declared.BodyErr.{BodyErr}
 use Rattle.body_frames.specs.declared.BodyErr.TheVariants.{BadChunk, LineTooLong}
 
--- How a body stands in a stream: it is whole, the stream ends too early for it, or the stream is wrong.
+-- How a body stands in a stream: it is whole, the stream ends too early for it, or the stream is wrong, in the way that
+-- the error tells.
 pub data Standing : Type 0 where
   Whole : Standing
   Short : Standing
@@ -39,9 +40,10 @@ line_at most error stream =
 abbrev pub line_limit : ℕ
 line_limit = 256
 
--- chunk-size: one hexadecimal digit or more, and a number below 2 ^ 32
+-- chunk-size: one hexadecimal digit or more, which write a number below 2 ^ 32
 unfoldable pub is_size : List ℕ → Bool
-is_size digits = (nat_lt 0 (length digits) && list_all (λ byte. is_digit byte 16) digits) && nat_lt (digits_value 16 digits) (2 ^ 32)
+is_size digits =
+    (nat_lt 0 (length digits) && list_all (λ byte. is_digit byte 16) digits) && nat_lt (digits_value 16 digits) (2 ^ 32)
 
 -- The text of a size line is `chunk-size [ chunk-ext ]`, and an extension is `;` and any bytes behind it.
 abbrev pub size_digits : List ℕ → List ℕ
@@ -54,8 +56,8 @@ is_size_text text = is_size (size_digits text)
 abbrev pub chunk_size : List ℕ → ℕ
 chunk_size text = digits_value 16 (size_digits text)
 
--- The size line that the stream begins with. A byte that no size line has at its place comes before the length of the
--- line, so the line is judged up to the first byte above the limit.
+-- The size line that the stream begins with. Its first fault counts: a byte that no size line has there is BadChunk, the
+-- first byte above the limit is LineTooLong, and a byte that is both is BadChunk. So the text is judged up to that byte.
 unfoldable pub size_line : List ℕ → Result (List ℕ × List ℕ) Standing
 size_line [] = Err Short
 size_line (byte ∷ rest) =

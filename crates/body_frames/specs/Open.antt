@@ -32,7 +32,7 @@ pub record IsOpenSize (came : List ℕ) (size : SizeLine) : Type 0 where
   pub line : IsOpenLine came size.line
   pub value : size.size ≡ chunk_size (line_text came)
   pub extension : size.in_extension ≡ list_any (λ byte. byte == 59) (line_text came)
-  pub is_size : (came ≡ []) ⊎ (is_size_text (line_text came) ≡ true)
+  pub fits : (came ≡ []) ⊎ (is_size_text (line_text came) ≡ true)
 
 -- whether a size line may still come of these bytes
 abbrev pub may_be_size : List ℕ → Bool
@@ -43,8 +43,9 @@ abbrev pub SizeGoesOn : List ℕ → Result ℕ BodyErr → Type 0
 SizeGoesOn came (Ok size) = (may_be_size came ≡ true) × (size ≡ chunk_size (line_text came))
 SizeGoesOn came (Err error) = (may_be_size came ≡ false) × (error ≡ BadChunk)
 
--- what came makes of the size line
+-- what the size line is once these bytes came
 abbrev pub SizeLineGoesOn : List ℕ → Result SizeStep BodyErr → Type 0
 SizeLineGoesOn came (Ok (SizeOpen size)) = IsOpenSize came size
-SizeLineGoesOn came (Ok (SizeEnded size)) = (text : List ℕ) × (size_line came ≡ Ok (text, [])) × (size ≡ chunk_size text)
+SizeLineGoesOn came (Ok (SizeEnded size)) =
+    (text : List ℕ) × (size_line came ≡ Ok (text, [])) × (size ≡ chunk_size text)
 SizeLineGoesOn came (Err error) = size_line came ≡ Err (Wrong error)

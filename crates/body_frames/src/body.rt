@@ -43,30 +43,39 @@ impl Body {
         }
     }
 
-    /// Takes the next piece of the stream, and puts its content at the end of `out`. Bytes behind the body aren't used.
-    /// `BadChunk` and `LineTooLong` come for the stream's first fault, behind the content before it, and after them
-    /// each piece gets `AfterError`.
+    /// Takes the next piece of the stream, and puts its content at the end of `out`. Bytes behind the body aren't
+    /// used.
+    ///
+    /// `BadChunk` and `LineTooLong` come for the stream's first fault, once the content before it is in `out`, and
+    /// then each piece gets `AfterError`. No memory is taken where `out` has room for the piece.
     pub fn feed(&mut self, piece: &[u8], out: &mut Vec<u8>) -> Result<Fed, BodyErr>
         requires { length piece.now < 2 ^ 32 }
 
+        // The body was fed the piece too, and out gained the content that the piece brings.
         ensures fed { ForEachStream self.old (λ framing stream.
             result ≢ Err BodyErr.NoMemory → IsFed framing (stream ++ piece.now) self.new) }
-        ensures content { ForEachStream self.old (λ framing stream. result ≢ Err BodyErr.NoMemory →
-            GainAlike (content_of framing stream) (content_of framing (stream ++ piece.now)) out.old.items out.new.items) }
-        ensures used { ForEachStream self.old (λ framing stream.
-            IfOk result (λ fed. fed.used ≡ used_of framing (stream ++ piece.now) - used_of framing stream)) }
-        ensures done { ForEachStream self.old (λ framing stream.
-            IfOk result (λ fed. IsTrue fed.done ↔ IsOver framing (stream ++ piece.now))) }
+        ensures content { ForEachStream self.old (λ framing stream.
+            result ≢ Err BodyErr.NoMemory → GainAlike (content_of framing stream)
+            (content_of framing (stream ++ piece.now)) out.old.items out.new.items) }
 
-        // The first fault of the stream is told where it comes.
-        ensures right { ForEachStream self.old (λ framing stream. OnOk result (¬ IsWrong framing (stream ++ piece.now))) }
+        // What of the piece is the body's, and whether the body is over.
+        ensures used { ForEachStream self.old (λ framing stream. IfOk result (λ fed.
+            fed.used ≡ used_of framing (stream ++ piece.now) - used_of framing stream)) }
+        ensures within { IfOk result (λ fed. fed.used ≤ length piece.now) }
+        ensures done { ForEachStream self.old (λ framing stream. IfOk result (λ fed.
+            IsTrue fed.done ↔ IsOver framing (stream ++ piece.now))) }
+
+        // An error comes where the stream is wrong, for what is wrong there, and nowhere else.
+        ensures right { ForEachStream self.old (λ framing stream.
+            OnOk result (¬ IsWrong framing (stream ++ piece.now))) }
         ensures wrong { ForEachStream self.old (λ framing stream. IfErr result (λ error. IsFault error →
             (¬ IsWrong framing stream) × (standing_of framing (stream ++ piece.now) ≡ Wrong error))) }
         ensures after_error { ForEachStream self.old (λ framing stream.
             IsErrOf result BodyErr.AfterError ↔ IsWrong framing stream) }
 
-        // Memory is wanted only for content without room, and then nothing changes.
-        ensures room { IsErrOf result BodyErr.NoMemory → vec_capacity out.old < vec_len out.old + length piece.now }
+        // Memory is wanted only where out has no room, and then nothing changes.
+        ensures room { IsErrOf result BodyErr.NoMemory →
+            vec_capacity out.old < vec_len out.old + length piece.now }
         ensures same { IsErrOf result BodyErr.NoMemory → (self.new ≡ self.old) × VecUnchanged out.old out.new }
     {
         match self.phase {
@@ -77,9 +86,7 @@ impl Body {
             }),
             _ => {}
         }
-        if out.reserve(piece.len()).is_err() {
-            return Err(BodyErr::NoMemory);
-        }
+        out.reserve(piece.len())?;
         let used = self.read(piece, out)?;
         Ok(Fed {
             used: used as u32,
@@ -111,8 +118,10 @@ impl Body {
         requires room { vec_len out.old + length piece.now ≤ vec_capacity out.old }
         ensures used { IfOk result (λ used. used ≤ length piece.now) }
         ensures all { IfOk result (λ used. (used ≡ length piece.now) ⊎ (self.new.phase ≡ Phase.Over)) }
-        ensures ok { IfOk result (λ used. Reads self.old.phase (take used piece.now) out.old.items out.new.items self.new.phase) }
-        ensures err { IfErr result (λ error. ReadsWrong self.old.phase piece.now out.old.items out.new.items error) }
+        ensures ok { IfOk result (λ used.
+            Reads self.old.phase (take used piece.now) out.old.items out.new.items self.new.phase) }
+        ensures err { IfErr result (λ error.
+            ReadsWrong self.old.phase piece.now out.old.items out.new.items error) }
         ensures stopped { OnErr result (self.new.phase ≡ Phase.Stopped) }
     {
         let mut used = 0;
@@ -132,7 +141,8 @@ impl Body {
         ensures least { IfOk result (λ taken. 0 < taken) }
         ensures len { IfOk result (λ taken. vec_len out.new ≤ vec_len out.old + taken) }
         ensures capacity { vec_capacity out.old ≤ vec_capacity out.new }
-        ensures ok { IfOk result (λ taken. Reads self.old.phase (take taken piece.now) out.old.items out.new.items self.new.phase) }
+        ensures ok { IfOk result (λ taken.
+            Reads self.old.phase (take taken piece.now) out.old.items out.new.items self.new.phase) }
         ensures err { IfErr result (λ error. Stops self.old.phase (take 1 piece.now) [] error) }
         ensures same { OnErr result (out.new.items ≡ out.old.items) }
         ensures stopped { OnErr result (self.new.phase ≡ Phase.Stopped) }

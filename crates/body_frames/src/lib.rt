@@ -1,15 +1,20 @@
 //! Bodies of HTTP replies, as RFC 9112, sections 6 and 7, frames them.
 //!
-//! A body's stream is what follows the reply's head. It may come in any pieces: the body that they give is that of the
-//! whole stream.
+//! A body's stream is what follows the reply's head. It may come in any pieces: they give the body of the whole
+//! stream.
 #![tactic(auto)]
+
+ghost use Rattle.std.specs.Prelude.{◌≡◌, List, ℕ, [], ◌++◌, drop};
+ghost use Rattle.body_frames.specs.declared.BodyErr.TheVariants.{NoMemory};
+ghost use Rattle.body_frames.specs.Lines.{Whole};
+ghost use Rattle.body_frames.specs.Bodies.{Framing, body_of, content_of, used_of, IsOver, IsWrong};
 
 mod body;
 mod line;
 mod phase;
 
 pub use body::Body;
-
+use std::alloc::AllocError;
 use thiserror::Error;
 
 /// Why a body isn't read on.
@@ -23,6 +28,14 @@ pub enum BodyErr {
     AfterError,
     #[error("out of memory")]
     NoMemory,
+}
+
+impl From<AllocError> for BodyErr {
+    ghost from_gives = { λ _ e. e ≡ NoMemory };
+
+    fn from(_: AllocError) -> Self {
+        BodyErr::NoMemory
+    }
 }
 
 /// What a piece of the stream brought.
@@ -40,3 +53,17 @@ pub enum BodyEnd {
     Whole,
     Short,
 }
+
+/// Pieces `a` and `b` give what the one piece `a ++ b` gives. As the stream goes on, the content only grows; a body
+/// that is over stays as it is, and so does a fault; and what is behind a body is the stream's end, once the body is
+/// over.
+pub fn pieces_join()
+    ensures content { (framing : Framing) (a b : List ℕ) → (added : List ℕ)
+        × (content_of framing (a ++ b) ≡ content_of framing a ++ added) }
+    ensures over { (framing : Framing) (a b : List ℕ) → IsOver framing a → body_of framing (a ++ b)
+        ≡ record { content = content_of framing a; rest = (body_of framing a).rest ++ b; standing = Whole } }
+    ensures wrong { (framing : Framing) (a b : List ℕ) → IsWrong framing a →
+        body_of framing (a ++ b) ≡ body_of framing a }
+    ensures not_over { (framing : Framing) (a : List ℕ) → (¬ IsOver framing a) → (body_of framing a).rest ≡ [] }
+    ensures end { (framing : Framing) (a : List ℕ) → (body_of framing a).rest ≡ drop (used_of framing a) a }
+{}

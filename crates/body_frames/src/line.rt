@@ -84,7 +84,8 @@ impl SizeLine {
     }
 
     pub(crate) fn next(self, byte: u8) -> Result<SizeStep, BodyErr>
-        ensures goes_on { (came : List ℕ) → IsOpenSize came self → SizeLineGoesOn (came ++ byte ∷ []) result }
+        ensures goes_on { (came : List ℕ) →
+            IsOpenSize came self → SizeLineGoesOn (came ++ byte ∷ []) result }
         ensures fault { IfErr result IsFault }
     {
         let size = self.size_with(byte)?;
@@ -99,9 +100,11 @@ impl SizeLine {
         }
     }
 
-    // The size with this byte, if it may stand there: any byte in an extension, and behind digits a digit, `;` or CR LF.
+    // The size with this byte, if it may stand there: any byte in an extension, and behind the digits a digit, `;` or
+    // CR LF.
     fn size_with(self, byte: u8) -> Result<u32, BodyErr>
-        ensures goes_on { (came : List ℕ) → IsOpenSize came self → SizeGoesOn (came ++ byte ∷ []) result }
+        ensures goes_on { (came : List ℕ) →
+            IsOpenSize came self → SizeGoesOn (came ++ byte ∷ []) result }
         ensures fault { IfErr result (λ error. error ≡ BodyErr.BadChunk) }
     {
         if self.in_extension {

@@ -1,12 +1,11 @@
 // Where in a body its stream stands.
-ghost use Rattle.std.specs.Prelude.{◌≡◌, ◌≢◌, ◌==◌, if◌then◌else◌, ◌≤◌, ◌<◌, ℕ, List, [], ◌∷◌, length, MatchResult, ◌↔◌};
+ghost use Rattle.std.specs.Prelude.{◌≡◌, ◌≢◌, ◌==◌, if◌then◌else◌, ◌≤◌, ◌<◌, ◌↔◌, ℕ, List, length};
 ghost use Rattle.body_frames.specs.Bodies.{Length, body_of};
-ghost use Rattle.body_frames.specs.Reading.{Means, Moves, Stops, chunk_data};
+ghost use Rattle.body_frames.specs.Reading.{Means, Moves, TakesByte, chunk_data};
 
-use std::num::{NonZeroU32, NonZeroU64};
-
-use crate::{BodyEnd, BodyErr};
 use crate::line::{LINE_LIMIT, LineStep, OpenLine, SizeLine, SizeStep};
+use crate::{BodyEnd, BodyErr};
+use std::num::{NonZeroU32, NonZeroU64};
 
 // How many trailer lines a body may have.
 const TRAILER_LIMIT: u32 = 64;
@@ -73,7 +72,8 @@ impl Run {
     pub(crate) fn take(self, available: usize) -> (usize, Phase)
         ensures most { result.0 ≤ available }
         ensures some { 0 < available → 0 < result.0 }
-        ensures moves { (bytes : List ℕ) → length bytes ≡ result.0 → Moves (Phase.Content self) bytes bytes result.1 }
+        ensures moves { (bytes : List ℕ) → length bytes ≡ result.0 →
+            Moves (Phase.Content self) bytes bytes result.1 }
     {
         match self {
             Run::Length(left) => {
@@ -94,7 +94,7 @@ impl Run {
 impl Line {
     /// Takes the next byte.
     pub(crate) fn next(self, byte: u8) -> Result<Phase, BodyErr>
-        ensures { MatchResult result (Moves (Phase.Line self) (byte ∷ []) []) (Stops (Phase.Line self) (byte ∷ []) []) }
+        ensures { TakesByte (Phase.Line self) byte result }
     {
         match self {
             Line::Size(size) => Line::next_of_size(size, byte),
@@ -104,20 +104,17 @@ impl Line {
     }
 
     fn next_of_size(size: SizeLine, byte: u8) -> Result<Phase, BodyErr>
-        ensures { let old = Phase.Line (Line.Size size) in MatchResult result (Moves old (byte ∷ []) []) (Stops old (byte ∷ []) []) }
+        ensures { TakesByte (Phase.Line (Line.Size size)) byte result }
     {
         match size.next(byte)? {
             SizeStep::Open(size) => Ok(Phase::Line(Line::Size(size))),
-            SizeStep::Ended(0) => Ok(Phase::Line(Line::Trailer(
-                OpenLine::new(),
-                TRAILER_LIMIT,
-            ))),
+            SizeStep::Ended(0) => Ok(Phase::Line(Line::Trailer(OpenLine::new(), TRAILER_LIMIT))),
             SizeStep::Ended(size) => Ok(Phase::chunk(size)),
         }
     }
 
     fn next_of_chunk_end(line: OpenLine, byte: u8) -> Result<Phase, BodyErr>
-        ensures { let old = Phase.Line (Line.ChunkEnd line) in MatchResult result (Moves old (byte ∷ []) []) (Stops old (byte ∷ []) []) }
+        ensures { TakesByte (Phase.Line (Line.ChunkEnd line)) byte result }
     {
         match line.next(byte, 0) {
             LineStep::Open(line) => Ok(Phase::Line(Line::ChunkEnd(line))),
@@ -127,7 +124,7 @@ impl Line {
     }
 
     fn next_of_trailer(line: OpenLine, left: u32, byte: u8) -> Result<Phase, BodyErr>
-        ensures { let old = Phase.Line (Line.Trailer line left) in MatchResult result (Moves old (byte ∷ []) []) (Stops old (byte ∷ []) []) }
+        ensures { TakesByte (Phase.Line (Line.Trailer line left)) byte result }
     {
         match line.next(byte, Line::trailer_limit(left)) {
             LineStep::Open(line) => Ok(Phase::Line(Line::Trailer(line, left))),

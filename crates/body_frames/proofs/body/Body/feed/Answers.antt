@@ -1,8 +1,8 @@
-use Rattle.std.proofs.Common.{arith, ◌≡◌, refl, ap, sym, ◌∙◌, inl, inr, Err}
+use Rattle.std.proofs.Common.{◌≡◌, refl, ap, sym, ◌∙◌, inl, inr, Err}
 use Rattle.std.proofs.lemmas.Result.{err_from_is_err_and}
-use Rattle.body_frames.specs.declared.BodyErr.TheVariants.{BadChunk, LineTooLong, AfterError}
+use Rattle.body_frames.specs.declared.BodyErr.TheVariants.{BadChunk, LineTooLong, AfterError, NoMemory}
 use Rattle.body_frames.specs.declared.phase.Phase.TheVariants.{Over, Stopped}
-use Rattle.body_frames.proofs.Feeding.{over, when_over, wrong, when_wrong, read_on, content_gained, used_is, right, read_wrong, standing_wrong, content_before, fed_over, over_gains, over_uses, fed_stopped, stopped_gains}
+use Rattle.body_frames.proofs.Feeding.{over, when_over, wrong, when_wrong, read_on, content_gained, used_is, right, read_wrong, standing_wrong, content_before, fed_over, over_gains, over_uses, stopped_gains}
 use Rattle.body_frames.proofs.body.Body.feed.Goals as goal
 
 pub returns-in-Stopped-clause-content : goal.returns-in-Stopped-clause-content
@@ -29,12 +29,6 @@ returns-in-Over-clause-after_error c = λ framing stream is. (
   λ is_wrong. absurd (let e : Over ≡ Stopped = sym c.in-Over.is ∙ when_wrong framing stream c.args.self.now is is_wrong in cc),
 )
 
-pub returns-then-is_err-clause-after_error : goal.returns-then-is_err-clause-after_error
-returns-then-is_err-clause-after_error c = λ framing stream is. (
-  λ e. cc,
-  λ is_wrong. absurd (c.in_default.not-Stopped (when_wrong framing stream c.args.self.now is is_wrong)),
-)
-
 pub returns-in_err-used-clause-fed : goal.returns-in_err-used-clause-fed
 returns-in_err-used-clause-fed c = λ framing stream is _.
     read_wrong framing stream c.args.piece.now c.args.self.now c.read.new.self is c.in_default.not-Over _ _ c.in_err-used.field-0.0 c.in_err-used.ensures.err c.in_err-used.ensures.stopped
@@ -45,7 +39,7 @@ returns-in_err-used-clause-content c = λ framing stream is _.
 
 pub returns-in_err-used-clause-wrong : goal.returns-in_err-used-clause-wrong
 returns-in_err-used-clause-wrong c = λ framing stream is.
-    let p = err_from_is_err_and c.from_residual.result c.from_residual.ensures.1 in
+    let p = err_from_is_err_and c.from_residual-in_err-used.result c.from_residual-in_err-used.ensures.1 in
     rw (p.1, p.2) (λ _. (
       λ is_wrong. c.in_default.not-Stopped (when_wrong framing stream c.args.self.now is is_wrong),
       standing_wrong framing stream c.args.piece.now c.args.self.now c.read.new.self is c.in_default.not-Over _ _ c.in_err-used.field-0.0 c.in_err-used.ensures.err c.in_err-used.ensures.stopped,
@@ -53,11 +47,10 @@ returns-in_err-used-clause-wrong c = λ framing stream is.
 
 pub returns-in_err-used-clause-after_error : goal.returns-in_err-used-clause-after_error
 returns-in_err-used-clause-after_error c = λ framing stream is.
-    let p = err_from_is_err_and c.from_residual.result c.from_residual.ensures.1 in
-    (
+    let p = err_from_is_err_and c.from_residual-in_err-used.result c.from_residual-in_err-used.ensures.1 in (
       λ after. absurd (elim c.in_err-used.ensures.err.1.fault [
-        inl bad ↦ (let e : Err AfterError ≡ Err BadChunk = sym after ∙ (p.1 ∙ ap (λ x. Err x) (p.2 ∙ bad)) in cc)
-      | inr long ↦ (let e : Err AfterError ≡ Err LineTooLong = sym after ∙ (p.1 ∙ ap (λ x. Err x) (p.2 ∙ long)) in cc)
+        | inl bad ↦ (let e : Err AfterError ≡ Err BadChunk = sym after ∙ (p.1 ∙ ap (λ x. Err x) (p.2 ∙ bad)) in cc)
+        | inr long ↦ (let e : Err AfterError ≡ Err LineTooLong = sym after ∙ (p.1 ∙ ap (λ x. Err x) (p.2 ∙ long)) in cc)
       ]),
       λ is_wrong. absurd (c.in_default.not-Stopped (when_wrong framing stream c.args.self.now is is_wrong)),
     )
@@ -88,3 +81,10 @@ returns-clause-after_error c = λ framing stream is. (
   λ e. cc,
   λ is_wrong. absurd (c.in_default.not-Stopped (when_wrong framing stream c.args.self.now is is_wrong)),
 )
+
+pub returns-in_err-reserve-clause-after_error : goal.returns-in_err-reserve-clause-after_error
+returns-in_err-reserve-clause-after_error c = λ framing stream is.
+    let p = err_from_is_err_and c.from_residual.result c.from_residual.ensures.1 in (
+      λ after. absurd (let e : Err AfterError ≡ Err NoMemory = sym after ∙ (p.1 ∙ ap (λ x. Err x) p.2) in cc),
+      λ is_wrong. absurd (c.in_default.not-Stopped (when_wrong framing stream c.args.self.now is is_wrong)),
+    )

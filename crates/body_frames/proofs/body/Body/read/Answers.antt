@@ -1,4 +1,4 @@
-use Rattle.std.proofs.Common.{arith, length-drop, length-take}
+use Rattle.std.proofs.Common.{arith}
 use Rattle.std.proofs.lemmas.Result.{err_from_is_err_and}
 use Rattle.body_frames.proofs.Feeding.{reads_more, reads_stops}
 use Rattle.body_frames.proofs.body.Body.read.Goals as goal

@@ -1,4 +1,4 @@
-use Rattle.std.proofs.Common.{arith, rules, ◌≡◌, ℕ, List, [], ◌∷◌, ◌++◌, ◌&&◌, ◌==◌, true, false, refl, ap, sym, ◌∙◌, length, ◌+◌}
+use Rattle.std.proofs.Common.{arith, ◌≡◌, ◌++◌, ◌&&◌, ◌==◌, false, ap, ◌∙◌}
 use Rattle.std.proofs.lemmas.Bool.{and_left, and_right, ne_eqb}
 use Rattle.body_frames.specs.Lines.{line_text}
 use Rattle.body_frames.specs.Open.{last_cr}

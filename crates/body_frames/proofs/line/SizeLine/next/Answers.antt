@@ -1,4 +1,4 @@
-use Rattle.std.proofs.Common.{arith, rules, ◌≡◌, ℕ, List, [], ◌∷◌, ◌++◌, true, false, refl, Ok, Err, ap, sym, ◌∙◌, ◌||◌, ◌==◌}
+use Rattle.std.proofs.Common.{refl}
 use Rattle.std.proofs.lemmas.Result.{err_from_is_err_and}
 use Rattle.body_frames.proofs.SizeSteps.{goes_on, size_wrong, size_long, size_ended}
 use Rattle.body_frames.proofs.line.SizeLine.next.Goals as goal

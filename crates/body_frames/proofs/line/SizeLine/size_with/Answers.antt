@@ -1,8 +1,5 @@
-use Rattle.std.proofs.Common.{arith, rules, ◌≡◌, ◌≢◌, ℕ, ◌+◌, ◌*◌, ◌<◌, ◌≤◌, ◌^◌, List, [], ◌∷◌, ◌++◌, true, false, refl, Ok, Err, inl, inr}
+use Rattle.std.proofs.Common.{arith, ◌≡◌, ◌<◌, inl, inr}
 use Rattle.std.proofs.lemmas.Bool.{both_ways}
-use Rattle.std.specs.Char.{digit_value}
-use Rattle.body_frames.specs.Open.{SizeGoesOn}
-use Rattle.body_frames.specs.declared.BodyErr.TheVariants.{BadChunk}
 use Rattle.body_frames.proofs.SizeSteps.{in_extension, at_end, after_cr, digit_fits, digit_overflows, none_yet, other_byte, semicolon, cr_comes}
 use Rattle.body_frames.proofs.line.SizeLine.size_with.Goals as goal
 
@@ -36,8 +33,8 @@ pub returns-then-byte-eq13-clause-goes_on : goal.returns-then-byte-eq13-clause-g
 returns-then-byte-eq13-clause-goes_on c = λ came is.
     let some : 0 < c.args.self.line.len = omega (arith, λ (none : c.args.self.line.len ≡ 0). both_ways _ c.if-is_empty.false (c.is_empty.ensures.1 none)) in
     elim c.if-byte-eq13.either [
-      inl extension ↦ rw extension (semicolon came c.args.self is c.if-self.false c.if-self-2.false some)
-    | inr cr ↦ rw cr.1 (cr_comes came c.args.self is c.if-self.false c.if-self-2.false some)
+      | inl extension ↦ rw extension (semicolon came c.args.self is c.if-self.false c.if-self-2.false some)
+      | inr cr ↦ rw cr.1 (cr_comes came c.args.self is c.if-self.false c.if-self-2.false some)
     ]
 
 pub returns-else-byte-eq13-clause-goes_on : goal.returns-else-byte-eq13-clause-goes_on

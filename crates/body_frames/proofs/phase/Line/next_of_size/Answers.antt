@@ -1,4 +1,4 @@
-use Rattle.std.proofs.Common.{arith, ◌≡◌, refl, ap, sym, ◌∙◌}
+use Rattle.std.proofs.Common.{arith}
 use Rattle.std.proofs.lemmas.Result.{err_from_is_err_and}
 use Rattle.body_frames.proofs.Places.{size_opens, size_ends, last_size_ends, size_stops}
 use Rattle.body_frames.proofs.phase.Line.next_of_size.Goals as goal

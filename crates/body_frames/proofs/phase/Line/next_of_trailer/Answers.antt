@@ -1,4 +1,4 @@
-use Rattle.std.proofs.Common.{arith, ◌≡◌, refl, ap, sym, ◌∙◌, cond, ◌==◌, ◌<◌}
+use Rattle.std.proofs.Common.{arith, ◌≡◌, ◌<◌}
 use Rattle.std.proofs.lemmas.Bool.{both_ways}
 use Rattle.body_frames.proofs.Places.{trailer_opens, trailer_ends, body_ends, trailer_stops}
 use Rattle.body_frames.proofs.phase.Line.next_of_trailer.Goals as goal

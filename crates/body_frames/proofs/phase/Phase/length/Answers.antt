@@ -1,5 +1,3 @@
-use Rattle.std.proofs.Common.{◌∙◌, ap}
-use Rattle.body_frames.specs.Bodies.{Length, body_of}
 use Rattle.body_frames.proofs.Runs.{none_left}
 use Rattle.body_frames.proofs.phase.Phase.length.Goals as goal
 

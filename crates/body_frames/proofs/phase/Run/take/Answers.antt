@@ -1,4 +1,4 @@
-use Rattle.std.proofs.Common.{arith, ◌≡◌, ◌≤◌, ◌-◌, length, refl, ap, sym, ◌∙◌}
+use Rattle.std.proofs.Common.{arith, ◌-◌, length}
 use Rattle.body_frames.specs.Bodies.{Length, body_of}
 use Rattle.body_frames.specs.Reading.{Means, chunk_data}
 use Rattle.body_frames.proofs.Runs.{length_moves, chunk_moves, to_end_moves}
