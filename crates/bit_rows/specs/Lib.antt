@@ -1,0 +1,3 @@
+pub mod Kept
+pub mod Row
+pub mod Runs
