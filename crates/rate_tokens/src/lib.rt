@@ -1,0 +1,8 @@
+//! A token bucket, which says how many bytes may be read now so that a rate is kept.
+#![tactic(auto)]
+
+mod bucket;
+mod laws;
+
+pub use bucket::{Bucket, Take};
+pub use laws::{rate_is_kept, waits_are_exact};
