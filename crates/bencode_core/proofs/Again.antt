@@ -1,16 +1,14 @@
 -- What a value is spelled by is read as that value.
-use Rattle.std.proofs.Common.{◌≡◌, ℕ, zero, suc, ◌+◌, ◌^◌, ◌<◌, ◌≤◌, max, Bool, true, false, cond, eqb, ltb, ℤ, List, [], ◌∷◌, ◌++◌, length, take, drop, Option, Some, None, Result, Ok, Err, refl, sym, ◌∙◌, ap, subst, arith, inl, inr, append_assoc}
+use Rattle.std.proofs.Common.{◌≡◌, ℕ, zero, suc, ◌+◌, ◌^◌, ◌<◌, ◌≤◌, false, ℤ, List, [], ◌∷◌, ◌++◌, length, drop, Option, Some, None, Result, Ok, refl, arith, append_assoc}
 use Rattle.std.specs.Prelude.{IsTrue}
 use Rattle.std.specs.Fmt.{decimal, signed_decimal}
-use Rattle.std.specs.Char.{is_ascii_digit}
 use Rattle.std.specs.Str.Parse.{AllDigits}
 use lib.Signed.{mag}
-use Rattle.std.proofs.lemmas.Bool.{cases_Bool, ne_eqb, lt-ltb, cond-true, cond-false}
+use Rattle.std.proofs.lemmas.Bool.{lt-ltb}
 use Rattle.std.proofs.lemmas.List.{drop_at, length-append}
 use Rattle.std.proofs.lemmas.Fmt.{decimal_is_IsNumeral}
 use Rattle.bencode_core.specs.Value.{Value, Values, Members, integer, string, list, dict, no_values, value, no_members, member, spelling, spellings, member_spellings, string_spelling, depth, depths, member_depths, IsSound, AreSound, AreMembers, is_behind}
-use Rattle.bencode_core.specs.Reading.{◌>>=◌, or_fault, begins, kind_at, integer_at, narrowed, string_at, values_by, key_at, member_by, member_spelling, members_by, integer_value, string_value, list_value, dict_value, value_by, value_at}
-use Rattle.bencode_core.specs.declared.ben.BenKind.{BenKind}
+use Rattle.bencode_core.specs.Reading.{begins, kind_at, values_by, key_at, member_by, members_by, integer_value, string_value, list_value, dict_value, value_by, value_at}
 use Rattle.bencode_core.specs.declared.ben.BenKind.TheVariants as kinds
 use Rattle.bencode_core.specs.declared.fault.BenErr.{BenErr}
 use Rattle.bencode_core.proofs.Numbers.{digit_is}

@@ -1,14 +1,14 @@
 -- An integer or a string that is read is the one that was written, and what was written is read again.
-use Rattle.std.proofs.Common.{◌≡◌, ◌≢◌, ℕ, zero, suc, ◌+◌, ◌^◌, ◌<◌, ◌≤◌, Bool, true, false, cond, eqb, leb, ℤ, pos, negsuc, List, [], ◌∷◌, ◌++◌, length, get_or, take, drop, Option, Some, None, refl, sym, ◌∙◌, ap, subst, arith, inl, inr, append_assoc}
-use Rattle.std.specs.Prelude.{neg_ℤ, option_and_then, option_map}
+use Rattle.std.proofs.Common.{◌≡◌, ℕ, zero, suc, ◌^◌, ◌<◌, ◌≤◌, false, cond, eqb, leb, ℤ, pos, negsuc, List, [], ◌∷◌, ◌++◌, length, take, drop, Option, Some, None, refl, sym, ◌∙◌, ap, arith, inl, inr, append_assoc}
+use Rattle.std.specs.Prelude.{neg_ℤ, option_and_then}
 use Rattle.std.specs.Char.{is_ascii_digit}
 use Rattle.std.specs.Str.Parse.{AllDigits}
 use Rattle.std.specs.Fmt.{decimal, signed_decimal}
 use lib.Signed.{mag}
-use Rattle.std.proofs.lemmas.Bool.{cases_Bool, ne_eqb, both_ways, eqb-true, leb-true, le-leb}
+use Rattle.std.proofs.lemmas.Bool.{cases_Bool, ne_eqb, both_ways, leb-true, le-leb}
 use Rattle.std.proofs.lemmas.List.{take-append-drop, take_at, drop_at, length-append, length-take}
-use Rattle.std.proofs.lemmas.Fmt.{first_decimal, decimal_nonempty, decimal_is_IsNumeral}
-use Rattle.bencode_core.specs.Value.{integer, string, spelling, string_spelling}
+use Rattle.std.proofs.lemmas.Fmt.{decimal_is_IsNumeral}
+use Rattle.bencode_core.specs.Value.{string_spelling}
 use Rattle.bencode_core.specs.Reading.{begins, number_at, integer_at, string_at}
 use Rattle.bencode_core.proofs.Numbers.{some_is, mapped, guarded, begins_with, digit_is, number_takes, number_again, number_rest}
 

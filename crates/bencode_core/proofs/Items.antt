@@ -1,16 +1,15 @@
 -- The loop that reads the items of a list.
-use Rattle.std.proofs.Common.{◌≡◌, ℕ, zero, suc, ◌+◌, ◌-◌, ◌^◌, ◌<◌, ◌≤◌, Bool, true, false, cond, List, [], ◌∷◌, ◌++◌, length, take, drop, Option, Some, None, Result, Ok, Err, refl, sym, ◌∙◌, ap, subst, arith, append_assoc}
+use Rattle.std.proofs.Common.{◌≡◌, ℕ, suc, ◌+◌, ◌-◌, ◌^◌, ◌<◌, ◌≤◌, true, false, List, [], ◌∷◌, ◌++◌, length, drop, Option, Some, None, Result, Ok, Err, refl, sym, ◌∙◌, ap, arith}
 use Rattle.std.specs.Prelude.{IfSome}
 use Rattle.std.specs.Global.{Vec}
-use Rattle.std.proofs.lemmas.Bool.{cases_Bool}
-use Rattle.std.proofs.lemmas.List.{append-nil, length-append, length-drop, length_push}
-use Rattle.bencode_core.specs.Value.{Value, Values, list, no_values, value, spelling, spellings, depth, depths, IsValue, IsSound}
+use Rattle.std.proofs.lemmas.List.{length-append, length-drop, length_push}
+use Rattle.bencode_core.specs.Value.{Value, Values, list, no_values, value, spelling, spellings}
 use Rattle.bencode_core.specs.Placed.{Placed, placed_values}
-use Rattle.bencode_core.specs.Node.{values_in, value_of, IsBen}
+use Rattle.bencode_core.specs.Node.{values_in, IsBen}
 use Rattle.bencode_core.specs.Reading.{◌>>=◌, begins, values_by, list_value, told}
 use Rattle.bencode_core.specs.declared.ben.Node.TheVariants as nodes
 use Rattle.bencode_core.specs.declared.fault.BenErr.{BenErr}
-use Rattle.bencode_core.proofs.Takes.{Takes, TakesAll, IsReader, values_take}
+use Rattle.bencode_core.proofs.Takes.{IsReader, values_take}
 use Rattle.bencode_core.proofs.Again.{spelling_some}
 use Rattle.bencode_core.proofs.Pushed.{spellings-push}
 

@@ -1,9 +1,7 @@
 -- A value at the last level, and at one above it.
-use Rattle.std.proofs.Common.{◌≡◌, ℕ, zero, suc, ◌+◌, ◌-◌, ◌<◌, ◌≤◌, Bool, true, false, cond, List, Option, Some, None, Result, Ok, Err, refl, sym, ◌∙◌, ap, arith}
-use Rattle.bencode_core.specs.Value.{Value}
+use Rattle.std.proofs.Common.{◌≡◌, ℕ, zero, suc, ◌-◌, ◌<◌, true, false, List, Option, Err, refl, arith}
 use Rattle.bencode_core.specs.Reading.{kind_at, is_spelled, value_by, value_at}
 use Rattle.bencode_core.specs.declared.ben.BenKind.{BenKind}
-use Rattle.bencode_core.specs.declared.fault.BenErr.{BenErr}
 use Rattle.bencode_core.specs.declared.fault.BenErr.TheVariants.{Wrong, TooDeep}
 
 pub last_level : (levels place : ℕ) (bytes : List ℕ) → levels ≡ 0 → is_spelled bytes (kind_at bytes) ≡ true → value_at levels place bytes ≡ Err (TooDeep place)

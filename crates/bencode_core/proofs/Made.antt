@@ -1,14 +1,14 @@
 -- A value that is made of what was read keeps its invariant.
-use Rattle.std.proofs.Common.{◌≡◌, ℕ, zero, suc, ◌+◌, ◌-◌, ◌^◌, ◌<◌, ◌≤◌, Bool, true, false, cond, ltb, ℤ, List, [], ◌∷◌, ◌++◌, length, Option, Some, None, refl, sym, ◌∙◌, ap, subst, arith}
+use Rattle.std.proofs.Common.{◌≡◌, ℕ, ◌+◌, ◌-◌, ◌^◌, ◌<◌, ltb, ℤ, List, [], ◌∷◌, length, Option, Some, sym, ◌∙◌, ap, arith}
 use Rattle.std.specs.Prelude.{option_map}
-use Rattle.std.specs.Fmt.{decimal, signed_decimal}
+use Rattle.std.specs.Fmt.{signed_decimal}
 use Rattle.std.specs.Global.{Vec}
 use lib.Signed.{mag}
 use Rattle.std.proofs.lemmas.Bool.{ltb-true}
 use Rattle.std.proofs.lemmas.List.{length-append}
-use Rattle.bencode_core.specs.Value.{Value, integer, string, spelling, string_spelling, IsValue}
+use Rattle.bencode_core.specs.Value.{integer, spelling, string_spelling}
 use Rattle.bencode_core.specs.Reading.{integer_at, narrowed, string_at}
-use Rattle.bencode_core.specs.Node.{value_of, IsBen}
+use Rattle.bencode_core.specs.Node.{IsBen}
 use Rattle.bencode_core.specs.declared.ben.Node.TheVariants as nodes
 use Rattle.bencode_core.proofs.Numbers.{some_is, guarded, mapped}
 use Rattle.bencode_core.proofs.Fronts.{first_is, integer_takes, string_takes}

@@ -1,16 +1,16 @@
 -- The loop that reads the members of a dictionary.
-use Rattle.std.proofs.Common.{◌≡◌, ℕ, zero, suc, ◌+◌, ◌-◌, ◌^◌, ◌<◌, ◌≤◌, Bool, true, false, cond, List, [], ◌∷◌, ◌++◌, length, take, drop, Option, Some, None, Result, Ok, Err, refl, sym, ◌∙◌, ap, subst, arith, append_assoc}
+use Rattle.std.proofs.Common.{◌≡◌, ℕ, suc, ◌+◌, ◌-◌, ◌^◌, ◌<◌, ◌≤◌, true, false, List, [], ◌∷◌, ◌++◌, length, drop, Option, Some, None, Result, Ok, Err, refl, sym, ◌∙◌, ap, arith}
 use Rattle.std.specs.Prelude.{IfSome, option_map, slice_get}
 use Rattle.std.specs.Global.{Vec}
-use Rattle.std.proofs.lemmas.List.{append-nil, length-append, length-drop, length_push, map_push}
-use Rattle.bencode_core.specs.Value.{Value, Members, dict, no_members, member, spelling, string_spelling, member_spellings, depth, IsValue, IsSound}
+use Rattle.std.proofs.lemmas.List.{length-append, length-drop, length_push, map_push}
+use Rattle.bencode_core.specs.Value.{Value, Members, dict, no_members, member, spelling, string_spelling, member_spellings}
 use Rattle.bencode_core.specs.Placed.{Placed, placed_members}
-use Rattle.bencode_core.specs.Node.{members_in, pairs_of, last_key, value_of, IsBen}
+use Rattle.bencode_core.specs.Node.{members_in, pairs_of, last_key, IsBen}
 use Rattle.bencode_core.specs.Reading.{◌>>=◌, begins, member_by, member_spelling, members_by, dict_value, told}
 use Rattle.bencode_core.specs.declared.ben.Member.{Member}
 use Rattle.bencode_core.specs.declared.ben.Node.TheVariants as nodes
 use Rattle.bencode_core.specs.declared.fault.BenErr.{BenErr}
-use Rattle.bencode_core.proofs.Takes.{IsReader, TakesMember, member_takes, members_take}
+use Rattle.bencode_core.proofs.Takes.{IsReader, member_takes, members_take}
 use Rattle.bencode_core.proofs.Again.{spelling_some}
 use Rattle.bencode_core.proofs.Pushed.{member_spellings-push}
 

@@ -1,6 +1,6 @@
 -- The spelling of values as far as they were written.
-use Rattle.std.proofs.Common.{◌≡◌, ℕ, zero, suc, ◌+◌, ◌<◌, ◌≤◌, List, [], ◌∷◌, ◌++◌, length, take, get_or, refl, sym, ◌∙◌, ap, arith, append_assoc}
-use Rattle.std.proofs.lemmas.List.{take_more, append-nil, get_or_read}
+use Rattle.std.proofs.Common.{◌≡◌, ℕ, zero, suc, ◌+◌, ◌<◌, ◌≤◌, List, [], ◌∷◌, ◌++◌, length, take, get_or, sym, ◌∙◌, ap, arith, append_assoc}
+use Rattle.std.proofs.lemmas.List.{take_more, append-nil}
 use Rattle.bencode_core.specs.Value.{spelling, spellings, member_spellings, string_spelling, depth, depths, member_depths}
 use Rattle.bencode_core.specs.Placed.{Placed}
 use Rattle.bencode_core.specs.Node.{values_in, members_in}

@@ -1,18 +1,16 @@
 -- What is read is a value, and is spelled by the bytes that it was read from.
-use Rattle.std.proofs.Common.{◌≡◌, ℕ, zero, suc, ◌+◌, ◌^◌, ◌<◌, ◌≤◌, max, Bool, true, false, cond, eqb, ltb, ℤ, List, [], ◌∷◌, ◌++◌, length, take, drop, Option, Some, None, Result, Ok, Err, refl, sym, ◌∙◌, ap, subst, arith, inl, inr, append_assoc}
+use Rattle.std.proofs.Common.{◌≡◌, ℕ, zero, suc, ◌+◌, ◌^◌, ◌<◌, ◌≤◌, Bool, true, false, cond, eqb, ltb, ℤ, List, [], ◌∷◌, ◌++◌, length, drop, Option, Some, None, Result, Ok, Err, refl, sym, ◌∙◌, ap, subst, arith, inl, inr, append_assoc}
 use Rattle.std.specs.Prelude.{IsTrue}
-use Rattle.std.specs.Int.{w64}
 use Rattle.std.specs.Fmt.{signed_decimal}
 use Rattle.std.specs.Char.{is_ascii_digit}
 use lib.Signed.{mag}
-use Rattle.std.proofs.lemmas.Bool.{cases_Bool, eqb-true, ltb-true, cond-true, cond-false}
-use Rattle.std.proofs.lemmas.List.{take-append-drop, drop_at, length-append, length-drop}
+use Rattle.std.proofs.lemmas.Bool.{cases_Bool, eqb-true, ltb-true}
+use Rattle.std.proofs.lemmas.List.{drop_at, length-drop}
 use Rattle.bencode_core.specs.Value.{Value, Values, Members, integer, string, list, dict, no_values, value, no_members, member, spelling, spellings, member_spellings, string_spelling, depth, depths, member_depths, IsSound, AreSound, AreMembers, is_behind}
 use Rattle.bencode_core.specs.Reading.{◌>>=◌, or_fault, begins, kind_at, integer_at, narrowed, string_at, values_by, key_at, member_by, member_spelling, members_by, integer_value, string_value, list_value, dict_value, value_by, value_at}
-use Rattle.bencode_core.specs.declared.ben.BenKind.{BenKind}
 use Rattle.bencode_core.specs.declared.ben.BenKind.TheVariants as kinds
 use Rattle.bencode_core.specs.declared.fault.BenErr.{BenErr}
-use Rattle.bencode_core.specs.declared.fault.BenErr.TheVariants.{Wrong, TooDeep, TooWide}
+use Rattle.bencode_core.specs.declared.fault.BenErr.TheVariants.{Wrong, TooWide}
 use Rattle.bencode_core.proofs.Numbers.{some_is, guarded, begins_with}
 use Rattle.bencode_core.proofs.Fronts.{integer_takes, string_takes}
 
@@ -94,7 +92,7 @@ module _ (levels : ℕ) (one : ℕ → List ℕ → Result Value BenErr) (reads 
             let a = bind_ok (one place bytes) (λ v. values_by one turns (place + length (spelling v)) (drop (length (spelling v)) bytes) >>= λ ws. Ok (value v ws)) vs (rw more at is) in
             let b = bind_ok (values_by one turns (place + length (spelling a.0)) (drop (length (spelling a.0)) bytes)) (λ ws. Ok (value a.0 ws)) vs a.2 in
             let others = values_take turns (place + length (spelling a.0)) (drop (length (spelling a.0)) bytes) b.0 (drop_fits (length (spelling a.0)) bytes fits) b.1 in
-            subst (λ (ws : Values). TakesAll levels ws bytes) (ok_is (value a.0 b.0) vs b.2) (one_more a.0 b.0 bytes (reads place bytes a.0 fits a.1) others)
+            subst (λ (ws : Values). TakesAll levels ws bytes) {x = value a.0 b.0} (ok_is (value a.0 b.0) vs b.2) (one_more a.0 b.0 bytes (reads place bytes a.0 fits a.1) others)
       ]
 
   -- ---- members
@@ -152,7 +150,7 @@ module _ (levels : ℕ) (one : ℕ → List ℕ → Result Value BenErr) (reads 
             let len = length (member_spelling a.0) in
             let b = bind_ok (members_by one turns (Some a.0.0) (place + len) (drop len bytes)) (λ ns. Ok (member a.0.0 a.0.1 ns)) ms a.2 in
             let others = members_take turns (Some a.0.0) (place + len) (drop len bytes) b.0 (drop_fits len bytes fits) b.1 in
-            subst (λ (ns : Members). TakesMembers levels before ns bytes) (ok_is (member a.0.0 a.0.1 b.0) ms b.2) (one_more_member before a.0 b.0 bytes (member_takes before place bytes a.0 fits a.1) others)
+            subst (λ (ns : Members). TakesMembers levels before ns bytes) {x = member a.0.0 a.0.1 b.0} (ok_is (member a.0.0 a.0.1 b.0) ms b.2) (one_more_member before a.0 b.0 bytes (member_takes before place bytes a.0 fits a.1) others)
       ]
 
   -- ---- a value of each kind

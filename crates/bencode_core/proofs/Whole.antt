@@ -1,12 +1,12 @@
 -- Reading all of the input gives exactly what the bytes spell.
-use Rattle.std.proofs.Common.{◌≡◌, ℕ, zero, suc, ◌+◌, ◌^◌, ◌<◌, ◌≤◌, Bool, true, false, cond, eqb, List, [], ◌∷◌, ◌++◌, length, drop, Option, Some, None, Result, Ok, Err, refl, sym, ◌∙◌, ap, subst, arith}
-use Rattle.std.specs.Prelude.{IfOk, IfSome}
+use Rattle.std.proofs.Common.{◌≡◌, ℕ, ◌^◌, ◌<◌, cond, eqb, List, [], ◌++◌, length, Result, Ok, Err, refl, sym, ◌∙◌, ap, subst, arith}
+use Rattle.std.specs.Prelude.{IfOk}
 use Rattle.std.proofs.lemmas.Bool.{eqb-true, eq-eqb}
 use Rattle.std.proofs.lemmas.List.{append-nil, append_cancel_left, length-append, nil_from_length}
 use Rattle.dl_words.specs.Answers.{Gives}
-use Rattle.bencode_core.specs.Value.{Value, spelling, IsValue, Spells}
+use Rattle.bencode_core.specs.Value.{Value, spelling, Spells}
 use Rattle.bencode_core.specs.Placed.{Placed}
-use Rattle.bencode_core.specs.Reading.{◌>>=◌, value_at, reading, told}
+use Rattle.bencode_core.specs.Reading.{value_at, reading, told}
 use Rattle.bencode_core.specs.declared.fault.BenErr.{BenErr}
 use Rattle.bencode_core.specs.declared.fault.BenErr.TheVariants.{Trailing}
 use Rattle.bencode_core.proofs.Takes.{bind_ok, ok_is, test_ok, Takes, value_takes}

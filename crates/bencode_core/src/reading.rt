@@ -11,6 +11,9 @@ use crate::fault::BenErr;
 use crate::scalars::{begins, integer_at, string_at};
 use std::alloc::Global;
 
+/// How many values may stand one in the other.
+const LEVELS: u32 = 100;
+
 /// What the first byte begins.
 fn kind_at(bytes: &[u8]) -> Option<BenKind>
     ensures { result ≡ specs.kind_at bytes.now }
@@ -211,7 +214,7 @@ fn whole(alloc: Global, bytes: &[u8]) -> Result<Ben, BenErr>
     ensures exact { Gives (λ b. b.value) specs.told result (specs.reading bytes.now) }
     ensures place { IfOk result (λ b. b.place ≡ 0) }
 {
-    let value = value_at(alloc, 100, 0, bytes)?;
+    let value = value_at(alloc, LEVELS, 0, bytes)?;
     let len = value.spelled_len();
     if len as usize != bytes.len() {
         return Err(BenErr::Trailing { at: len });

@@ -1,4 +1,4 @@
-use Rattle.std.proofs.Common.{ℕ, ◌+◌, ◌*◌, length}
+use Rattle.std.proofs.Common.{◌+◌, ◌*◌, length}
 use Rattle.bencode_core.specs.Reading.{value_at}
 use Rattle.bencode_core.proofs.Items.{ReadsItems}
 use Rattle.bencode_core.proofs.Pairs.{ReadsMembers}
