@@ -1,4 +1,4 @@
--- What stands in a value is less deep than the value.
+-- The law of a value's model: what stands in a value is less deep than the value.
 use Rattle.std.specs.Prelude.{◌≤◌, ◌+◌, max, List, [], ◌∷◌}
 use Rattle.std.proofs.Common.{arith}
 use denote.Param.Weighed.{most}

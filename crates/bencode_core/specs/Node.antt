@@ -6,6 +6,7 @@ use Rattle.bencode_core.specs.declared.ben.Node.{Node}
 use Rattle.bencode_core.specs.declared.ben.Member.{Member}
 use Rattle.bencode_core.specs.declared.ben.Node.TheVariants as nodes
 
+-- values without their places
 abbrev pub values_in : List Placed → Values
 values_in [] = no_values
 values_in (p ∷ ps) = value p.value (values_in ps)
@@ -14,6 +15,7 @@ abbrev pub members_in : List Member → Members
 members_in [] = no_members
 members_in (m ∷ ms) = member m.key.items m.value.value (members_in ms)
 
+-- what the fields stand for
 abbrev pub value_of : Node → Value
 value_of (nodes.Integer z) = integer z
 value_of (nodes.String bytes) = string bytes.items
@@ -31,6 +33,7 @@ HasPlaces start (nodes.String bytes) = Unit {0}
 HasPlaces start (nodes.List items) = items.items ≡ placed_values (start + 1) (values_in items.items)
 HasPlaces start (nodes.Dict members) = pairs_of members.items ≡ placed_members (start + 1) (members_in members.items)
 
+-- what the fields keep
 pub record IsBen (start end : ℕ) (node : Node) : Type 0 where
   pub is_value : IsValue (value_of node)
   pub places : HasPlaces start node

@@ -37,6 +37,7 @@ placed_members place (member key v ms) =
     let behind_key = place + length (string_spelling key) in
     (key, record { place = behind_key; value = v }) ∷ placed_members (behind_key + length (spelling v)) ms
 
+-- what a list holds, and nothing of another kind
 abbrev pub items_at : ℕ → Value → List Placed
 items_at place (list vs) = placed_values (place + 1) vs
 items_at place _ = []
@@ -44,6 +45,7 @@ items_at place _ = []
 abbrev pub items_of : Placed → List Placed
 items_of p = items_at p.place p.value
 
+-- what a dictionary holds, and nothing of another kind
 abbrev pub members_at : ℕ → Value → List (List ℕ × Placed)
 members_at place (dict ms) = placed_members (place + 1) ms
 members_at place _ = []
@@ -51,7 +53,7 @@ members_at place _ = []
 abbrev pub members_of : Placed → List (List ℕ × Placed)
 members_of p = members_at p.place p.value
 
--- the value of the key
+-- the value of the key in a dictionary
 abbrev pub member_of : List ℕ → Placed → Option Placed
 member_of key p = option_map (λ m. m.1) (find (λ m. bytes_eq m.0 key) (members_of p))
 

@@ -11,11 +11,13 @@ use Rattle.bencode_core.specs.declared.ben.BenKind.TheVariants as kinds
 use Rattle.bencode_core.specs.declared.fault.BenErr.{BenErr}
 use Rattle.bencode_core.specs.declared.fault.BenErr.TheVariants.{Wrong, TooDeep, TooWide, Trailing, NoMemory}
 
+-- the next step, unless this one failed
 infixl 10 ◌>>=◌
 abbrev pub ◌>>=◌ : {A B : Type 0} → Result A BenErr → (A → Result B BenErr) → Result B BenErr
 (Ok x) >>= f = f x
 (Err e) >>= f = Err e
 
+-- what is there, or else the fault
 abbrev pub or_fault : {A : Type 0} → BenErr → Option A → Result A BenErr
 or_fault fault None = Err fault
 or_fault fault (Some x) = Ok x
@@ -27,6 +29,7 @@ begins byte (b ∷ bytes) = b == byte
 
 -- ---- integers and strings
 
+-- the digits at the front
 abbrev pub digits_at : List ℕ → List ℕ
 digits_at bytes = take_while is_ascii_digit bytes
 
@@ -70,7 +73,8 @@ kind_at (b ∷ bytes) =
     else if is_ascii_digit b then Some kinds.String
     else None
 
--- the values up to the "e", each read by one, and no more than turns
+-- The values up to the "e", each read by one. A value has a byte at least, so that as many turns as there are bytes
+-- are never used up.
 unfoldable pub values_by : (ℕ → List ℕ → Result Value BenErr) → ℕ → ℕ → List ℕ → Result Values BenErr
 values_by one zero place bytes = Err (Wrong place)
 values_by one (suc turns) place bytes =
@@ -85,6 +89,7 @@ key_at before place bytes = do
   key ← or_fault (Wrong place) (string_at bytes)
   if is_behind before key.0 then Ok key.0 else Err (Wrong place)
 
+-- a key and its value, which is read by one
 unfoldable pub member_by : (ℕ → List ℕ → Result Value BenErr) → Option (List ℕ) → ℕ → List ℕ → Result (List ℕ × Value) BenErr
 member_by one before place bytes = do
   key ← key_at before place bytes
@@ -94,7 +99,7 @@ member_by one before place bytes = do
 abbrev pub member_spelling : List ℕ × Value → List ℕ
 member_spelling m = string_spelling m.0 ++ spelling m.1
 
--- the members up to the "e"
+-- the members up to the "e", behind a key
 unfoldable pub members_by : (ℕ → List ℕ → Result Value BenErr) → ℕ → Option (List ℕ) → ℕ → List ℕ → Result Members BenErr
 members_by one zero before place bytes = Err (Wrong place)
 members_by one (suc turns) before place bytes =
@@ -103,7 +108,7 @@ members_by one (suc turns) before place bytes =
       ms ← members_by one turns (Some m.0) (place + length (member_spelling m)) (drop (length (member_spelling m)) bytes)
       Ok (member m.0 m.1 ms))
 
--- ---- a value of each kind; there are no more parts than bytes
+-- ---- a value of each kind, whose parts are read by one
 
 unfoldable pub integer_value : ℕ → List ℕ → Result Value BenErr
 integer_value place bytes = do
@@ -126,7 +131,7 @@ dict_value one place bytes = do
   ms ← members_by one (length bytes) None (place + 1) (drop 1 bytes)
   Ok (dict ms)
 
--- a value whose parts are read by one
+-- a value of this kind
 abbrev pub value_by : (ℕ → List ℕ → Result Value BenErr) → ℕ → List ℕ → Option BenKind → Result Value BenErr
 value_by one place bytes None = Err (Wrong place)
 value_by one place bytes (Some kinds.Integer) = integer_value place bytes
@@ -142,12 +147,13 @@ is_spelled bytes (Some kinds.String) = is_some (string_at bytes)
 is_spelled bytes (Some kinds.List) = true
 is_spelled bytes (Some kinds.Dict) = true
 
--- a value at the front that is at most so many levels deep
+-- A value at the front that may be so many levels deep. Below the last level stands none: a number or a string is
+-- faulted first where it isn't spelled.
 unfoldable pub value_at : ℕ → ℕ → List ℕ → Result Value BenErr
 value_at zero place bytes = Err (if is_spelled bytes (kind_at bytes) then TooDeep place else Wrong place)
 value_at (suc levels) place bytes = value_by (value_at levels) place bytes (kind_at bytes)
 
--- all of the input
+-- the value that the input spells, all of it, or the first fault
 unfoldable pub reading : List ℕ → Result Value BenErr
 reading bytes = do
   v ← value_at 100 0 bytes

@@ -25,6 +25,8 @@ mutual
 abbrev pub string_spelling : List ℕ → List ℕ
 string_spelling bytes = decimal (length bytes) ++ codes ":" ++ bytes
 
+-- An integer is "i", its decimal and "e"; a list is "l", its values and "e"; a dictionary is "d", each key with its
+-- value and "e".
 abbrev mutual
   pub spelling : Value → List ℕ
   spelling (integer z) = codes "i" ++ signed_decimal z ++ codes "e"
@@ -77,7 +79,7 @@ abbrev mutual
   AreMembers before no_members = Unit {0}
   AreMembers before (member key v ms) = IsTrue (is_behind before key) × IsSound v × AreMembers (Some key) ms
 
--- what has a spelling: at most 100 deep, and with places of 32 bits
+-- what has a spelling: it is at most 100 deep, and spelled by fewer than 2 ^ 32 bytes
 pub record IsValue (v : Value) : Type 0 where
   pub sound : IsSound v
   pub depth : depth v ≤ 100

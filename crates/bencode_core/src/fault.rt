@@ -8,14 +8,14 @@ use thiserror::Error;
 /// The first fault from left to right, and at which byte it stands.
 #[derive(Clone, Copy, Debug, PartialEq, Eq, Error)]
 pub enum BenErr {
-    /// None of what may stand here is spelled. A string that is cut and a key that doesn't ascend are faulted at
-    /// their first byte.
+    /// None of what may stand here is spelled: a value, a key or an "e". A string that is cut and a key that doesn't
+    /// ascend are faulted at their first byte.
     #[error("wrong at byte {at}")]
     Wrong { at: u32 },
     /// A value stands in a hundred others.
     #[error("too deep at byte {at}")]
     TooDeep { at: u32 },
-    /// An integer has more than 64 bits.
+    /// An integer has more than 64 bits with its sign.
     #[error("too wide an integer at byte {at}")]
     TooWide { at: u32 },
     /// A byte follows the value.

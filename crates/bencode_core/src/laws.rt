@@ -1,10 +1,11 @@
 // The laws of the grammar.
 ghost use Rattle.std.specs.Prelude.{◌≡◌, ◌↔◌, ℕ, List, ◌++◌, ◌^◌, ◌<◌, Ok, length};
-ghost use Rattle.bencode_core.specs.Value.{Value, Spells};
+ghost use Rattle.bencode_core.specs.Value.{Value, IsValue, Spells, spelling};
 ghost use Rattle.bencode_core.specs.Reading.{reading};
 
 /// A value has one spelling, and bytes spell one value.
 pub fn one_spelling()
+    ensures spelled { (v : Value) → IsValue v → Spells v (spelling v) }
     ensures bytes { (v : Value) (a b : List ℕ) → Spells v a → Spells v b → a ≡ b }
     ensures value { (v w : Value) (bytes : List ℕ) → Spells v bytes → Spells w bytes → v ≡ w }
 {}

@@ -12,4 +12,3 @@ mod writing;
 pub use ben::{Ben, BenKind, Member};
 pub use fault::BenErr;
 pub use laws::{no_spelling_begins_another, one_spelling, reads_what_is_spelled};
-pub use std::alloc::AllocError as NoMemory;

@@ -226,8 +226,9 @@ impl Ben {
     ghost use Rattle.std.specs.Prelude.{Ok};
     ghost use Rattle.bencode_core.specs.Value.{Value, Spells};
 
-    /// The value that the bytes spell, all of them: fewer than 2^32. An error but want of memory is the first fault
-    /// in reading order.
+    /// The value that the bytes spell, all of them. An error but want of memory is the first fault from left to
+    /// right; at one byte Wrong comes before TooDeep, and that before TooWide. Time and memory are in proportion to
+    /// the bytes, and the stack is that of a hundred levels at most.
     pub fn read(alloc: Global, bytes: &[u8]) -> Result<Ben, BenErr>
         requires { length bytes.now < 2 ^ 32 }
         // What is read is spelled by the bytes.

@@ -11,6 +11,7 @@ impl Ben {
     pub fn write(&self, alloc: Global) -> Result<Vec<u8>, AllocError>
         ensures { IfOk result (λ out. Spells self.now.value out.items) }
     {
+        // The fields say that the value has a spelling.
         let _ = &self.node;
         let mut out = Vec::new(alloc);
         push_value(alloc, &mut out, self)?;
