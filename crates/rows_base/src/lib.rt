@@ -1,0 +1,13 @@
+//! Worked cases of the crates below the run: what the standards, the manual and plain reckoning want of each.
+#![tactic(auto)]
+
+#[cfg(test)]
+mod bencoding;
+#[cfg(test)]
+mod bodies;
+#[cfg(test)]
+mod heads;
+#[cfg(test)]
+mod layouts;
+#[cfg(test)]
+mod numbers;
