@@ -1,9 +1,9 @@
 -- A body as its stream goes on.
-use Rattle.std.proofs.Common.{◌≡◌, ◌≢◌, ℕ, zero, suc, ◌+◌, ◌-◌, ◌<◌, ◌≤◌, ◌==◌, ◌⊎◌, true, false, cond, List, [], ◌∷◌, ◌++◌, length, take, drop, Result, Ok, Err, refl, sym, ap, subst, ◌∙◌, inl, inr, arith, append-nil, append_assoc, length-append, length-drop, take-append-drop}
+use Rattle.std.proofs.Common.{◌≡◌, ◌≢◌, ℕ, zero, suc, ◌+◌, ◌-◌, ◌<◌, ◌≤◌, ◌==◌, ◌⊎◌, true, false, cond, List, [], ◌∷◌, ◌++◌, length, take, drop, Result, Ok, Err, refl, sym, ap, subst, ◌∙◌, inl, inr, arith, append-nil, append_assoc, length-append, length-drop, take-append-drop, zero-le}
 use Rattle.std.proofs.lemmas.Bool.{cases_lt, cases_Bool, le-leb, lt-leb}
 use Rattle.std.proofs.lemmas.List.{take_all, drop_all, nil_from_length, take-append-le, drop-append-le, drop_at}
 use Rattle.body_frames.specs.Lines.{Standing, Whole, Short, Wrong, line_text, line_at, size_line, chunk_size}
-use Rattle.body_frames.specs.Bodies.{Framing, Length, Chunked, ToEnd, StreamBody, bare, with_front, behind, trailers, body_of, content_of, used_of, IsOver, IsWrong}
+use Rattle.body_frames.specs.Bodies.{Framing, Length, Chunked, ToEnd, StreamBody, bare, with_front, behind, trailers, chunks, body_of, content_of, used_of, IsOver, IsWrong}
 use Rattle.body_frames.specs.Open.{may_be_size}
 use Rattle.body_frames.specs.Reading.{chunk_end, chunk_data}
 use Rattle.body_frames.specs.declared.BodyErr.{BodyErr}
@@ -260,3 +260,10 @@ unfolding body_of
 used_till_over (Length len) a going = (goes_on (Length len) a [] (λ e. cc)).unused (λ whole. going (whole, λ e. cc))
 used_till_over Chunked a going = (goes_on Chunked a [] (λ e. cc)).unused (λ whole. going (whole, λ e. cc))
 used_till_over ToEnd a going = refl
+
+-- No content is in no stream.
+pub nothing_yet : (framing : Framing) → content_of framing [] ≡ []
+unfolding body_of chunks
+nothing_yet (Length len) = take_all len [] zero-le
+nothing_yet Chunked = refl
+nothing_yet ToEnd = refl

@@ -1,11 +1,12 @@
-pub mod LineText
-pub mod SizeText
-pub mod SizeSteps
-pub mod LineAt
-pub mod Steady
-pub mod Chunks
-pub mod Places
-pub mod Runs
-pub mod Law
-pub mod Still
-pub mod Feeding
+mod Chunks
+mod Feeding
+mod Law
+mod LineAt
+mod LineText
+mod Places
+mod Rows
+mod Runs
+mod SizeSteps
+mod SizeText
+mod Steady
+mod Still

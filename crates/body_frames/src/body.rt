@@ -18,7 +18,8 @@ pub struct Body {
 impl Body {
     /// A body of so many bytes.
     pub fn length(n: u64) -> Self
-        ensures { IsFed (Length n) [] result }
+        ensures fed { IsFed (Length n) [] result }
+        ensures nothing_yet { content_of (Length n) [] ≡ [] }
     {
         Body {
             phase: Phase::length(n),
@@ -27,7 +28,8 @@ impl Body {
 
     /// A body in chunks.
     pub fn chunked() -> Self
-        ensures { IsFed Chunked [] result }
+        ensures fed { IsFed Chunked [] result }
+        ensures nothing_yet { content_of Chunked [] ≡ [] }
     {
         Body {
             phase: Phase::Line(Line::Size(SizeLine::new())),
@@ -36,7 +38,8 @@ impl Body {
 
     /// A body that ends where its stream ends.
     pub fn to_end() -> Self
-        ensures { IsFed ToEnd [] result }
+        ensures fed { IsFed ToEnd [] result }
+        ensures nothing_yet { content_of ToEnd [] ≡ [] }
     {
         Body {
             phase: Phase::Content(Run::ToEnd),
