@@ -1,0 +1,5 @@
+pub mod Kept
+pub mod NewRuns
+pub mod Progress
+pub mod Steps
+pub mod Sums
