@@ -1,1 +1,11 @@
+pub mod Clearing
+pub mod Counts
+pub mod Fills
+pub mod Givers
+pub mod Landing
+pub mod Parts
+pub mod Settling
 pub mod SoFar
+pub mod Starting
+pub mod Taking
+pub mod Weights

@@ -3,3 +3,4 @@ pub mod NewRuns
 pub mod Progress
 pub mod Steps
 pub mod Sums
+pub mod View

@@ -1,5 +1,5 @@
 -- What a download has of its payload (BEP 3: a piece is right where its SHA-1 digest is the listed one).
-use Rattle.std.specs.Prelude.{◌≡◌, ◌↔◌, ◌⊎◌, ℕ, ◌*◌, ◌<◌, Bool, true, false, List, All, length, slice_get, Some}
+use Rattle.std.specs.Prelude.{◌≡◌, ◌↔◌, ◌⊎◌, ℕ, ◌*◌, ◌<◌, Bool, true, false, List, All, count_by, length, slice_get, Some}
 use Rattle.dl_kinds.specs.Plan.{full_blocks, blocks_of, blocks_of_piece, pieces_of, piece_of}
 use Rattle.dl_words.specs.Lists.{part_at}
 use Rattle.piece_table.specs.declared.giver.Giver.{Giver}
@@ -18,6 +18,10 @@ pub record Progress : Type 0 where
 -- the part of a list with a place for each block that has the piece's blocks
 abbrev pub piece_part : {A : Type 0} → ℕ → ℕ → List A → ℕ → List A
 piece_part total piece_len xs piece = part_at xs (piece * full_blocks piece_len) (blocks_of_piece total piece_len piece)
+
+-- how many blocks of the piece are landed
+abbrev pub landed_count : ℕ → ℕ → List Bool → ℕ → ℕ
+landed_count total piece_len landed piece = count_by (λ is. is) (piece_part total piece_len landed piece)
 
 -- all blocks of the piece are landed
 abbrev pub IsFull : ℕ → ℕ → List Bool → ℕ → Type 0

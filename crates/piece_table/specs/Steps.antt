@@ -1,19 +1,19 @@
 -- What a landing, a verdict and the others make of a download's progress.
-use Rattle.std.specs.Prelude.{ℕ, ◌+◌, ◌*◌, ◌==◌, nat_lt, ◌++◌, Bool, true, false, not, if◌then◌else◌, List, length, map, take, drop, replicate, slice_set, slice_index_or, count_by}
-use Rattle.std.specs.List.{range_with_len, list_any}
+use Rattle.std.specs.Prelude.{ℕ, ◌+◌, ◌*◌, ◌==◌, nat_lt, ◌++◌, Bool, true, false, not, if◌then◌else◌, List, length, map, take, drop, replicate, slice_set, slice_index_or}
+use Rattle.std.specs.List.{range_with_len}
 use Rattle.dl_kinds.specs.Plan.{full_blocks, blocks_of_piece}
 use Rattle.dl_kinds.specs.declared.runs.Run.{Run}
 use Rattle.piece_table.specs.declared.giver.Giver.{Giver}
 use Rattle.piece_table.specs.declared.giver.Giver.TheVariants.{Nobody, One, Mixed}
-use Rattle.piece_table.specs.Progress.{Progress, piece_part}
+use Rattle.piece_table.specs.Progress.{Progress, landed_count}
 
 -- the list with one value at count places from first on
 abbrev pub filled : {A : Type 0} → A → ℕ → ℕ → List A → List A
 filled value first count xs = take first xs ++ (replicate count value ++ drop (first + count) xs)
 
--- blocks that are there at the start came from nobody known
-abbrev pub giver_at_start : List Bool → Giver
-giver_at_start landed = if list_any (λ is. is) landed then Mixed else Nobody
+-- blocks that are landed at the start came from nobody known
+abbrev pub giver_at_start : ℕ → Giver
+giver_at_start landed = if landed == 0 then Nobody else Mixed
 
 -- at the start, with these pieces verified and these blocks landed
 abbrev pub started : ℕ → ℕ → List Bool → List Bool → Progress
@@ -25,7 +25,7 @@ started total piece_len verified landed =
       verified = verified;
       sole = replicate (length verified) false;
       wrong = replicate (length verified) false;
-      givers = map (λ piece. giver_at_start (piece_part total piece_len landed piece)) (range_with_len 0 (length verified));
+      givers = map (λ piece. giver_at_start (landed_count total piece_len landed piece)) (range_with_len 0 (length verified));
     }
 
 -- who gave the landed blocks of a piece once the mirror gave one more
@@ -37,7 +37,7 @@ with_giver Mixed mirror = Mixed
 -- more blocks of the piece are landed than before
 abbrev pub has_gained : ℕ → ℕ → List Bool → List Bool → ℕ → Bool
 has_gained total piece_len before after piece =
-    nat_lt (count_by (λ is. is) (piece_part total piece_len before piece)) (count_by (λ is. is) (piece_part total piece_len after piece))
+    nat_lt (landed_count total piece_len before piece) (landed_count total piece_len after piece)
 
 -- the givers once a mirror made the landed blocks before those after
 abbrev pub givers_after : Progress → List Bool → ℕ → List Giver

@@ -1,9 +1,13 @@
 //! What a download has of its payload: its landed blocks, who gave them, and its verified pieces.
 #![tactic(auto)]
 
+mod blocks;
 mod giver;
 mod new_runs;
+mod start;
+mod table;
 
 pub use giver::Giver;
 pub use new_runs::NewRuns;
 pub use std::alloc::AllocError as NoMemory;
+pub use table::Table;

@@ -1,7 +1,7 @@
 use Rattle.std.proofs.Common.{ℕ, Bool, List, ◌≡◌, ◌+◌, slice_get, arith, sym, ap, subst, ◌∙◌}
 use Rattle.dl_kinds.specs.declared.runs.Run.{Run}
 use Rattle.piece_table.specs.NewRuns.{AreNewRuns}
-use Rattle.piece_table.proofs.SoFar.{AreSoFar, none, grown, ended, whole}
+use Rattle.piece_table.proofs.SoFar.{AreSoFar, grown, ended, whole}
 use Rattle.piece_table.proofs.new_runs.new_runs.Goals as goal
 use Rattle.piece_table.proofs.new_runs.new_runs.Goals.{then-get, else-get}
 
@@ -16,18 +16,18 @@ loop-block-preserved c =
     let landed = c.args.landed.now in
     let inv = c.loop-block.invariant in
     elim c.if-get.branch [
-      then-get w ↦
-        record {
-          so_far = same landed c.args.run.first _ c.if-get.runs _ c.if-get.last (w.runs-is ∙ w.close.ensures) w.last-is
-              (ended landed c.args.run.first c.loop-block.block c.loop-block.runs c.loop-block.last inv.so_far inv.end w.if-get.ensures);
-          end = ap (λ (r : Run). r.first + r.count) w.last-is ∙ omega arith;
-        }
-    | else-get w ↦
-        record {
-          so_far = same landed c.args.run.first _ c.if-get.runs _ c.if-get.last w.runs-is w.last-is
-              (grown landed c.args.run.first c.loop-block.runs c.loop-block.last inv.so_far (ap (slice_get landed) inv.end ∙ w.if-get.ensures));
-          end = ap (λ (r : Run). r.first + r.count) w.last-is ∙ omega arith;
-        }
+      | then-get w ↦
+          record {
+            so_far = same landed c.args.run.first _ c.if-get.runs _ c.if-get.last (w.runs-is ∙ w.close.ensures) w.last-is
+                (ended landed c.args.run.first c.loop-block.block c.loop-block.runs c.loop-block.last inv.so_far inv.end w.if-get.ensures);
+            end = ap (λ (r : Run). r.first + r.count) w.last-is ∙ omega arith;
+          }
+      | else-get w ↦
+          record {
+            so_far = same landed c.args.run.first _ c.if-get.runs _ c.if-get.last w.runs-is w.last-is
+                (grown landed c.args.run.first c.loop-block.runs c.loop-block.last inv.so_far (ap (slice_get landed) inv.end ∙ w.if-get.ensures));
+            end = ap (λ (r : Run). r.first + r.count) w.last-is ∙ omega arith;
+          }
     ]
 
 pub returns : goal.returns
