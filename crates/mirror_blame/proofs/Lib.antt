@@ -1,0 +1,10 @@
+mod Best
+mod Counted
+mod Dead
+mod KeptLemmas
+mod ListLemmas
+mod Newest
+mod PlaceLemmas
+mod Runs
+mod Sums
+mod Uses
