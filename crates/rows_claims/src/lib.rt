@@ -1,0 +1,5 @@
+//! Worked cases of the table of a download and of the marks of its mirrors.
+#![tactic(auto)]
+
+#[cfg(test)]
+mod tables;
