@@ -1,12 +1,11 @@
 -- When a piece is dead, and how many marks a mirror has.
-use Rattle.std.proofs.Common.{◌≡◌, ℕ, ◌+◌, ◌*◌, ◌<◌, ◌≤◌, List, [], ◌∷◌, Bool, true, false, cond, length, refl, sym, ◌∙◌, ap, subst, arith, inl, inr}
-use Rattle.std.specs.Prelude.{count_by, filter, nat_lt, ◌==◌, ◌&&◌, ◌↔◌, All}
+use Rattle.std.proofs.Common.{◌≡◌, ℕ, ◌+◌, ◌*◌, ◌<◌, ◌≤◌, List, [], ◌∷◌, cond, length, refl, sym, ◌∙◌, ap, subst, arith}
+use Rattle.std.specs.Prelude.{count_by, filter, nat_lt, ◌==◌, ◌&&◌, ◌↔◌}
 use Rattle.std.proofs.lemmas.List.Sums.{length-filter}
-use Rattle.std.proofs.lemmas.Bool.{cases_lt}
 use Rattle.std.proofs.lemmas.Bool.Decides.{nat_tests}
 use Rattle.mirror_blame.specs.declared.blame.Blame.{Blame}
 use Rattle.mirror_blame.specs.declared.places.Place.{Place}
-use Rattle.mirror_blame.specs.Marks.{is_of, tries_of, IsEligible, IsDead}
+use Rattle.mirror_blame.specs.Marks.{is_of, IsEligible, IsDead}
 use Rattle.mirror_blame.specs.Places.{stands_at, is_within, places_of, ArePlaces}
 use Rattle.mirror_blame.specs.Kept.{AreMarks}
 use Rattle.mirror_blame.proofs.ListLemmas.{count_by-cons, count_by_alike, count_by_alike_within, filter_alike}

@@ -1,6 +1,6 @@
 -- What the parts of the marks keep.
-use Rattle.std.proofs.Common.{◌≡◌, ℕ, ◌+◌, ◌-◌, ◌*◌, ◌<◌, ◌≤◌, min, List, [], ◌∷◌, ◌++◌, Bool, true, false, cond, length, take, get_or, set, replicate, refl, sym, ◌∙◌, ap, subst, arith, inl, inr, zero-add, ◌^◌}
-use Rattle.std.specs.Prelude.{count_by, filter, reverse, ◌==◌, ◌&&◌, if◌then◌else◌}
+use Rattle.std.proofs.Common.{◌≡◌, ℕ, ◌+◌, ◌-◌, ◌<◌, ◌≤◌, List, [], ◌∷◌, ◌++◌, Bool, true, false, cond, length, take, get_or, set, replicate, refl, sym, ◌∙◌, ap, subst, arith, inl, inr, zero-add, ◌^◌}
+use Rattle.std.specs.Prelude.{count_by, filter, reverse, ◌==◌, if◌then◌else◌}
 use Rattle.std.specs.List.Sorted.{IsNonDecreasingBy}
 use Rattle.std.proofs.lemmas.List.{take_all, length-append, length-replicate, length-reverse, reverse-append, get_or-append_right, get_or-replicate, get_or-set_same, get_or-set_other, length-set, get_or_default}
 use Rattle.std.proofs.lemmas.List.Elements.{All-cons}
@@ -10,7 +10,7 @@ use Rattle.std.proofs.lemmas.Bool.Decides.{nat_tests}
 use Rattle.mirror_blame.specs.declared.blame.Blame.{Blame}
 use Rattle.mirror_blame.specs.declared.places.Place.{Place}
 use Rattle.mirror_blame.specs.Marks.{is_of, tries_of, IsEligible}
-use Rattle.mirror_blame.specs.Places.{stands_at, places_of, ArePlaces}
+use Rattle.mirror_blame.specs.Places.{stands_at, ArePlaces}
 use Rattle.mirror_blame.specs.Kept.{AreTotals, AreMarks, spare_of, IsKept}
 use Rattle.mirror_blame.proofs.ListLemmas.{count_by-cons}
 use Rattle.mirror_blame.proofs.Counted.{is_of_same}

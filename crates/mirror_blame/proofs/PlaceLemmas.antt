@@ -1,12 +1,12 @@
 -- What the places tell of the marks.
-use Rattle.std.proofs.Common.{◌≡◌, ℕ, ◌+◌, ◌<◌, ◌≤◌, min, List, [], ◌∷◌, Bool, true, false, cond, length, refl, sym, ◌∙◌, ap, subst, arith, inl, inr}
+use Rattle.std.proofs.Common.{◌≡◌, ℕ, ◌+◌, ◌<◌, ◌≤◌, List, [], ◌∷◌, Bool, true, false, cond, length, refl, sym, ◌∙◌, ap, arith, inl, inr}
 use Rattle.std.specs.Prelude.{count_by, filter, ◌==◌, ◌&&◌, ◌↔◌, ◌⊎◌}
 use Rattle.std.specs.Prelude.{IsTrue, not}
 use Rattle.std.proofs.lemmas.Bool.{cases_lt, false≢true}
 use Rattle.std.proofs.lemmas.Bool.Decides.{nat_tests}
 use Rattle.mirror_blame.specs.declared.blame.Blame.{Blame}
 use Rattle.mirror_blame.specs.declared.places.Place.{Place}
-use Rattle.mirror_blame.specs.Marks.{is_of, tries_of, IsEligible, IsEligibleForAll}
+use Rattle.mirror_blame.specs.Marks.{is_of, tries_of, IsEligibleForAll}
 use Rattle.mirror_blame.specs.Places.{stands_at, is_within, is_place_of, places_of, ArePlaces}
 use Rattle.mirror_blame.specs.Kept.{AreMarks}
 use Rattle.mirror_blame.proofs.Uses.{uses}

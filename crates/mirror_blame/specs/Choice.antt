@@ -1,5 +1,5 @@
 -- Which mirror is chosen for a run of pieces.
-use Rattle.std.specs.Prelude.{◌≡◌, ℕ, ◌<◌, ◌≤◌, ◌⊎◌, List, slice_index}
+use Rattle.std.specs.Prelude.{◌≡◌, ℕ, ◌<◌, ◌⊎◌, List, slice_index}
 use Rattle.mirror_blame.specs.declared.blame.Blame.{Blame}
 use Rattle.mirror_blame.specs.Marks.{IsEligibleForAll, total_of}
 

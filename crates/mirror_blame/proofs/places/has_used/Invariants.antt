@@ -1,6 +1,3 @@
-use Rattle.std.proofs.Common.{◌≡◌, ℕ, ◌<◌, ◌≤◌, List, length, take}
-use Rattle.std.specs.Prelude.{count_by}
-use Rattle.std.specs.List.{AllWithin}
 use Rattle.mirror_blame.proofs.Uses.{IsUsed}
 use Rattle.mirror_blame.proofs.places.has_used.Given as goal
 

@@ -1,7 +1,5 @@
-use Rattle.std.proofs.Common.{◌≡◌, ◌∷◌, ap, ◌∙◌, length, subst, sym, rules}
+use Rattle.std.proofs.Common.{◌≡◌, ap, ◌∙◌, rules}
 use Rattle.std.specs.Prelude.{filter, insert}
-use Rattle.std.specs.List.{AllWithin}
-use Rattle.mirror_blame.specs.declared.places.Place.{Place}
 use Rattle.mirror_blame.specs.Places.{stands_at}
 use Rattle.mirror_blame.proofs.Runs.{filter-put}
 use Rattle.mirror_blame.proofs.places.put.Goals as goal

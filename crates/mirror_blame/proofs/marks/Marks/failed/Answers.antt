@@ -1,6 +1,5 @@
-use Rattle.std.proofs.Common.{◌≡◌, ℕ, ◌<◌, ◌≤◌, ◌∷◌, ◌∙◌, List, length, sym, subst, arith}
+use Rattle.std.proofs.Common.{◌≡◌, ℕ, ◌<◌, ◌≤◌, ◌∷◌, ◌∙◌, length, sym, subst, arith}
 use Rattle.std.specs.Prelude.{filter, reverse, ◌==◌, if◌then◌else◌}
-use Rattle.mirror_blame.specs.declared.places.Place.{Place}
 use Rattle.mirror_blame.specs.Book.{MarkBook}
 use Rattle.mirror_blame.specs.Marks.{IsEligible}
 use Rattle.mirror_blame.specs.Places.{stands_at}

@@ -1,11 +1,9 @@
-use Rattle.std.proofs.Common.{◌≡◌, ap, sym, ◌∙◌, Some, None, subst}
-use Rattle.std.specs.Prelude.{filter, slice_get, reverse, Option}
-use Rattle.std.specs.Option.{option_copied}
+use Rattle.std.proofs.Common.{◌≡◌, ap, sym, ◌∙◌, Some, None}
+use Rattle.std.specs.Prelude.{filter, slice_get, reverse}
 use Rattle.mirror_blame.specs.Places.{is_within}
 use Rattle.mirror_blame.specs.declared.blame.Blame.{Blame}
-use Rattle.mirror_blame.specs.declared.places.Place.{Place}
 use Rattle.mirror_blame.proofs.Counted.{counted_all}
-use Rattle.mirror_blame.proofs.Newest.{Finds, IsNewest, first_is, none_last, newest_within, some_last}
+use Rattle.mirror_blame.proofs.Newest.{Finds, first_is, none_last, newest_within, some_last}
 use Rattle.mirror_blame.proofs.marks.Marks.last_mark.Goals as goal
 
 pub returns-in_err-newest : goal.returns-in_err-newest

@@ -1,4 +1,4 @@
-use Rattle.std.proofs.Common.{◌≡◌, ◌-◌, ◌++◌, ◌∙◌, ap, ℕ, take, replicate, length}
+use Rattle.std.proofs.Common.{◌-◌, ◌++◌, ◌∙◌, ap, ℕ, take, replicate}
 use Rattle.mirror_blame.proofs.KeptLemmas.{kept_resized}
 use Rattle.mirror_blame.proofs.marks.Marks.reserve.Goals as goal
 

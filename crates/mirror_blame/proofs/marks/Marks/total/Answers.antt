@@ -1,5 +1,5 @@
-use Rattle.std.proofs.Common.{◌≡◌, ℕ, get_or, length, ap, sym, ◌∙◌, arith, ◌<◌, rules}
-use Rattle.std.specs.Prelude.{filter, count_by, ◌==◌}
+use Rattle.std.proofs.Common.{◌≡◌, get_or, ap, sym, ◌∙◌, rules}
+use Rattle.std.specs.Prelude.{count_by, ◌==◌}
 use Rattle.mirror_blame.proofs.Counted.{counted_all}
 use Rattle.mirror_blame.specs.declared.blame.Blame.{Blame}
 use Rattle.mirror_blame.proofs.marks.Marks.total.Goals as goal

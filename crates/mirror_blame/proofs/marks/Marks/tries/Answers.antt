@@ -1,8 +1,7 @@
-use Rattle.std.proofs.Common.{◌≡◌, length, ap, sym, ◌∙◌, arith, ◌<◌}
-use Rattle.std.specs.Prelude.{filter, count_by, ◌==◌, reverse}
+use Rattle.std.proofs.Common.{◌≡◌, ap, ◌∙◌, arith}
+use Rattle.std.specs.Prelude.{filter, count_by, ◌==◌}
 use Rattle.mirror_blame.specs.declared.places.Place.{Place}
 use Rattle.mirror_blame.specs.Places.{is_within}
-use Rattle.mirror_blame.specs.Marks.{tries_of}
 use Rattle.mirror_blame.proofs.PlaceLemmas.{tries_are}
 use Rattle.mirror_blame.proofs.marks.Marks.tries.Goals as goal
 
