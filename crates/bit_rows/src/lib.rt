@@ -5,3 +5,4 @@ mod bits;
 mod row;
 
 pub use row::{BitErr, BitRow};
+pub use std::alloc::AllocError as NoMemory;

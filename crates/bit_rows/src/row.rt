@@ -1,5 +1,5 @@
 // A row of truth values.
-ghost use Rattle.std.specs.Prelude.{◌≡◌, ◌≢◌, ◌↔◌, ◌==◌, ◌<◌, ◌≤◌, ◌+◌, ◌^◌, ℕ, true, false, length, Some, replicate, slice_get, slice_set, count_by, Contains, IfOk, IfSome, IfNone, IsErrOf};
+ghost use Rattle.std.specs.Prelude.{◌≡◌, ◌≢◌, ◌↔◌, ◌==◌, ◌<◌, ◌≤◌, ◌+◌, ◌^◌, ℕ, true, false, length, Some, replicate, slice_get, slice_set, count_by, Contains, IfOk, IfSome, IfNone, IsErrOf, OnOk};
 ghost use Rattle.bit_rows.specs.Row.{bytes_for, bytes_of, row_of, spare_of};
 ghost use Rattle.bit_rows.specs.Runs.{IsTrueFrom, IsFirstRun};
 ghost use Rattle.bit_rows.specs.declared.row.BitErr.TheVariants.{Length, Spare, NoMemory};
@@ -66,6 +66,10 @@ impl BitRow {
     pub fn from_bytes(alloc: Global, bytes: &[u8], n: u32) -> Result<BitRow, BitErr>
         ensures row { IfOk result (λ row. row ≡ row_of n bytes.now) }
         ensures packed { IfOk result (λ row. bytes_of row ≡ bytes.now) }
+        ensures len { IfOk result (λ row. length row ≡ n) }
+        ensures fits { OnOk result (length bytes.now ≡ bytes_for n) }
+
+        // Each refusal comes exactly there.
         ensures length { IsErrOf result Length ↔ (length bytes.now ≢ bytes_for n) }
         ensures spare { IsErrOf result Spare
             ↔ (length bytes.now ≡ bytes_for n) × Contains (spare_of n bytes.now) true }

@@ -23,7 +23,7 @@ clears_row : (p : Progress) (held : List ℕ) (completed verified_bytes piece by
 clears_row p held completed verified_bytes piece bytes kept is within sum =
     let v = kept.valid in
     let after = (cleared p piece).landed in
-    let part = piece_part p.total p.piece_len in
+    let part : List Bool → ℕ → List Bool = piece_part p.total p.piece_len in
     let inside : piece < length p.verified = slice_get_within p.verified piece false is in
     let fits : piece * full_blocks p.piece_len + blocks_of_piece p.total p.piece_len piece ≤ length p.landed = omega (arith, v.start.blocks) in
     let gone : part after piece ≡ replicate (blocks_of_piece p.total p.piece_len piece) false = part_filled p.total p.piece_len false p.landed piece fits in

@@ -2,10 +2,14 @@ pub mod Clearing
 pub mod Counts
 pub mod Fills
 pub mod Givers
+pub mod Keeping
 pub mod Landing
+pub mod Numbers
 pub mod Parts
+pub mod Rows
 pub mod Settling
 pub mod SoFar
+pub mod Sources
 pub mod Starting
 pub mod Taking
 pub mod Weights

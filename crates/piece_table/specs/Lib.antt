@@ -1,3 +1,5 @@
+pub mod Afresh
+pub mod Changes
 pub mod Kept
 pub mod NewRuns
 pub mod Progress

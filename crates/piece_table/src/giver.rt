@@ -16,7 +16,7 @@ impl Giver {
     ghost use Rattle.piece_table.specs.Steps.{with_giver};
 
     /// Who gave them once a mirror gave one more.
-    pub fn with(self, mirror: u16) -> Giver
+    pub(crate) fn with(self, mirror: u16) -> Giver
         ensures { result ≡ with_giver self mirror }
     {
         match self {

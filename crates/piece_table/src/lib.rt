@@ -3,11 +3,13 @@
 
 mod blocks;
 mod giver;
+mod laws;
 mod new_runs;
 mod start;
 mod table;
 
 pub use giver::Giver;
+pub use laws::kept_is_afresh;
 pub use new_runs::NewRuns;
 pub use std::alloc::AllocError as NoMemory;
 pub use table::Table;

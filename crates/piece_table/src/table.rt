@@ -45,8 +45,8 @@ impl Model for Table {
 }
 
 impl Table {
-    /// The rows have one place for each piece and for each block of the plan. Of the pieces that have a landed block,
-    /// nobody known gave it.
+    /// The table of a download that begins with these pieces verified and these blocks landed: rows with one place for
+    /// each piece and for each block of the plan. The givers of the pieces that have a landed block are Mixed.
     pub fn new(
         alloc: Global,
         plan: Plan,
@@ -86,9 +86,8 @@ impl Table {
         self.completed += len as u64;
     }
 
-    /// The blocks of the run that aren't landed, of 1 to 64.
+    /// The blocks of the run that aren't landed. The run has at most 64.
     pub fn new_runs(&self, run: Run) -> NewRuns
-        requires some { 1 ≤ run.count }
         requires few { run.count ≤ 64 }
         requires within { run.first + run.count ≤ blocks_of self.now.total self.now.piece_len }
         ensures { AreNewRuns self.now.landed run result }
@@ -96,9 +95,8 @@ impl Table {
         new_runs(&self.landed, run)
     }
 
-    /// The mirror gave the blocks of the run, 1 to 64. Told are those that weren't landed before.
+    /// The mirror gave the blocks of the run, at most 64. Told are those that weren't landed before.
     pub fn land(&mut self, run: Run, mirror: u16) -> NewRuns
-        requires some { 1 ≤ run.count }
         requires few { run.count ≤ 64 }
         requires within { run.first + run.count ≤ blocks_of self.old.total self.old.piece_len }
         ensures new { AreNewRuns self.old.landed run result }
@@ -111,7 +109,7 @@ impl Table {
         new
     }
 
-    /// The piece is found right, or wrong. Where it's wrong, its blocks stay.
+    /// A full, unverified piece is found right, and is verified then, or wrong. Its blocks stay in both cases.
     pub fn settle(&mut self, piece: u32, right: bool)
         requires full { IsFull self.old.total self.old.piece_len self.old.landed piece }
         requires unverified { slice_get self.old.verified piece ≡ Some false }
@@ -126,7 +124,7 @@ impl Table {
         }
     }
 
-    /// The blocks of the piece go, and nobody is their giver. That it was settled wrong stays.
+    /// The blocks of an unverified piece go, and its giver is Nobody. That it was last settled wrong stays.
     pub fn clear(&mut self, piece: u32)
         requires { slice_get self.old.verified piece ≡ Some false }
         ensures { self.new ≡ cleared self.old piece }

@@ -3,7 +3,7 @@ use Rattle.std.specs.Prelude.{Contains}
 use Rattle.std.proofs.lemmas.Bool.{false≢true}
 use Rattle.bit_rows.specs.Kept.{IsKept}
 use Rattle.bit_rows.specs.Row.{row_of, bytes_for, bytes_of, spare_of}
-use Rattle.bit_rows.proofs.Rows.{from_bytes_is, packed, spare_from_none}
+use Rattle.bit_rows.proofs.Rows.{from_bytes_is, length-row_of, packed, spare_from_none}
 use Rattle.bit_rows.proofs.row.BitRow.from_bytes.Goals as goal
 
 pub count_set-requires : goal.count_set-requires
@@ -28,3 +28,10 @@ returns-clause-packed c =
     let items : c.in_ok-to_vec.field-0.items ≡ bytes = c.in_ok-to_vec.ensures.items_if_clones_equal (λ x y is. is) in
     ap (λ xs. bytes_of (row_of c.args.n xs)) items
     ∙ packed bytes c.args.n fits (spare_from_none bytes c.args.n none) (λ i. omega (arith, c.type_inv.bytes i))
+
+pub returns-clause-len : goal.returns-clause-len
+returns-clause-len c =
+    let bytes = c.args.bytes.now in
+    let fits : length bytes ≡ bytes_for c.args.n = omega arith in
+    let items : c.in_ok-to_vec.field-0.items ≡ bytes = c.in_ok-to_vec.ensures.items_if_clones_equal (λ x y is. is) in
+    ap (λ xs. length (row_of c.args.n xs)) items ∙ length-row_of bytes c.args.n fits
