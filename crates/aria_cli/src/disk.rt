@@ -1,5 +1,5 @@
 // The real disk: names are paths, relative to the current folder.
-ghost use Rattle.std.specs.Prelude.{false, None, refl};
+ghost use Rattle.std.specs.Prelude.{[], false, None, refl};
 
 use crate::faults::Faults;
 use dl_disk::Disk;
@@ -95,6 +95,8 @@ impl<'a, R: Files<File = File>> Disk for FileDisk<'a, R> {
     ghost left_at = { λ _ _ _. Unit {0} };
 
     ghost reads = { λ _ _. 0 };
+
+    ghost folders = { λ _. [] };
 
     ghost faults = { λ disk. disk.faults.count };
 

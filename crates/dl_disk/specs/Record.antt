@@ -1,13 +1,13 @@
 -- The calls that a disk in memory had: what they make of its files, and what they leave to a crash.
-use Rattle.std.specs.Prelude.{◌≡◌, ℕ, ◌+◌, Bool, true, false, ◌&&◌, not, ◌==◌, nat_le, List, [], ◌∷◌, length, take, slice_get, reverse, Option, Some, None, if◌then◌else◌}
-use Rattle.std.specs.List.{list_any}
+use Rattle.std.specs.Prelude.{◌≡◌, ℕ, ◌+◌, Bool, true, false, ◌&&◌, not, ◌==◌, nat_le, List, [], ◌∷◌, length, take, slice_get, reverse, map, Option, Some, None, if◌then◌else◌}
+use Rattle.std.specs.List.{filter, list_any}
 use Rattle.std.specs.Map.{update}
 use Rattle.std.specs.Str.{bytes_eq}
 use Rattle.dl_disk.specs.Files.{Files, bytes_of, MayMake, Changes}
 use Rattle.dl_disk.specs.Contents.{contents_of}
 use Rattle.dl_disk.specs.Edit.{fits, edited, MayEdit}
 use Rattle.dl_disk.specs.declared.record.Action.{Action}
-use Rattle.dl_disk.specs.declared.record.Action.TheVariants.{Read, Change, Sync}
+use Rattle.dl_disk.specs.declared.record.Action.TheVariants.{Read, Change, Sync, MakeDir}
 use Rattle.dl_disk.specs.declared.record.Call.{Call}
 
 -- whether a file has so many bytes at this place
@@ -58,6 +58,19 @@ reads name call = is_read call.action && bytes_eq call.name name
     is_read : Action → Bool
     is_read (Read at len) = true
     is_read action = false
+
+-- whether a folder is asked for
+abbrev pub is_make_dir : Action → Bool
+is_make_dir MakeDir = true
+is_make_dir action = false
+
+-- whether a call made a folder
+abbrev pub makes_folder : Call → Bool
+makes_folder call = is_make_dir call.action && call.done
+
+-- the folders that calls made, the newest first
+abbrev pub folders_made : List Call → List (List ℕ)
+folders_made calls = map (λ call. call.name) (filter makes_folder (reverse calls))
 
 -- whether a call failed
 abbrev pub failed : Call → Bool

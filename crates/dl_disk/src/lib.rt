@@ -2,7 +2,7 @@
 //! and what was told of earlier moments.
 #![tactic(auto)]
 
-ghost use Rattle.std.specs.Prelude.{◌≡◌, ◌↔◌, List, Bool, ℕ, Option, Some, length, option_map, IsTrue, IsErrOf, IfOk, OnOk};
+ghost use Rattle.std.specs.Prelude.{◌≡◌, ◌↔◌, List, ◌∷◌, Bool, ℕ, Option, Some, length, option_map, IsTrue, IsErrOf, IfOk, OnOk, OnErr};
 ghost use Rattle.dl_kinds.specs.Causes.{HasCause};
 ghost use Rattle.dl_kinds.specs.declared.outside.IoErr.TheVariants.{NoMemory};
 ghost use Rattle.dl_disk.specs.Time.{Elapses, CountsRead, ReadsNothing};
@@ -44,6 +44,9 @@ pub trait Disk {
     /// How many reads of a file were made.
     ghost reads: { Self → List ℕ → ℕ };
 
+    /// The names of the folders that were made, the newest first.
+    ghost folders: { Self → List (List ℕ) };
+
     /// How often a call failed, up to 2^64 - 1.
     ghost faults: { Self → ℕ };
 
@@ -58,6 +61,7 @@ pub trait Disk {
         ensures cause { HasCause (faults self.old) (faults self.new) result }
         ensures time { IsTrue tells → Elapses (moment self.old) (moment self.new) (seen_at self.old) (seen_at self.new) (left_at self.old) (left_at self.new) result }
         ensures reads { IsTrue tells → ReadsNothing (reads self.old) (reads self.new) }
+        ensures folders { IsTrue tells → folders self.new ≡ folders self.old }
         ensures same { IsErrOf result NoMemory → faults self.new ≡ faults self.old };
 
     /// Fills the buffer from the byte at `at` on. Past the end of the file it is a fault.
@@ -67,6 +71,7 @@ pub trait Disk {
         ensures cause { HasCause (faults self.old) (faults self.new) result }
         ensures time { IsTrue tells → Elapses (moment self.old) (moment self.new) (seen_at self.old) (seen_at self.new) (left_at self.old) (left_at self.new) result }
         ensures reads { IsTrue tells → CountsRead name.now (reads self.old) (reads self.new) result }
+        ensures folders { IsTrue tells → folders self.new ≡ folders self.old }
         ensures same { IsErrOf result NoMemory → faults self.new ≡ faults self.old };
 
     /// Writes the bytes from `at` on, and makes the file where there is none. A failed write may have changed its range.
@@ -78,6 +83,7 @@ pub trait Disk {
         ensures cause { HasCause (faults self.old) (faults self.new) result }
         ensures time { IsTrue tells → Elapses (moment self.old) (moment self.new) (seen_at self.old) (seen_at self.new) (left_at self.old) (left_at self.new) result }
         ensures reads { IsTrue tells → ReadsNothing (reads self.old) (reads self.new) }
+        ensures folders { IsTrue tells → folders self.new ≡ folders self.old }
         ensures same { IsErrOf result NoMemory → faults self.new ≡ faults self.old };
 
     /// Cuts the file to this length, or lengthens it by zeros, and makes it where there is none.
@@ -89,6 +95,7 @@ pub trait Disk {
         ensures cause { HasCause (faults self.old) (faults self.new) result }
         ensures time { IsTrue tells → Elapses (moment self.old) (moment self.new) (seen_at self.old) (seen_at self.new) (left_at self.old) (left_at self.new) result }
         ensures reads { IsTrue tells → ReadsNothing (reads self.old) (reads self.new) }
+        ensures folders { IsTrue tells → folders self.new ≡ folders self.old }
         ensures same { IsErrOf result NoMemory → faults self.new ≡ faults self.old };
 
     /// Makes the file last: after Ok a crash leaves of it what a read gives.
@@ -98,15 +105,18 @@ pub trait Disk {
         ensures cause { HasCause (faults self.old) (faults self.new) result }
         ensures time { IsTrue tells → Elapses (moment self.old) (moment self.new) (seen_at self.old) (seen_at self.new) (left_at self.old) (left_at self.new) result }
         ensures reads { IsTrue tells → ReadsNothing (reads self.old) (reads self.new) }
+        ensures folders { IsTrue tells → folders self.new ≡ folders self.old }
         ensures same { IsErrOf result NoMemory → faults self.new ≡ faults self.old };
 
-    /// Makes this folder and its parents, and is content where it stands. Folders are no files, and nothing is told of
-    /// them; one that was made with Ok outlasts a crash.
+    /// Makes this folder and its parents, and is content where it stands. Folders are no files; one that was made with
+    /// Ok outlasts a crash.
     fn make_dir(&mut self, name: &str) -> Result<(), IoErr>
         ensures stays { IsTrue tells → Stays (seen self.old) (seen self.new) (may_leave self.old) (may_leave self.new) }
         ensures cause { HasCause (faults self.old) (faults self.new) result }
         ensures time { IsTrue tells → Elapses (moment self.old) (moment self.new) (seen_at self.old) (seen_at self.new) (left_at self.old) (left_at self.new) result }
         ensures reads { IsTrue tells → ReadsNothing (reads self.old) (reads self.new) }
+        ensures made { OnOk result (IsTrue tells → folders self.new ≡ name.now ∷ folders self.old) }
+        ensures unmade { OnErr result (IsTrue tells → folders self.new ≡ folders self.old) }
         ensures same { IsErrOf result NoMemory → faults self.new ≡ faults self.old };
 
     /// A disk as it reads is one of its own images.

@@ -13,7 +13,8 @@ use dl_kinds::{Blob, IoErr, Text};
 use std::alloc::{AllocError, Global};
 
 /// A disk in memory. It keeps the files as they are now, and beside them each call that it had, from which its earlier
-/// moments and its images are told. So it grows with each call, also with a read. It keeps no folders.
+/// moments and its images are told. So it grows with each call, also with a read. Of folders it keeps no more than this
+/// record.
 ///
 /// The calls that are made are numbered, from 0 on. A call fails exactly where its number was asked to fail, or a read
 /// goes past the end of its file or has none, or a write ends past 2^64 - 1. A failed write leaves the file as it was.
@@ -112,7 +113,7 @@ impl MemDisk {
 
 impl Disk for MemDisk {
     ghost use Rattle.std.specs.Prelude.{true};
-    ghost use Rattle.dl_disk.specs.MemDisk.{shown, IsImage, moment_of, shown_at, IsImageAt, read_count, fault_count};
+    ghost use Rattle.dl_disk.specs.MemDisk.{shown, IsImage, moment_of, shown_at, IsImageAt, read_count, folders_of, fault_count};
     ghost use Rattle.dl_disk.specs.Laws.{is_own_image, shown_now, image_now};
 
     ghost tells = { true };
@@ -128,6 +129,8 @@ impl Disk for MemDisk {
     ghost left_at = { IsImageAt };
 
     ghost reads = { read_count };
+
+    ghost folders = { folders_of };
 
     ghost faults = { fault_count };
 
