@@ -1,0 +1,7 @@
+pub mod Contents
+pub mod FileNames
+pub mod Keeping
+pub mod Lengths
+pub mod ListEdits
+pub mod Places
+pub mod SliceSteps
