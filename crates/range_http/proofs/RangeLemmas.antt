@@ -180,3 +180,6 @@ range-from text range is =
 
 pub range_exact : (text : List ℕ) (range : ContentRange) → (range_of text ≡ Some range) ↔ IsContentRange text range
 range_exact text range = (range-is text range, range-from text range)
+
+pub number_exact : (text : List ℕ) (number : ℕ) → (number_of text ≡ Some number) ↔ IsNumber text number
+number_exact text number = (number-is text number, number-from text number)

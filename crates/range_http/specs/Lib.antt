@@ -4,6 +4,7 @@ pub mod Framing
 pub mod HeadLaws
 pub mod Heads
 pub mod Range
+pub mod RangeLaws
 pub mod Request
 pub mod Spans
 pub mod Verdict

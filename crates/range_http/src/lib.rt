@@ -14,5 +14,5 @@ pub use empty_line::has_empty_line;
 pub use fields::location;
 pub use framing::Framing;
 pub use head::{Head, HeadRead, head_laws, read_head};
-pub use range::{ContentRange, read_range};
+pub use range::{ContentRange, range_laws, read_range};
 pub use verdict::{Verdict, classify};
