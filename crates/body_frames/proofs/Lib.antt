@@ -1,3 +1,4 @@
+mod ChunkText
 mod Chunks
 mod Feeding
 mod Law

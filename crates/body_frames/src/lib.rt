@@ -8,6 +8,7 @@ ghost use Rattle.std.specs.Prelude.{◌≡◌, List, ℕ, [], ◌++◌, drop};
 ghost use Rattle.body_frames.specs.declared.BodyErr.TheVariants.{NoMemory};
 ghost use Rattle.body_frames.specs.Lines.{Whole};
 ghost use Rattle.body_frames.specs.Bodies.{Framing, body_of, content_of, used_of, IsOver, IsWrong};
+ghost use Rattle.body_frames.specs.Written.{ChunkIsRead, LastChunkIsRead};
 
 mod body;
 mod line;
@@ -66,4 +67,10 @@ pub fn pieces_join()
         body_of framing (a ++ b) ≡ body_of framing a }
     ensures not_over { (framing : Framing) (a : List ℕ) → (¬ IsOver framing a) → (body_of framing a).rest ≡ [] }
     ensures end { (framing : Framing) (a : List ℕ) → (body_of framing a).rest ≡ drop (used_of framing a) a }
+{}
+
+/// Chunks that are written out are read as their bytes.
+pub fn chunks_are_read()
+    ensures chunk { ChunkIsRead }
+    ensures last { LastChunkIsRead }
 {}
