@@ -38,8 +38,8 @@ fn write_part<D: Disk>(
     disk.write_at(name.as_str(), part.at, bytes)
 }
 
-/// Writes these bytes of the payload, which begin at `at` in it, into the files that hold them. The first failure ends
-/// it, and what was written before stays.
+/// Writes these bytes of the payload, which begin at `at` in it, into the files that hold them, by one write for each
+/// file; a missing one is made. The first failure ends it, and what was written before stays.
 pub fn write_slice<D: Disk>(
     alloc: Global,
     disk: &mut D,
