@@ -10,4 +10,6 @@ mod heads;
 #[cfg(test)]
 mod layouts;
 #[cfg(test)]
+mod metainfos;
+#[cfg(test)]
 mod numbers;

@@ -1,0 +1,9 @@
+pub mod Parts
+pub mod Usable
+pub mod Fitting
+pub mod Keeping
+pub mod Lengths
+pub mod Laid
+pub mod Escapes
+pub mod Sound
+pub mod Steps

@@ -1,0 +1,6 @@
+pub mod Info
+pub mod Kept
+pub mod Refusals
+pub mod Rules
+pub mod Tests
+pub mod Urls

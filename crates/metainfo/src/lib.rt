@@ -1,0 +1,17 @@
+//! Metainfo files (BEP 3) and the URLs of files at web seeds (BEP 19).
+#![tactic(auto)]
+
+mod fields;
+mod files;
+mod laws;
+mod meta;
+mod reading;
+mod refusals;
+mod rules;
+mod seeds;
+mod urls;
+
+pub use laws::{metainfo_is_sound, tests_say_what_holds};
+pub use meta::Meta;
+pub use refusals::{Key, MetaErr};
+pub use std::alloc::AllocError as NoMemory;
