@@ -1,10 +1,20 @@
-pub mod Spelling
-pub mod Fields
-pub mod SingleLemmas
 mod Parts
-mod Lacking
-mod Keeping
+mod Receiving
 mod Replies
+mod Heads
+mod Bodies
+mod Fetching
+mod Served
+mod Gaining
+mod Lengths
+mod PartSteps
+mod Once
+mod Quiet
+mod Standing
+mod Working
+mod Keeping
+mod Gained
 mod Telling
 mod Saying
-mod Bodies
+mod Control
+mod First

@@ -1,6 +1,6 @@
 -- Parts of a list that grow.
 use Rattle.std.proofs.Common.{◌≡◌, ℕ, ◌+◌, ◌-◌, ◌≤◌, List, ◌++◌, length, take, drop, sym, ◌∙◌, ap, subst, arith, append_assoc, ◌<◌, Result, Ok, Err, IfOk}
-use Rattle.std.proofs.lemmas.List.{drop-drop, take-take}
+use Rattle.std.proofs.lemmas.List.{drop-drop, take-take, take_all, length-drop}
 use Rattle.std.proofs.Math.Seq.{take-add}
 use Rattle.std.proofs.lemmas.Slice.{between_is, between-put_mid}
 use Rattle.std.specs.List.{between}
@@ -48,3 +48,7 @@ pub between_grown : (bytes : List ℕ) (from at end : ℕ) (old new : List ℕ) 
     → (bytes ++ between from at old) ++ between at end new ≡ bytes ++ between from end new
 between_grown bytes from at end old new h k same =
     append_assoc bytes (between from at old) (between at end new) ∙ ap (λ l. bytes ++ l) (ap (λ l. l ++ between at end new) (sym (between_kept from at new old same)) ∙ between_join from at end new h k)
+
+-- a part up to the end
+pub between_end : {A : Type 0} (from at : ℕ) (xs : List A) → from ≤ at → length xs ≤ at → between from at xs ≡ drop from xs
+between_end from at xs h past = take_all (at - from) (drop from xs) (omega (arith, length-drop from xs))

@@ -1,40 +1,37 @@
--- The payload, on the disk and by what came.
-use Rattle.std.specs.Prelude.{◌≡◌, ◌≢◌, ◌⊎◌, ℕ, List, length, Option, Some, None}
+-- The payload on the disk.
+use Rattle.std.specs.Prelude.{◌≡◌, ◌≢◌, ◌⊎◌, ◌<◌, ℕ, ◌*◌, min, [], Option, IsSomeAnd}
 use Rattle.sha1.specs.Sha1.{sha1}
+use Rattle.dl_words.specs.Lists.{part_at}
 use Rattle.dl_disk.specs.Files.{Files}
-use Rattle.link_source.specs.Streams.{Stream}
-use Rattle.aria_top.specs.Fetch.{Came, EndedShort, CameWrong, IsOpen}
-use Rattle.aria_top.specs.Wanted.{Wanted, dial_for}
+use Rattle.metainfo.specs.Info.{Info, IsSound}
+use Rattle.payload_files.specs.Payload.{HasFiles, payload_in}
+use Rattle.aria_top.specs.Ends.{IsOfDisk}
 use Rattle.aria_top.specs.declared.ends.Failure.{Failure}
-use Rattle.aria_top.specs.declared.ends.Failure.TheVariants.{Disk, Link, Short, Reply, Digest}
+use Rattle.aria_top.specs.Askings.{piece_count, start_of, size_of, digest_of}
 
--- the payload stands there, with its length and its digest
-pub record HoldsPayload (wanted : Wanted) (files : Files) : Type 0 where
-  pub payload : List ℕ
-  pub holds : files wanted.name ≡ Some payload
-  pub size : length payload ≡ wanted.total
-  pub matches : sha1 payload ≡ wanted.digest
+-- what the run fetches: it is sound, and has a seed
+pub record IsFetchable (info : Info) : Type 0 where
+  pub sound : IsSound info
+  pub seed : info.seeds ≢ []
 
--- each image is such
-abbrev pub Always : (Files → Type 0) → (Files → Type 0) → Type 0
-Always images fact = (image : Files) → images image → fact image
+-- the piece of the payload has its digest (BEP 3, `pieces`)
+abbrev pub HasPiece : Info → Files → ℕ → Type 0
+HasPiece info files piece = sha1 (part_at (payload_in info.files files) (start_of info piece) (size_of info piece)) ≡ digest_of info piece
 
--- what stands under any other name stays, in what the disk reads and in its images
-pub record KeepsOthers (name : List ℕ) (old new : Files) (old_images new_images : Files → Type 0) : Type 0 where
-  pub seen : (other : List ℕ) → other ≢ name → new other ≡ old other
-  pub images : (other : List ℕ) → other ≢ name → (file : Option (List ℕ)) → Always old_images (λ image. image other ≡ file) → Always new_images (λ image. image other ≡ file)
+-- the files have their lengths, and so many pieces from the first on their digests
+pub record PiecesStand (info : Info) (files : Files) (count : ℕ) : Type 0 where
+  pub lengths : HasFiles info.files files
+  pub pieces : (piece : ℕ) → piece < count → HasPiece info files piece
 
--- how the work on a payload ended, by what came
-abbrev pub Ended : Wanted → List Stream → List Stream → Option Failure → Type 0
-Ended wanted before now None = (body : List ℕ) × Came (dial_for wanted before) now wanted.total body × (sha1 body ≡ wanted.digest)
-Ended wanted before now (Some Disk) = (now ≡ before) ⊎ ((body : List ℕ) × Came (dial_for wanted before) now wanted.total body × (sha1 body ≡ wanted.digest))
-Ended wanted before now (Some Link) = IsOpen (dial_for wanted before) now wanted.total
-Ended wanted before now (Some Short) = EndedShort (dial_for wanted before) now wanted.total
-Ended wanted before now (Some Reply) = CameWrong (dial_for wanted before) now wanted.total
-Ended wanted before now (Some Digest) = (body : List ℕ) × Came (dial_for wanted before) now wanted.total body × (sha1 body ≢ wanted.digest)
+-- the whole payload stands in what the disk reads, and in each image
+pub record Stands (info : Info) (seen : Files) (images : Files → Type 0) : Type 0 where
+  pub reads : PiecesStand info seen (piece_count info)
+  pub lasts : (image : Files) → images image → PiecesStand info image (piece_count info)
 
--- the bytes of the pieces that were written, at each end
-abbrev pub Completed : Wanted → Files → Option Failure → ℕ → Type 0
-Completed wanted seen None completed = completed ≡ wanted.total
-Completed wanted seen (Some Disk) completed = (completed ≡ 0) ⊎ ((completed ≡ wanted.total) × HoldsPayload wanted seen)
-Completed wanted seen (Some failure) completed = completed ≡ 0
+-- the bytes of so many pieces from the first on
+abbrev pub bytes_of_pieces : Info → ℕ → ℕ
+bytes_of_pieces info pieces = min (pieces * info.piece_len) info.total
+
+-- so many pieces are written, or the disk or memory failed before the files had their lengths
+abbrev pub AreWritten : Info → Files → ℕ → Option Failure → Type 0
+AreWritten info files pieces failure = PiecesStand info files pieces ⊎ (IsSomeAnd failure IsOfDisk × (pieces ≡ 0))

@@ -1,21 +1,25 @@
-// One resource over one connection.
-ghost use Rattle.std.specs.Prelude.{◌≡◌, ◌∷◌, min, MatchResult, None, IfSome, ◌≢◌, Err, ◌<◌, ◌≤◌, ◌-◌, ◌+◌, ◌++◌, false, true, ℕ, List, [], Ok, length, take, drop, IfOk, OnOk, OnErr, IsTrue, IsErrOf};
+// One range of a resource over one connection.
+ghost use Rattle.std.specs.Prelude.{◌≡◌, ◌∷◌, min, MatchResult, IfErr, IfSome, ◌⊎◌, ◌≢◌, Err, ◌<◌, ◌≤◌, ◌-◌, ◌+◌, ◌++◌, false, true, ℕ, List, [], Ok, None, length, take, drop, IfOk, OnOk, OnErr, IsTrue, IsErrOf, IsFalse};
 ghost use Rattle.dl_words.specs.Counts.{Rose};
 ghost use Rattle.std.specs.List.{between};
+ghost use Rattle.aria_top.specs.Asking.{IsRange};
+ghost use Rattle.aria_top.specs.Exchange.{LeadsTo};
+ghost use Rattle.aria_top.specs.Fetched.{FetchEnds};
 ghost use Rattle.aria_top.specs.Loss.{IsOutside};
-ghost use Rattle.link_source.specs.Streams.{dialled};
-ghost use Rattle.aria_top.specs.Fetch.{Came, Lost, dial_of};
-ghost use Rattle.aria_top.specs.Reply.{HasHead};
-ghost use Rattle.aria_top.specs.Streams.{Dialling, Received, Lacks};
+ghost use Rattle.aria_top.specs.Reply.{HasHead, IsHeadless, IsWrong};
+ghost use Rattle.aria_top.specs.Serving.{Gives, KeepsServing, ServesFetch};
+ghost use Rattle.aria_top.specs.Streams.{Dialling, IsBegun, Received, Unfilled, IsLossOfHead, CameIn, LostIn, IsOn};
 ghost use Rattle.aria_top.specs.declared.connection.Loss.TheVariants.{Link, Short, Reply, NoMemory};
 
-use crate::reply::{HeadState, all_of, read_reply};
+use crate::asking::Asking;
+use crate::reply::{HeadState, read_reply};
 use dl_kinds::IoErr;
-use link_source::{Endpoint, Links};
-use range_http::{head_laws, request};
+use link_source::{EndErr, Endpoint, Links};
+use range_http::{has_empty_line, head_laws, request};
+use reply_laws::{replies_are_read, requests_are_answered};
 use std::alloc::{AllocError, Global};
 
-/// Why a resource didn't come.
+/// Why the bytes didn't come.
 #[derive(Clone, Copy, Debug, PartialEq, Eq)]
 pub enum Loss {
     /// The link failed.
@@ -24,6 +28,8 @@ pub enum Loss {
     Short,
     /// The bytes are no head, or not the accepted one.
     Reply,
+    /// The URL is no `http` URL.
+    Unasked,
     NoMemory,
 }
 
@@ -51,15 +57,22 @@ impl From<IoErr> for Loss {
 /// The most bytes that are asked of a link at once.
 const READ: usize = 65_536;
 
+/// The most bytes of a head.
+const MAX_HEAD: usize = 65_536;
+
 // Receives once into the front of a buffer, and gives the count.
 fn receive_some<L: Links>(link: &mut L, into: &mut [u8]) -> Result<usize, Loss>
     requires { 0 < length into.old }
     ensures count { IfOk result (λ count. count ≤ length into.new) }
     ensures more { IfOk result (λ count. 0 < count → IsTrue L.tells → (dial : Dialling) (bytes : List ℕ)
-        → Received dial (L.streams link.old) false bytes → Received dial (L.streams link.new) false (bytes ++ take count into.new)) }
+        → Received dial (L.streams link.old) (L.due link.old) false bytes
+        → Received dial (L.streams link.new) (L.due link.new) false (bytes ++ take count into.new)) }
     ensures end { IfOk result (λ count. count ≡ 0 → IsTrue L.tells → (dial : Dialling) (bytes : List ℕ)
-        → Received dial (L.streams link.old) false bytes → Received dial (L.streams link.new) true bytes) }
+        → Received dial (L.streams link.old) (L.due link.old) false bytes
+        → Received dial (L.streams link.new) (L.due link.new) true bytes) }
     ensures same { OnErr result (IsTrue L.tells → L.streams link.new ≡ L.streams link.old) }
+    ensures held { OnErr result (IsTrue L.tells → L.due link.new ≡ L.due link.old) }
+    ensures content { IsTrue L.tells → L.content link.new ≡ L.content link.old }
     ensures link { IsErrOf result Link → Rose (L.faults link.old) (L.faults link.new) }
     ensures causes { IsOutside result }
     ensures later { L.faults link.old ≤ L.faults link.new }
@@ -73,11 +86,14 @@ fn fill_some<L: Links>(link: &mut L, body: &mut [u8], at: usize) -> Result<usize
     ensures count { IfOk result (λ count. at + count ≤ length body.new) }
     ensures kept { take at body.new ≡ take at body.old }
     ensures more { IfOk result (λ count. 0 < count → IsTrue L.tells → (dial : Dialling) (bytes : List ℕ)
-        → Received dial (L.streams link.old) false bytes
-        → Received dial (L.streams link.new) false (bytes ++ between at (at + count) body.new)) }
+        → Received dial (L.streams link.old) (L.due link.old) false bytes
+        → Received dial (L.streams link.new) (L.due link.new) false (bytes ++ between at (at + count) body.new)) }
     ensures end { IfOk result (λ count. count ≡ 0 → IsTrue L.tells → (dial : Dialling) (bytes : List ℕ)
-        → Received dial (L.streams link.old) false bytes → Received dial (L.streams link.new) true bytes) }
+        → Received dial (L.streams link.old) (L.due link.old) false bytes
+        → Received dial (L.streams link.new) (L.due link.new) true bytes) }
     ensures same { OnErr result (IsTrue L.tells → L.streams link.new ≡ L.streams link.old) }
+    ensures held { OnErr result (IsTrue L.tells → L.due link.new ≡ L.due link.old) }
+    ensures content { IsTrue L.tells → L.content link.new ≡ L.content link.old }
     ensures link { IsErrOf result Link → Rose (L.faults link.old) (L.faults link.new) }
     ensures causes { IsOutside result }
     ensures later { L.faults link.old ≤ L.faults link.new }
@@ -90,17 +106,12 @@ fn fill_some<L: Links>(link: &mut L, body: &mut [u8], at: usize) -> Result<usize
 fn fill<L: Links>(link: &mut L, body: &mut [u8], from: usize) -> Result<(), Loss>
     requires { from ≤ length body.old }
     ensures kept { take from body.new ≡ take from body.old }
-    ensures ok { OnOk result (IsTrue L.tells → (dial : Dialling) (bytes : List ℕ)
-        → Received dial (L.streams link.old) false bytes
-        → Received dial (L.streams link.new) false (bytes ++ drop from body.new)) }
-    ensures open { IsErrOf result Link → IsTrue L.tells → (dial : Dialling) (bytes : List ℕ)
-        → Received dial (L.streams link.old) false bytes
-        → Lacks dial (L.streams link.new) false bytes (length body.new - from) }
-    ensures short { IsErrOf result Short → IsTrue L.tells → (dial : Dialling) (bytes : List ℕ)
-        → Received dial (L.streams link.old) false bytes
-        → Lacks dial (L.streams link.new) true bytes (length body.new - from) }
+    ensures ends { IsTrue L.tells → (dial : Dialling) (bytes : List ℕ)
+        → Received dial (L.streams link.old) (L.due link.old) false bytes
+        → MatchResult result (λ _. Received dial (L.streams link.new) (L.due link.new) false (bytes ++ drop from body.new))
+        (Unfilled dial (L.streams link.new) (L.due link.new) bytes (length body.new - from)) }
+    ensures content { IsTrue L.tells → L.content link.new ≡ L.content link.old }
     ensures link { IsErrOf result Link → Rose (L.faults link.old) (L.faults link.new) }
-    ensures causes { result ≢ Err Reply }
     ensures later { L.faults link.old ≤ L.faults link.new }
 {
     let mut at = from;
@@ -117,12 +128,20 @@ fn fill<L: Links>(link: &mut L, body: &mut [u8], from: usize) -> Result<(), Loss
 // Receives once more behind what has come, and tells whether anything came. Nothing comes at the end alone.
 fn receive_more<L: Links>(link: &mut L, block: &mut [u8], bytes: &mut Vec<u8>) -> Result<bool, Loss>
     requires { 0 < length block.old }
-    ensures more { result ≡ Ok true → IsTrue L.tells → (dial : Dialling) → Received dial (L.streams link.old) false bytes.old.items
-        → Received dial (L.streams link.new) false bytes.new.items }
-    ensures end { result ≡ Ok false → IsTrue L.tells → (dial : Dialling) → Received dial (L.streams link.old) false bytes.old.items
-        → Received dial (L.streams link.new) true bytes.old.items }
+    ensures more { result ≡ Ok true → IsTrue L.tells → (dial : Dialling)
+        → Received dial (L.streams link.old) (L.due link.old) false bytes.old.items
+        → Received dial (L.streams link.new) (L.due link.new) false bytes.new.items }
     ensures grows { result ≡ Ok true → length bytes.old.items < length bytes.new.items }
+    ensures front { result ≡ Ok true → take (length bytes.old.items) bytes.new.items ≡ bytes.old.items }
+    ensures end { result ≡ Ok false → IsTrue L.tells → (dial : Dialling)
+        → Received dial (L.streams link.old) (L.due link.old) false bytes.old.items
+        → Received dial (L.streams link.new) (L.due link.new) true bytes.old.items }
     ensures same { IsErrOf result Link → IsTrue L.tells → L.streams link.new ≡ L.streams link.old }
+    ensures held { IsErrOf result Link → IsTrue L.tells → L.due link.new ≡ L.due link.old }
+    ensures no_more { (result ≡ Ok false) ⊎ (result ≡ Err Link) → bytes.new.items ≡ bytes.old.items }
+    ensures on { IsErrOf result NoMemory → IsTrue L.tells → (dial : Dialling)
+        → Received dial (L.streams link.old) (L.due link.old) false bytes.old.items → IsOn dial.before (L.streams link.new) }
+    ensures content { IsTrue L.tells → L.content link.new ≡ L.content link.old }
     ensures link { IsErrOf result Link → Rose (L.faults link.old) (L.faults link.new) }
     ensures causes { IsOutside result }
     ensures later { L.faults link.old ≤ L.faults link.new }
@@ -132,6 +151,85 @@ fn receive_more<L: Links>(link: &mut L, block: &mut [u8], bytes: &mut Vec<u8>) -
     Ok(count > 0)
 }
 
+// Whether a head may end behind a place up to which there is none.
+fn may_end_head(bytes: &[u8], from: usize) -> bool
+    requires { from ≤ length bytes.now }
+    ensures headless { IsFalse result → IsHeadless (take from bytes.now) → IsHeadless bytes.now }
+    ensures short { IsFalse result → length bytes.now ≤ 65535 }
+{
+    head_laws();
+    bytes.len() >= MAX_HEAD || has_empty_line(bytes, from)
+}
+
+// Reads the head where its end may have come behind a place. Some is the length of the accepted head.
+fn head_behind(
+    alloc: Global,
+    bytes: &[u8],
+    from: usize,
+    asking: &Asking,
+) -> Result<Option<usize>, Loss>
+    requires range { IsRange asking.now }
+    requires within { from ≤ length bytes.now }
+    requires headless { IsHeadless (take from bytes.now) }
+    ensures head { IfOk result (λ used. IfSome used (λ used. HasHead bytes.now asking.now used × (used ≤ length bytes.now))) }
+    ensures none { result ≡ Ok None → IsHeadless bytes.now × (length bytes.now ≤ 65535) }
+    ensures wrong { IfErr result (λ loss. (loss ≡ Reply) × IsWrong bytes.now asking.now ⊎ (loss ≡ NoMemory)) }
+{
+    if !may_end_head(bytes, from) {
+        return Ok(None);
+    }
+    match read_reply(alloc, bytes, asking) {
+        HeadState::Accepted { used } => Ok(Some(used)),
+        HeadState::Due => Ok(None),
+        HeadState::Wrong => Err(Loss::Reply),
+        HeadState::NoMemory => Err(Loss::NoMemory),
+    }
+}
+
+// The loss of a head that didn't come. Whether what came can become a head is only seen here.
+fn loss_of_head(alloc: Global, bytes: &[u8], asking: &Asking, loss: Loss) -> Loss
+    requires range { IsRange asking.now }
+    requires headless { IsHeadless bytes.now }
+    ensures { IsLossOfHead bytes.now asking.now loss result }
+{
+    match read_reply(alloc, bytes, asking) {
+        HeadState::Accepted { .. } => unreachable!(),
+        HeadState::Due => loss,
+        HeadState::Wrong => Loss::Reply,
+        HeadState::NoMemory => Loss::NoMemory,
+    }
+}
+
+// Receives once more behind what has come, which begins with no head. Some is the length of the accepted head.
+fn advance<L: Links>(
+    alloc: Global,
+    link: &mut L,
+    block: &mut [u8],
+    bytes: &mut Vec<u8>,
+    asking: &Asking,
+) -> Result<Option<usize>, Loss>
+    requires block { 0 < length block.old }
+    requires range { IsRange asking.now }
+    requires headless { IsHeadless bytes.old.items }
+    ensures head { IfOk result (λ used. IfSome used (λ used. HasHead bytes.new.items asking.now used × (used ≤ length bytes.new.items))) }
+    ensures grows { result ≡ Ok None → length bytes.old.items < length bytes.new.items }
+    ensures none { result ≡ Ok None → IsHeadless bytes.new.items × (length bytes.new.items ≤ 65535) }
+    ensures ends { IsTrue L.tells → (dial : Dialling) → dial.asking ≡ asking.now
+        → Received dial (L.streams link.old) (L.due link.old) false bytes.old.items
+        → MatchResult result (λ _. Received dial (L.streams link.new) (L.due link.new) false bytes.new.items) (LostIn dial (L.streams link.new)) }
+    ensures content { IsTrue L.tells → L.content link.new ≡ L.content link.old }
+    ensures link { IsErrOf result Link → Rose (L.faults link.old) (L.faults link.new) }
+    ensures later { L.faults link.old ≤ L.faults link.new }
+{
+    let from = bytes.len();
+    match receive_more(link, block, bytes) {
+        Ok(true) => head_behind(alloc, bytes, from, asking),
+        Ok(false) => Err(loss_of_head(alloc, bytes, asking, Loss::Short)),
+        Err(Loss::Link) => Err(loss_of_head(alloc, bytes, asking, Loss::Link)),
+        Err(loss) => Err(loss),
+    }
+}
+
 /// What has come once the head has, which takes `used` bytes of it.
 #[derive(Debug, Drop)]
 struct Front {
@@ -139,56 +237,29 @@ struct Front {
     used: usize,
 }
 
-// Reads the head in what has come, and receives once more where it is due. Some is the length of the accepted head.
-fn advance<L: Links>(
-    alloc: Global,
-    link: &mut L,
-    block: &mut [u8],
-    bytes: &mut Vec<u8>,
-    total: u64,
-) -> Result<Option<usize>, Loss>
-    requires block { 0 < length block.old }
-    requires total { 0 < total }
-    ensures head { IfOk result (λ used. IfSome used (λ used. HasHead bytes.new.items total used × (used ≤ length bytes.new.items))) }
-    ensures grows { result ≡ Ok None → (length bytes.old.items < length bytes.new.items) × (length bytes.old.items ≤ 65535) }
-    ensures streams { IsTrue L.tells → (dial : Dialling) → Received dial (L.streams link.old) false bytes.old.items
-        → MatchResult result (λ _. Received dial (L.streams link.new) false bytes.new.items) (Lost dial (L.streams link.new) total) }
-    ensures link { IsErrOf result Link → Rose (L.faults link.old) (L.faults link.new) }
-    ensures later { L.faults link.old ≤ L.faults link.new }
-{
-    match read_reply(alloc, bytes, total) {
-        HeadState::Accepted { used } => Ok(Some(used)),
-        HeadState::Due => {
-            if receive_more(link, block, bytes)? {
-                Ok(None)
-            } else {
-                Err(Loss::Short)
-            }
-        }
-        HeadState::Wrong => Err(Loss::Reply),
-        HeadState::NoMemory => Err(Loss::NoMemory),
-    }
-}
-
 // Receives until the accepted head has come.
 fn receive_head<L: Links>(
     alloc: Global,
     link: &mut L,
     block: &mut [u8],
-    total: u64,
+    asking: &Asking,
 ) -> Result<Front, Loss>
     requires block { 0 < length block.old }
-    requires total { 0 < total }
-    ensures head { IfOk result (λ front. HasHead front.bytes.items total front.used) }
+    requires range { IsRange asking.now }
+    ensures head { IfOk result (λ front. HasHead front.bytes.items asking.now front.used) }
     ensures within { IfOk result (λ front. front.used ≤ length front.bytes.items) }
-    ensures streams { IsTrue L.tells → (dial : Dialling) → Received dial (L.streams link.old) false []
-        → MatchResult result (λ front. Received dial (L.streams link.new) false front.bytes.items) (Lost dial (L.streams link.new) total) }
+    ensures ends { IsTrue L.tells → (dial : Dialling) → dial.asking ≡ asking.now
+        → Received dial (L.streams link.old) (L.due link.old) false []
+        → MatchResult result (λ front. Received dial (L.streams link.new) (L.due link.new) false front.bytes.items) (LostIn dial (L.streams link.new)) }
+    ensures content { IsTrue L.tells → L.content link.new ≡ L.content link.old }
     ensures link { IsErrOf result Link → Rose (L.faults link.old) (L.faults link.new) }
     ensures later { L.faults link.old ≤ L.faults link.new }
 {
+    // No head has no bytes.
+    head_laws();
     let mut bytes = Vec::new(alloc);
     'turns: loop {
-        if let Some(used) = advance(alloc, link, block, &mut bytes, total)? {
+        if let Some(used) = advance(alloc, link, block, &mut bytes, asking)? {
             return Ok(Front { bytes, used });
         }
     }
@@ -207,47 +278,31 @@ fn copy_front(into: &mut [u8], from: &[u8]) -> usize
 // Fills a body with what came behind its head, and what comes.
 fn receive_rest<L: Links>(
     link: &mut L,
-    front: &[u8],
-    used: usize,
+    front: &Front,
+    asking: &Asking,
     body: &mut [u8],
 ) -> Result<(), Loss>
-    requires within { used ≤ length front.now }
-    requires head { HasHead front.now (length body.old) used }
-    ensures ends { IsTrue L.tells → (dial : Dialling) → Received dial (L.streams link.old) false front.now
-        → MatchResult result (λ _. Came dial (L.streams link.new) (length body.new) body.new) (Lost dial (L.streams link.new) (length body.new)) }
+    requires within { front.now.used ≤ length front.now.bytes.items }
+    requires head { HasHead front.now.bytes.items asking.now front.now.used }
+    requires room { length body.old ≡ asking.now.len }
+    ensures ends { IsTrue L.tells → (dial : Dialling) → dial.asking ≡ asking.now
+        → Received dial (L.streams link.old) (L.due link.old) false front.now.bytes.items
+        → MatchResult result (λ _. CameIn dial (L.streams link.new) body.new) (LostIn dial (L.streams link.new)) }
+    ensures content { IsTrue L.tells → L.content link.new ≡ L.content link.old }
     ensures link { IsErrOf result Link → Rose (L.faults link.old) (L.faults link.new) }
     ensures later { L.faults link.old ≤ L.faults link.new }
 {
     head_laws();
-    let have = copy_front(body, &front[used..]);
+    let have = copy_front(body, &front.bytes[front.used..]);
     fill(link, body, have)
-}
-
-// Receives the body behind the accepted head.
-fn receive_body<L: Links>(
-    alloc: Global,
-    link: &mut L,
-    front: &Front,
-    total: u64,
-) -> Result<Vec<u8>, Loss>
-    requires within { front.now.used ≤ length front.now.bytes.items }
-    requires head { HasHead front.now.bytes.items total front.now.used }
-    ensures size { IfOk result (λ body. length body.items ≡ total) }
-    ensures ends { IsTrue L.tells → (dial : Dialling) → Received dial (L.streams link.old) false front.now.bytes.items
-        → MatchResult result (λ body. Came dial (L.streams link.new) total body.items) (Lost dial (L.streams link.new) total) }
-    ensures link { IsErrOf result Link → Rose (L.faults link.old) (L.faults link.new) }
-    ensures later { L.faults link.old ≤ L.faults link.new }
-{
-    let mut body = vec![in alloc; 0; total as usize]?;
-    receive_rest(link, &front.bytes, front.used, &mut body)?;
-    Ok(body)
 }
 
 // Sends the request over a link that was just dialled.
 fn ask<L: Links>(link: &mut L, request: &[u8]) -> Result<(), Loss>
-    ensures streams { IsTrue L.tells → (dial : Dialling) (total : ℕ) → dial.request ≡ request.now
-        → L.streams link.old ≡ dialled dial.host dial.port ∷ dial.before
-        → MatchResult result (λ _. Received dial (L.streams link.new) false []) (Lost dial (L.streams link.new) total) }
+    ensures ends { IsTrue L.tells → (dial : Dialling) → IsBegun dial request.now (L.streams link.old) (L.due link.old) (L.content link.old)
+        → MatchResult result (λ _. Received dial (L.streams link.new) (L.due link.new) false []) (LostIn dial (L.streams link.new)) }
+    ensures serving { IsTrue L.tells → (dial : Dialling) → IsBegun dial request.now (L.streams link.old) (L.due link.old) (L.content link.old)
+        → KeepsServing (L.content link.old) (L.content link.new) }
     ensures link { IsErrOf result Link → Rose (L.faults link.old) (L.faults link.new) }
     ensures later { L.faults link.old ≤ L.faults link.new }
 {
@@ -259,39 +314,73 @@ fn exchange<L: Links>(
     alloc: Global,
     link: &mut L,
     request: &[u8],
-    total: u64,
-) -> Result<Vec<u8>, Loss>
-    requires { 0 < total }
-    ensures size { IfOk result (λ body. length body.items ≡ total) }
-    ensures ends { IsTrue L.tells → (dial : Dialling) → dial.request ≡ request.now → L.streams link.old ≡ dialled dial.host dial.port ∷ dial.before
-        → MatchResult result (λ body. Came dial (L.streams link.new) total body.items) (Lost dial (L.streams link.new) total) }
+    asking: &Asking,
+    body: &mut [u8],
+) -> Result<(), Loss>
+    requires range { IsRange asking.now }
+    requires room { length body.old ≡ asking.now.len }
+    ensures ends { IsTrue L.tells → (dial : Dialling) → dial.asking ≡ asking.now
+        → IsBegun dial request.now (L.streams link.old) (L.due link.old) (L.content link.old)
+        → MatchResult result (λ _. CameIn dial (L.streams link.new) body.new) (LostIn dial (L.streams link.new)) }
+    ensures serving { IsTrue L.tells → (dial : Dialling) → IsBegun dial request.now (L.streams link.old) (L.due link.old) (L.content link.old)
+        → KeepsServing (L.content link.old) (L.content link.new) }
     ensures link { IsErrOf result Link → Rose (L.faults link.old) (L.faults link.new) }
     ensures later { L.faults link.old ≤ L.faults link.new }
 {
     let mut block = vec![in alloc; 0; READ]?;
     ask(link, request)?;
-    let front = receive_head(alloc, link, &mut block, total)?;
-    receive_body(alloc, link, &front, total)
+    let front = receive_head(alloc, link, &mut block, asking)?;
+    receive_rest(link, &front, asking, body)
 }
 
-/// The bytes of a resource, all of its `total` bytes, by one request over a new connection.
-pub fn fetch<L: Links>(
+// Dials the seed, asks it for the range, and hangs up.
+fn fetch_from<L: Links>(
     alloc: Global,
     link: &mut L,
     seed: &Endpoint,
-    total: u64,
-) -> Result<Vec<u8>, Loss>
-    requires { 0 < total }
-    ensures ends { IsTrue L.tells → MatchResult result (λ body. Came (dial_of seed.now total (L.streams link.old)) (L.streams link.new) total body.items)
-        (Lost (dial_of seed.now total (L.streams link.old)) (L.streams link.new) total) }
-    ensures size { IfOk result (λ body. length body.items ≡ total) }
+    asking: &Asking,
+    body: &mut [u8],
+) -> Result<(), Loss>
+    requires range { IsRange asking.now }
+    requires room { length body.old ≡ asking.now.len }
+    requires leads { LeadsTo asking.now.url seed.now }
+    ensures ends { IsTrue L.tells → FetchEnds (asking.now ∷ []) (L.streams link.old) (L.streams link.new) result body.new }
+    ensures served { IsTrue L.tells → (bytes : List ℕ) → Gives (L.content link.old) asking.now bytes → ServesFetch result body.new bytes }
+    ensures serving { IsTrue L.tells → KeepsServing (L.content link.old) (L.content link.new) }
     ensures link { IsErrOf result Link → Rose (L.faults link.old) (L.faults link.new) }
     ensures later { L.faults link.old ≤ L.faults link.new }
 {
+    // What came is compared with what the mirror has.
+    head_laws();
+    replies_are_read();
+    requests_are_answered();
     let host = seed.host_field(alloc)?;
-    let request = request(alloc, seed.target.as_str(), host.as_str(), &all_of(total))?;
+    let asked = asking.asked();
+    let request = request(alloc, seed.target.as_str(), host.as_str(), &asked)?;
     link.dial(seed.host.as_str(), seed.port)?;
-    let got = exchange(alloc, link, &request, total);
+    let got = exchange(alloc, link, &request, asking, body);
     link.hang_up();
     got
+}
+
+/// Fills the body with the range, by one request over a new connection.
+pub fn fetch<L: Links>(
+    alloc: Global,
+    link: &mut L,
+    asking: &Asking,
+    body: &mut [u8],
+) -> Result<(), Loss>
+    requires range { IsRange asking.now }
+    requires room { length body.old ≡ asking.now.len }
+    ensures ends { IsTrue L.tells → FetchEnds (asking.now ∷ []) (L.streams link.old) (L.streams link.new) result body.new }
+    ensures served { IsTrue L.tells → (bytes : List ℕ) → Gives (L.content link.old) asking.now bytes → ServesFetch result body.new bytes }
+    ensures serving { IsTrue L.tells → KeepsServing (L.content link.old) (L.content link.new) }
+    ensures link { IsErrOf result Link → Rose (L.faults link.old) (L.faults link.new) }
+    ensures later { L.faults link.old ≤ L.faults link.new }
+{
+    match Endpoint::of(alloc, asking.url.as_str()) {
+        Ok(seed) => fetch_from(alloc, link, &seed, asking, body),
+        Err(EndErr::NotUrl | EndErr::Scheme) => Err(Loss::Unasked),
+        Err(EndErr::NoMemory) => Err(Loss::NoMemory),
+    }
 }

@@ -1,6 +1,11 @@
 // How a run may end, and the exit status of each end.
 ghost use Rattle.std.specs.Prelude.{◌≡◌};
 ghost use Rattle.aria_top.specs.Ends.{refusal_status, failure_status};
+ghost use Rattle.aria_top.specs.declared.ends.Failure.TheVariants.{NoMemory};
+
+use crate::connection::Loss;
+use dl_kinds::IoErr;
+use std::alloc::AllocError;
 
 /// Why nothing was fetched.
 #[derive(Clone, Copy, Debug, PartialEq, Eq)]
@@ -9,7 +14,9 @@ pub enum Refusal {
     Words,
     /// There is no such metainfo file.
     Missing,
-    /// Its bytes are too many, or not of the accepted form.
+    /// Its bytes are no bencoded value.
+    Bencode,
+    /// Its bytes are too many, or break another rule, or there is no seed.
     Metainfo,
     /// The disk failed while it was read.
     Disk,
@@ -22,6 +29,7 @@ impl Refusal {
         match self {
             Refusal::Words => 28,
             Refusal::Missing => 3,
+            Refusal::Bencode => 25,
             Refusal::Metainfo => 26,
             Refusal::Disk => 17,
         }
@@ -39,8 +47,11 @@ pub enum Failure {
     Short,
     /// The bytes are no head, or not the accepted one.
     Reply,
+    /// The URL of the part that is due is no `http` URL.
+    Unasked,
     /// The piece doesn't have its digest.
     Digest,
+    NoMemory,
 }
 
 impl Failure {
@@ -50,9 +61,47 @@ impl Failure {
         match self {
             Failure::Disk => 17,
             Failure::Link | Failure::Short => 6,
-            Failure::Reply => 22,
+            Failure::Reply | Failure::Unasked => 22,
             Failure::Digest => 32,
+            Failure::NoMemory => 40,
         }
+    }
+}
+
+impl From<Loss> for Failure {
+    ghost use Rattle.aria_top.specs.Ends.{failure_of};
+
+    ghost from_gives = { λ x e. e ≡ failure_of x };
+
+    fn from(loss: Loss) -> Self {
+        match loss {
+            Loss::Link => Failure::Link,
+            Loss::Short => Failure::Short,
+            Loss::Reply => Failure::Reply,
+            Loss::Unasked => Failure::Unasked,
+            Loss::NoMemory => Failure::NoMemory,
+        }
+    }
+}
+
+impl From<IoErr> for Failure {
+    ghost use Rattle.aria_top.specs.Ends.{disk_failure_of};
+
+    ghost from_gives = { λ x e. e ≡ disk_failure_of x };
+
+    fn from(error: IoErr) -> Self {
+        match error {
+            IoErr::Fault => Failure::Disk,
+            IoErr::NoMemory => Failure::NoMemory,
+        }
+    }
+}
+
+impl From<AllocError> for Failure {
+    ghost from_gives = { λ _ e. e ≡ NoMemory };
+
+    fn from(_: AllocError) -> Self {
+        Failure::NoMemory
     }
 }
 
@@ -61,6 +110,6 @@ impl Failure {
 pub struct Progress {
     /// What ended it, and None where the payload is whole.
     pub failure: Option<Failure>,
-    /// The bytes of the pieces that were written.
-    pub completed: u64,
+    /// How many pieces were written.
+    pub pieces: u32,
 }

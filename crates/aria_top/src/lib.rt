@@ -1,13 +1,13 @@
 //! The run of the downloader: from the words of the command line to the payload, the summary and the exit status.
 #![tactic(auto)]
 
+mod asking;
 mod connection;
 mod ends;
 mod metainfo_file;
+mod piece;
 mod reply;
 mod report;
-mod seed;
-mod single;
 mod top;
 mod words;
 mod work;

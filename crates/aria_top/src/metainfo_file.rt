@@ -1,12 +1,19 @@
 // The metainfo file.
-ghost use Rattle.std.specs.Prelude.{◌≡◌, ◌≤◌, ◌<◌, None, IsTrue, IfOk, IsErrOf};
+ghost use Rattle.std.specs.Prelude.{◌≡◌, ◌≤◌, ◌<◌, ℕ, List, Option, None, IsTrue, IfOk, IsErrOf, MatchResult, length};
 ghost use Rattle.dl_words.specs.Counts.{Rose};
 ghost use Rattle.dl_disk.specs.Files.{Stays};
+ghost use Rattle.metainfo.specs.Info.{info_of};
 ghost use Rattle.aria_top.specs.Load.{IsRead, IsTooLarge};
+ghost use Rattle.aria_top.specs.Metainfo.{Says, TellsStop};
+ghost use Rattle.aria_top.specs.Payload.{IsFetchable};
+ghost use Rattle.aria_top.specs.declared.ends.Refusal.TheVariants.{Words, Disk as DiskRefused};
+ghost use Rattle.aria_top.specs.declared.metainfo_file.Stop.TheVariants.{Refused};
 ghost use Rattle.aria_top.specs.declared.metainfo_file.LoadErr.TheVariants.{Missing, TooLarge, Fault, NoMemory};
 
+use crate::ends::Refusal;
 use dl_disk::Disk;
 use dl_kinds::IoErr;
+use metainfo::{Meta, MetaErr};
 use std::alloc::{AllocError, Global};
 
 /// The most bytes of a metainfo file.
@@ -42,9 +49,10 @@ impl From<AllocError> for LoadErr {
     }
 }
 
-/// The bytes of the metainfo file.
-pub fn load<D: Disk>(alloc: Global, disk: &mut D, name: &str) -> Result<Vec<u8>, LoadErr>
+// The bytes of the metainfo file.
+fn load<D: Disk>(alloc: Global, disk: &mut D, name: &str) -> Result<Vec<u8>, LoadErr>
     ensures ok { IfOk result (λ bytes. IsTrue D.tells → IsRead (D.seen disk.old name.now) bytes.items) }
+    ensures small { IfOk result (λ bytes. length bytes.items ≤ 33554432) }
     ensures missing { IsErrOf result Missing → IsTrue D.tells → D.seen disk.old name.now ≡ None }
     ensures too_large { IsErrOf result TooLarge → IsTrue D.tells → IsTooLarge (D.seen disk.old name.now) }
     ensures fault { IsErrOf result Fault → Rose (D.faults disk.old) (D.faults disk.new) }
@@ -61,4 +69,50 @@ pub fn load<D: Disk>(alloc: Global, disk: &mut D, name: &str) -> Result<Vec<u8>,
     let mut bytes = vec![in alloc; 0; len as usize]?;
     disk.read_at(name, 0, &mut bytes)?;
     Ok(bytes)
+}
+
+/// Why there is nothing to fetch.
+#[derive(Clone, Copy, Debug, PartialEq, Eq)]
+pub enum Stop {
+    Refused(Refusal),
+    NoMemory,
+}
+
+// What the bytes of a file say, where there is a seed.
+fn read_meta(alloc: Global, bytes: &[u8]) -> Result<Meta, Stop>
+    requires { length bytes.now ≤ 33554432 }
+    ensures told { (file : Option (List ℕ)) → IsRead file bytes.now → MatchResult result (λ meta. Says file (info_of meta)) (TellsStop file) }
+    ensures fetchable { IfOk result (λ meta. IsFetchable (info_of meta)) }
+    ensures words { IsErrOf result (Refused Words) → ⊥ }
+    ensures disk { IsErrOf result (Refused DiskRefused) → ⊥ }
+{
+    match Meta::read(alloc, bytes) {
+        Ok(meta) => {
+            if meta.seeds.is_empty() {
+                return Err(Stop::Refused(Refusal::Metainfo));
+            }
+            Ok(meta)
+        }
+        Err(MetaErr::Bencode(_)) => Err(Stop::Refused(Refusal::Bencode)),
+        Err(MetaErr::NoMemory) => Err(Stop::NoMemory),
+        Err(_) => Err(Stop::Refused(Refusal::Metainfo)),
+    }
+}
+
+/// What the metainfo file of this name says.
+pub fn read_metainfo<D: Disk>(alloc: Global, disk: &mut D, name: &str) -> Result<Meta, Stop>
+    ensures told { IsTrue D.tells → MatchResult result (λ meta. Says (D.seen disk.old name.now) (info_of meta)) (TellsStop (D.seen disk.old name.now)) }
+    ensures fetchable { IfOk result (λ meta. IsFetchable (info_of meta)) }
+    ensures words { IsErrOf result (Refused Words) → ⊥ }
+    ensures disk { IsErrOf result (Refused DiskRefused) → Rose (D.faults disk.old) (D.faults disk.new) }
+    ensures later { D.faults disk.old ≤ D.faults disk.new }
+    ensures stays { IsTrue D.tells → Stays (D.seen disk.old) (D.seen disk.new) (D.may_leave disk.old) (D.may_leave disk.new) }
+{
+    match load(alloc, disk, name) {
+        Ok(bytes) => read_meta(alloc, &bytes),
+        Err(LoadErr::Missing) => Err(Stop::Refused(Refusal::Missing)),
+        Err(LoadErr::TooLarge) => Err(Stop::Refused(Refusal::Metainfo)),
+        Err(LoadErr::Fault) => Err(Stop::Refused(Refusal::Disk)),
+        Err(LoadErr::NoMemory) => Err(Stop::NoMemory),
+    }
 }

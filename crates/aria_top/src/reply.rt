@@ -1,8 +1,12 @@
-// What the bytes of a reply to a request for a whole resource say.
-ghost use Rattle.std.specs.Prelude.{◌≡◌, ◌<◌, ◌↔◌, IsTrue};
-ghost use Rattle.aria_top.specs.Reply.{asked_all, IsAccepted, Says};
+// What the bytes of a reply to a request for a range say.
+ghost use Rattle.std.specs.Prelude.{◌≡◌, ◌<◌, ◌≤◌, ◌↔◌, IsTrue, length};
+ghost use Rattle.aria_top.specs.Asking.{IsRange, asked_of};
+ghost use Rattle.aria_top.specs.Reply.{IsAccepted, IsHeadless, Says};
 
-use range_http::{Asked, Framing, Head, HeadRead, Verdict, classify, read_head};
+use crate::asking::Asking;
+use range_http::{
+    Framing, Head, HeadRead, Verdict, classify, has_empty_line, head_laws, read_head,
+};
 use std::alloc::Global;
 
 /// What the bytes of a reply say so far of its head.
@@ -17,40 +21,31 @@ pub enum HeadState {
     NoMemory,
 }
 
-/// Asks for all of a resource of so many bytes.
-pub fn all_of(total: u64) -> Asked
-    requires { 0 < total }
-    ensures { result ≡ asked_all total }
+fn accepts(head: &Head, asking: &Asking) -> bool
+    requires { IsRange asking.now }
+    ensures { IsTrue result ↔ IsAccepted asking.now head.now }
 {
-    Asked {
-        first: 0,
-        last: total - 1,
-        total: Some(total),
-    }
-}
-
-fn accepts(head: &Head, total: u64) -> bool
-    requires { 0 < total }
-    ensures { IsTrue result ↔ IsAccepted total head.now }
-{
-    match classify(head, &all_of(total)) {
+    let asked = asking.asked();
+    match classify(head, &asked) {
         Verdict::Part {
             last,
             framing: Framing::Length(_),
             ..
-        } => last == total - 1,
+        } => last == asked.last,
         _ => false,
     }
 }
 
 /// Reads the head at the front of the bytes.
-pub fn read_reply(alloc: Global, bytes: &[u8], total: u64) -> HeadState
-    requires { 0 < total }
-    ensures { Says bytes.now total result }
+pub fn read_reply(alloc: Global, bytes: &[u8], asking: &Asking) -> HeadState
+    requires { IsRange asking.now }
+    ensures { Says bytes.now asking.now result }
 {
+    // Bytes that may become a head begin with none.
+    head_laws();
     match read_head(alloc, bytes) {
         HeadRead::Whole { head, used } => {
-            if accepts(&head, total) {
+            if accepts(&head, asking) {
                 HeadState::Accepted {
                     used: used as usize,
                 }

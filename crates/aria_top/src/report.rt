@@ -1,13 +1,14 @@
 // What a run writes.
-ghost use Rattle.std.specs.Prelude.{◌≡◌, ◌⊎◌, ◌++◌, IfOk, IsTrue, string_bytes};
+ghost use Rattle.std.specs.Prelude.{◌≡◌, ◌≢◌, ◌⊎◌, ◌++◌, IfOk, IsTrue, string_bytes};
 ghost use Rattle.dl_words.specs.Counts.{Rose};
 ghost use Rattle.aria_top.specs.Ends.{refusal_status, work_status};
-ghost use Rattle.aria_top.specs.Wanted.{wanted_of};
+ghost use Rattle.metainfo.specs.Info.{info_of};
+ghost use Rattle.aria_top.specs.Payload.{bytes_of_pieces};
 ghost use Rattle.aria_top.specs.Run.{error_line, first_gid, stat_of, rest_of_summary, summary, Told};
 
 use crate::ends::{Progress, Refusal};
-use crate::seed::Single;
 use dl_kinds::{Gid, IoErr, NoMemory, Sink};
+use metainfo::Meta;
 use std::alloc::Global;
 
 /// The status of a run for which memory was wanting, and of one whose summary the sink didn't take.
@@ -57,51 +58,59 @@ fn stat(status: u8) -> &'static str
 }
 
 // What follows the number of a download in its line.
-fn rest_of_line(
-    alloc: Global,
-    single: &Single,
-    status: u8,
-    completed: u64,
-) -> Result<String, NoMemory>
-    ensures { IfOk result (λ text. string_bytes text ≡ rest_of_summary (wanted_of single.now) status completed) }
+fn rest_of_line(alloc: Global, meta: &Meta, status: u8, completed: u64) -> Result<String, NoMemory>
+    ensures { IfOk result (λ text. string_bytes text ≡ rest_of_summary (info_of meta.now) status completed) }
 {
     let stat = stat(status);
-    let total = single.plan.total;
-    let name = single.name.as_str();
+    let total = meta.plan.total;
+    let name = meta.name.as_str();
     format!(in alloc; "|{stat}|{completed}|{total}|{status}|{name}\n")
 }
 
 fn summary_text(
     alloc: Global,
     gids: u64,
-    single: &Single,
+    meta: &Meta,
     status: u8,
     completed: u64,
 ) -> Result<Vec<u8>, NoMemory>
-    ensures { IfOk result (λ text. text.items ≡ summary gids (wanted_of single.now) status completed) }
+    ensures { IfOk result (λ text. text.items ≡ summary gids (info_of meta.now) status completed) }
 {
     let mut text = b"gid|stat|completed|total|code|path\n".to_vec(alloc)?;
     text.extend_from_slice(&gid_of(gids).text())?;
-    let rest = rest_of_line(alloc, single, status, completed)?;
+    let rest = rest_of_line(alloc, meta, status, completed)?;
     text.extend_from_slice(rest.as_bytes())?;
     Ok(text)
 }
 
-/// Writes the summary, and gives the status.
+// The bytes of so many pieces.
+fn completed(meta: &Meta, pieces: u32) -> u64
+    ensures { result ≡ bytes_of_pieces (info_of meta.now) pieces }
+{
+    let piece_len = meta.plan.piece_len as u64;
+    (pieces as u64 * piece_len).min(meta.plan.total)
+}
+
+/// Writes the summary, and gives the status. After want of memory it writes nothing.
 pub fn report_progress<O: Sink>(
     alloc: Global,
     gids: u64,
-    single: &Single,
+    meta: &Meta,
     progress: &Progress,
     out: &mut O,
 ) -> u8
     ensures status { (result ≡ work_status progress.now.failure) ⊎ (result ≡ 40) ⊎ (result ≡ 41) }
     ensures sink { result ≡ 41 → Rose (O.faults out.old) (O.faults out.new) }
-    ensures told { result ≡ work_status progress.now.failure → IsTrue O.tells
-        → O.taken out.new ≡ O.taken out.old ++ summary gids (wanted_of single.now) (work_status progress.now.failure) progress.now.completed }
+    ensures told { result ≡ work_status progress.now.failure → result ≢ 40 → IsTrue O.tells
+        → O.taken out.new ≡ O.taken out.old ++ summary gids (info_of meta.now) (work_status progress.now.failure)
+        (bytes_of_pieces (info_of meta.now) progress.now.pieces) }
 {
     let status = status_of(progress);
-    let Ok(text) = summary_text(alloc, gids, single, status, progress.completed) else {
+    if status == WANTS_MEMORY {
+        return WANTS_MEMORY;
+    }
+    let completed = completed(meta, progress.pieces);
+    let Ok(text) = summary_text(alloc, gids, meta, status, completed) else {
         return WANTS_MEMORY;
     };
     match out.write(&text) {

@@ -1,109 +1,199 @@
-// The work on a payload: it is fetched, compared with its digest, and stored.
-ghost use Rattle.std.specs.Prelude.{◌≡◌, ◌≤◌, ◌<◌, ◌⊎◌, None, Some, IsTrue, IfOk, OnOk, IsErrOf, length};
+// The work on a payload: its pieces are fetched in order, and each is written once it is right.
+ghost use Rattle.std.specs.Prelude.{◌≡◌, ◌≤◌, ◌<◌, ◌+◌, ◌⊎◌, None, Some, IsTrue, IfErr, IfSome, OnOk, OnErr, IsErrOf, min, length};
 ghost use Rattle.dl_words.specs.Counts.{Rose};
 ghost use Rattle.sha1.specs.Sha1.{sha1};
-ghost use Rattle.dl_disk.specs.Files.{bytes_of};
-ghost use Rattle.aria_top.specs.Wanted.{wanted_of};
-ghost use Rattle.aria_top.specs.Payload.{HoldsPayload, Always, KeepsOthers, Ended, Completed};
+ghost use Rattle.metainfo.specs.Info.{info_of};
+ghost use Rattle.payload_files.specs.Changes.{KeepsOthers};
+ghost use Rattle.payload_files.specs.Names.{HasFolders};
+ghost use Rattle.payload_files.specs.Payload.{HasFiles};
+ghost use Rattle.aria_top.specs.Askings.{piece_count, size_of, digest_of};
+ghost use Rattle.aria_top.specs.Payload.{IsFetchable, PiecesStand, Stands, AreWritten};
+ghost use Rattle.aria_top.specs.Serving.{GivesPiece, Serves, KeepsServing, IsOfOutside};
+ghost use Rattle.aria_top.specs.Ends.{IsOfDisk};
+ghost use Rattle.aria_top.specs.Worked.{PieceEnds, WorkEnds};
 ghost use Rattle.aria_top.specs.declared.ends.Failure.TheVariants.{Disk, Link};
 
-use crate::connection::{Loss, fetch};
 use crate::ends::{Failure, Progress};
-use crate::seed::Single;
+use crate::piece::fetch_piece;
 use dl_disk::Disk;
-use dl_kinds::{IoErr, NoMemory};
 use link_source::Links;
+use metainfo::Meta;
+use payload_files::{make_files, same_files_hold, sync_files, write_slice};
 use sha1::Sha1;
 use std::alloc::Global;
 
-// A failure before any piece was written.
-fn nothing(failure: Failure) -> Progress
+// Fetches a piece, and compares it with its digest.
+fn fetch_right<L: Links>(
+    alloc: Global,
+    link: &mut L,
+    meta: &Meta,
+    piece: u32,
+    into: &mut [u8],
+) -> Result<(), Failure>
+    requires fetchable { IsFetchable (info_of meta.now) }
+    requires within { piece < meta.now.plan.pieces }
+    requires room { length into.old ≡ size_of (info_of meta.now) piece }
+    ensures right { OnOk result (sha1 into.new ≡ digest_of (info_of meta.now) piece) }
+    ensures ends { IsTrue L.tells → PieceEnds (info_of meta.now) piece (L.streams link.old) (L.streams link.new) result }
+    ensures served { IsTrue L.tells → GivesPiece (L.content link.old) (info_of meta.now) piece → IfErr result IsOfOutside }
+    ensures serving { IsTrue L.tells → KeepsServing (L.content link.old) (L.content link.new) }
+    ensures disk { IsErrOf result Disk → ⊥ }
+    ensures link { IsErrOf result Link → Rose (L.faults link.old) (L.faults link.new) }
+    ensures later { L.faults link.old ≤ L.faults link.new }
+{
+    fetch_piece(alloc, link, meta, piece, into)?;
+    let digest = meta.digests.get(piece as usize).unwrap();
+    if Sha1::digest(into) == *digest {
+        Ok(())
+    } else {
+        Err(Failure::Digest)
+    }
+}
+
+// Fetches a piece, and writes it where it is right.
+fn complete_piece<D: Disk, L: Links>(
+    alloc: Global,
+    disk: &mut D,
+    link: &mut L,
+    meta: &Meta,
+    piece: u32,
+    buffer: &mut [u8],
+) -> Result<(), Failure>
+    requires fetchable { IsFetchable (info_of meta.now) }
+    requires within { piece < meta.now.plan.pieces }
+    requires room { size_of (info_of meta.now) piece ≤ length buffer.old }
+    ensures ends { IsTrue L.tells → PieceEnds (info_of meta.now) piece (L.streams link.old) (L.streams link.new) result }
+    ensures served { IsTrue L.tells → GivesPiece (L.content link.old) (info_of meta.now) piece → IfErr result IsOfOutside }
+    ensures serving { IsTrue L.tells → KeepsServing (L.content link.old) (L.content link.new) }
+    ensures link { IsErrOf result Link → Rose (L.faults link.old) (L.faults link.new) }
+    ensures later { L.faults link.old ≤ L.faults link.new }
+    ensures written { OnOk result (IsTrue D.tells → PiecesStand (info_of meta.now) (D.seen disk.old) piece → PiecesStand (info_of meta.now) (D.seen disk.new) (piece + 1)) }
+    ensures kept { IsTrue D.tells → PiecesStand (info_of meta.now) (D.seen disk.old) piece → PiecesStand (info_of meta.now) (D.seen disk.new) piece }
+    ensures others { IsTrue D.tells → KeepsOthers meta.now.layout (D.seen disk.old) (D.seen disk.new) (D.may_leave disk.old) (D.may_leave disk.new) }
+    ensures folders { IsTrue D.tells → D.folders disk.new ≡ D.folders disk.old }
+    ensures disk { IsErrOf result Disk → Rose (D.faults disk.old) (D.faults disk.new) }
+    ensures disk_later { D.faults disk.old ≤ D.faults disk.new }
+{
+    let (start, len) = meta.plan.piece_span(piece);
+    let bytes = &mut buffer[..len as usize];
+    fetch_right(alloc, link, meta, piece, bytes)?;
+    write_slice(alloc, disk, &meta.layout, start, bytes)?;
+    Ok(())
+}
+
+fn stopped(failure: Failure, pieces: u32) -> Progress
     ensures failure { result.failure ≡ Some failure }
-    ensures completed { result.completed ≡ 0 }
+    ensures pieces { result.pieces ≡ pieces }
 {
     Progress {
         failure: Some(failure),
-        completed: 0,
+        pieces,
     }
 }
 
-fn stopped(error: IoErr, completed: u64) -> Result<Progress, NoMemory>
-    ensures failure { IfOk result (λ progress. (progress.failure ≡ Some Disk) × (progress.completed ≡ completed)) }
-    ensures fault { IfOk result (λ progress. error ≡ IoErr.Fault) }
-{
-    match error {
-        IoErr::Fault => Ok(Progress {
-            failure: Some(Failure::Disk),
-            completed,
-        }),
-        IoErr::NoMemory => Err(NoMemory),
-    }
-}
-
-// Writes a payload whose length the file has, and makes it last.
-fn store<D: Disk>(disk: &mut D, single: &Single, payload: &[u8]) -> Result<Progress, NoMemory>
-    requires size { length payload.now ≡ single.now.plan.total }
-    requires right { sha1 payload.now ≡ single.now.digest }
-    requires room { IsTrue D.tells → length (bytes_of (D.seen disk.old single.now.name)) ≡ single.now.plan.total }
-    ensures ends { IfOk result (λ progress. (progress.failure ≡ None) ⊎ (progress.failure ≡ Some Disk)) }
-    ensures completed { IfOk result (λ progress. IsTrue D.tells → Completed (wanted_of single.now) (D.seen disk.new) progress.failure progress.completed) }
-    ensures held { IfOk result (λ progress. progress.failure ≡ None → IsTrue D.tells → HoldsPayload (wanted_of single.now) (D.seen disk.new)) }
-    ensures lasting { IfOk result (λ progress. progress.failure ≡ None → IsTrue D.tells → Always (D.may_leave disk.new) (HoldsPayload (wanted_of single.now))) }
-    ensures others { IsTrue D.tells → KeepsOthers single.now.name (D.seen disk.old) (D.seen disk.new) (D.may_leave disk.old) (D.may_leave disk.new) }
-    ensures fault { IfOk result (λ progress. progress.failure ≡ Some Disk → Rose (D.faults disk.old) (D.faults disk.new)) }
+// Fetches and writes the pieces in order. The first failure ends it.
+fn complete_pieces<D: Disk, L: Links>(
+    alloc: Global,
+    disk: &mut D,
+    link: &mut L,
+    meta: &Meta,
+    buffer: &mut [u8],
+) -> Progress
+    requires fetchable { IsFetchable (info_of meta.now) }
+    requires room { min meta.now.plan.total meta.now.plan.piece_len ≤ length buffer.old }
+    requires lengths { IsTrue D.tells → HasFiles meta.now.layout (D.seen disk.old) }
+    ensures ends { IsTrue L.tells → WorkEnds (info_of meta.now) (L.streams link.old) (L.streams link.new) result.pieces result.failure }
+    ensures served { IsTrue L.tells → Serves (L.content link.old) (info_of meta.now) → IfSome result.failure IsOfOutside }
+    ensures link { result.failure ≡ Some Link → Rose (L.faults link.old) (L.faults link.new) }
+    ensures stand { IsTrue D.tells → PiecesStand (info_of meta.now) (D.seen disk.new) result.pieces }
+    ensures all { result.failure ≡ None → result.pieces ≡ piece_count (info_of meta.now) }
+    ensures others { IsTrue D.tells → KeepsOthers meta.now.layout (D.seen disk.old) (D.seen disk.new) (D.may_leave disk.old) (D.may_leave disk.new) }
+    ensures folders { IsTrue D.tells → D.folders disk.new ≡ D.folders disk.old }
+    ensures disk { result.failure ≡ Some Disk → Rose (D.faults disk.old) (D.faults disk.new) }
     ensures later { D.faults disk.old ≤ D.faults disk.new }
 {
-    let name = single.name.as_str();
-    if let Err(error) = disk.write_at(name, 0, payload) {
-        return stopped(error, 0);
+    'each: for piece in 0..meta.plan.pieces {
+        if let Err(failure) = complete_piece(alloc, disk, link, meta, piece, buffer) {
+            return stopped(failure, piece);
+        }
     }
-    if let Err(error) = disk.sync(name) {
-        return stopped(error, single.plan.total);
-    }
-    Ok(Progress {
+    Progress {
         failure: None,
-        completed: single.plan.total,
-    })
+        pieces: meta.plan.pieces,
+    }
 }
 
-// Gives the file of the payload its length.
-fn lengthen<D: Disk>(disk: &mut D, single: &Single) -> Result<(), IoErr>
-    ensures room { OnOk result (IsTrue D.tells → length (bytes_of (D.seen disk.new single.now.name)) ≡ single.now.plan.total) }
-    ensures others { IsTrue D.tells → KeepsOthers single.now.name (D.seen disk.old) (D.seen disk.new) (D.may_leave disk.old) (D.may_leave disk.new) }
-    ensures fault { IsErrOf result IoErr.Fault → Rose (D.faults disk.old) (D.faults disk.new) }
+// Makes the files last, in which all pieces are written.
+fn make_last<D: Disk>(alloc: Global, disk: &mut D, meta: &Meta) -> Progress
+    requires { IsTrue D.tells → PiecesStand (info_of meta.now) (D.seen disk.old) meta.now.plan.pieces }
+    ensures pieces { result.pieces ≡ piece_count (info_of meta.now) }
+    ensures stand { IsTrue D.tells → PiecesStand (info_of meta.now) (D.seen disk.new) result.pieces }
+    ensures lasts { result.failure ≡ None → IsTrue D.tells → Stands (info_of meta.now) (D.seen disk.new) (D.may_leave disk.new) }
+    ensures others { IsTrue D.tells → KeepsOthers meta.now.layout (D.seen disk.old) (D.seen disk.new) (D.may_leave disk.old) (D.may_leave disk.new) }
+    ensures folders { IsTrue D.tells → D.folders disk.new ≡ D.folders disk.old }
+    ensures causes { IfSome result.failure IsOfDisk }
+    ensures disk { result.failure ≡ Some Disk → Rose (D.faults disk.old) (D.faults disk.new) }
     ensures later { D.faults disk.old ≤ D.faults disk.new }
 {
-    disk.set_len(single.name.as_str(), single.plan.total)
+    // Files that are the same hold the same payload.
+    same_files_hold();
+    match sync_files(alloc, disk, &meta.layout) {
+        Ok(()) => Progress {
+            failure: None,
+            pieces: meta.plan.pieces,
+        },
+        Err(error) => stopped(Failure::from(error), meta.plan.pieces),
+    }
 }
 
-/// Gives the file its length, fetches the payload, and stores it where it is right. The first failure ends it.
+// Fetches and writes the pieces into files that have their lengths, and makes them last.
+fn complete<D: Disk, L: Links>(alloc: Global, disk: &mut D, link: &mut L, meta: &Meta) -> Progress
+    requires fetchable { IsFetchable (info_of meta.now) }
+    requires lengths { IsTrue D.tells → HasFiles meta.now.layout (D.seen disk.old) }
+    ensures ends { IsTrue L.tells → WorkEnds (info_of meta.now) (L.streams link.old) (L.streams link.new) result.pieces result.failure }
+    ensures served { IsTrue L.tells → Serves (L.content link.old) (info_of meta.now) → IfSome result.failure IsOfOutside }
+    ensures link { result.failure ≡ Some Link → Rose (L.faults link.old) (L.faults link.new) }
+    ensures stand { IsTrue D.tells → PiecesStand (info_of meta.now) (D.seen disk.new) result.pieces }
+    ensures all { result.failure ≡ None → result.pieces ≡ piece_count (info_of meta.now) }
+    ensures lasts { result.failure ≡ None → IsTrue D.tells → Stands (info_of meta.now) (D.seen disk.new) (D.may_leave disk.new) }
+    ensures others { IsTrue D.tells → KeepsOthers meta.now.layout (D.seen disk.old) (D.seen disk.new) (D.may_leave disk.old) (D.may_leave disk.new) }
+    ensures folders { IsTrue D.tells → D.folders disk.new ≡ D.folders disk.old }
+    ensures disk { result.failure ≡ Some Disk → Rose (D.faults disk.old) (D.faults disk.new) }
+    ensures later { D.faults disk.old ≤ D.faults disk.new }
+{
+    let longest = meta.plan.total.min(meta.plan.piece_len as u64);
+    let Ok(mut buffer) = Vec::from_elem(alloc, 0, longest as usize) else {
+        return stopped(Failure::NoMemory, 0);
+    };
+    let progress = complete_pieces(alloc, disk, link, meta, &mut buffer);
+    if progress.failure.is_some() {
+        return progress;
+    }
+    make_last(alloc, disk, meta)
+}
+
+/// Makes the folders and the files, fetches the pieces in order, writes each once it is right, and makes the files last.
+/// The first failure ends it.
 pub fn fetch_payload<D: Disk, L: Links>(
     alloc: Global,
     disk: &mut D,
     link: &mut L,
-    single: &Single,
-) -> Result<Progress, NoMemory>
-    ensures ends { IfOk result (λ progress. IsTrue L.tells → Ended (wanted_of single.now) (L.streams link.old) (L.streams link.new) progress.failure) }
-    ensures completed { IfOk result (λ progress. IsTrue D.tells → Completed (wanted_of single.now) (D.seen disk.new) progress.failure progress.completed) }
-    ensures held { IfOk result (λ progress. progress.failure ≡ None → IsTrue D.tells → HoldsPayload (wanted_of single.now) (D.seen disk.new)) }
-    ensures lasting { IfOk result (λ progress. progress.failure ≡ None → IsTrue D.tells → Always (D.may_leave disk.new) (HoldsPayload (wanted_of single.now))) }
-    ensures others { IsTrue D.tells → KeepsOthers single.now.name (D.seen disk.old) (D.seen disk.new) (D.may_leave disk.old) (D.may_leave disk.new) }
-    ensures disk { IfOk result (λ progress. progress.failure ≡ Some Disk → Rose (D.faults disk.old) (D.faults disk.new)) }
-    ensures link { IfOk result (λ progress. progress.failure ≡ Some Link → Rose (L.faults link.old) (L.faults link.new)) }
+    meta: &Meta,
+) -> Progress
+    requires { IsFetchable (info_of meta.now) }
+    ensures ends { IsTrue L.tells → WorkEnds (info_of meta.now) (L.streams link.old) (L.streams link.new) result.pieces result.failure }
+    ensures served { IsTrue L.tells → Serves (L.content link.old) (info_of meta.now) → IfSome result.failure IsOfOutside }
+    ensures link { result.failure ≡ Some Link → Rose (L.faults link.old) (L.faults link.new) }
+    ensures written { IsTrue D.tells → AreWritten (info_of meta.now) (D.seen disk.new) result.pieces result.failure }
+    ensures all { result.failure ≡ None → result.pieces ≡ piece_count (info_of meta.now) }
+    ensures lasts { result.failure ≡ None → IsTrue D.tells → Stands (info_of meta.now) (D.seen disk.new) (D.may_leave disk.new) }
+    ensures others { IsTrue D.tells → KeepsOthers meta.now.layout (D.seen disk.old) (D.seen disk.new) (D.may_leave disk.old) (D.may_leave disk.new) }
+    ensures folders { result.failure ≡ None → IsTrue D.tells → HasFolders meta.now.layout (D.folders disk.new) }
+    ensures disk { result.failure ≡ Some Disk → Rose (D.faults disk.old) (D.faults disk.new) }
     ensures later { D.faults disk.old ≤ D.faults disk.new }
 {
-    if let Err(error) = lengthen(disk, single) {
-        return stopped(error, 0);
+    match make_files(alloc, disk, &meta.layout) {
+        Ok(()) => complete(alloc, disk, link, meta),
+        Err(error) => stopped(Failure::from(error), 0),
     }
-    let payload = match fetch(alloc, link, &single.seed, single.plan.total) {
-        Ok(payload) => payload,
-        Err(Loss::Link) => return Ok(nothing(Failure::Link)),
-        Err(Loss::Short) => return Ok(nothing(Failure::Short)),
-        Err(Loss::Reply) => return Ok(nothing(Failure::Reply)),
-        Err(Loss::NoMemory) => return Err(NoMemory),
-    };
-    if Sha1::digest(&payload) != single.digest {
-        return Ok(nothing(Failure::Digest));
-    }
-    store(disk, single, &payload)
 }

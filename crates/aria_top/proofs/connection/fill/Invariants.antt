@@ -9,8 +9,10 @@ invariant-turns g l = record {
   forward : l.fn.from ≤ l.at;
   kept : take l.fn.from l.body ≡ take l.fn.from l.fn.body;
   later : g.L.Links.faults l.fn.link ≤ g.L.Links.faults l.link;
-  received : IsTrue g.L.Links.tells → (dial : Dialling) (bytes : List ℕ) → Received dial (g.L.Links.streams l.fn.link) false bytes
-      → Received dial (g.L.Links.streams l.link) false (bytes ++ between l.fn.from l.at l.body);
+  content : IsTrue g.L.Links.tells → g.L.Links.content l.link ≡ g.L.Links.content l.fn.link;
+  received : IsTrue g.L.Links.tells → (dial : Dialling) (bytes : List ℕ)
+      → Received dial (g.L.Links.streams l.fn.link) (g.L.Links.due l.fn.link) false bytes
+      → Received dial (g.L.Links.streams l.link) (g.L.Links.due l.link) false (bytes ++ between l.fn.from l.at l.body);
 }
 
 abbrev pub decreases-turns : goal.decreases-turns

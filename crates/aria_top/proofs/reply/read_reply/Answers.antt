@@ -17,7 +17,9 @@ returns-in-Whole c = inr (
 
 pub returns-in-More : goal.returns-in-More
 unfolding IsUnfinished
-returns-in-More c = let front = c.in-More.ensures.more refl in (inl front, front.short)
+returns-in-More c =
+    let front = c.in-More.ensures.more refl in
+    (inl front, λ head used is. c.head_laws.ensures.finished _ head used is front, front.short)
 
 pub returns-in-Bad : goal.returns-in-Bad
 unfolding IsWrong

@@ -1,33 +1,68 @@
-use Rattle.std.proofs.Common.{◌≡◌, ◌∙◌, ◌++◌, Some, sym, ap, arith, option_copied}
-use Rattle.std.specs.Prelude.{codes}
-use Rattle.aria_top.specs.Words.{metainfo_of}
-use Rattle.aria_top.proofs.Saying.{to_says, says_to, longer_name, lacks_on}
+use Rattle.std.proofs.Common.{◌≡◌, ◌∙◌, [], Some, sym, ap, subst, arith, option_copied}
+use Rattle.link_source.specs.Mirrors.{Content, no_content}
+use Rattle.aria_top.specs.Run.{at_first}
+use Rattle.aria_top.specs.Serving.{Serves}
+use Rattle.aria_top.specs.Words.{file_named}
+use Rattle.aria_top.proofs.Control.{control_is_other, lacks_on}
+use Rattle.aria_top.proofs.First.{first_is, first_set}
+use Rattle.aria_top.proofs.Saying.{to_says, says_to, says_sound}
 use Rattle.aria_top.proofs.top.run.Goals as goal
 
-pub returns-clause-says : goal.returns-clause-says
-returns-clause-says g c ends not_memory not_disk tells =
-    let named : metainfo_of c.args.words.now ≡ Some c.in-Some.name.now = sym c.metainfo_name.ensures ∙ ap option_copied c.in-Some.is in
-    let says = c.run_named-status.ensures.says ends not_memory not_disk tells in
-    (says.0, says_to c.args.words.now (g.D.Disk.seen c.args.disk) c.in-Some.name.now says.0 named says.1)
+pub returns-clause-served : goal.returns-clause-served
+returns-clause-served g c tells told info to serves =
+    let named : file_named c.args.words.now ≡ Some c.in-Some.name.now = sym c.metainfo_name.ensures ∙ ap option_copied c.in-Some.is in
+    let content : at_first g.L.Links.content no_content c.args.links.items ≡ g.L.Links.content c.index_mut.result.now =
+    first_is g.L.Links.content no_content c.args.links.items c.index_mut.result.now (omega arith) c.index_mut.ensures.value in
+    let before : at_first g.L.Links.faults 0 c.args.links.items ≡ g.L.Links.faults c.index_mut.result.now =
+    first_is g.L.Links.faults 0 c.args.links.items c.index_mut.result.now (omega arith) c.index_mut.ensures.value in
+    let after = first_set g.L.Links.faults 0 c.args.links.items c.run_named-status.new.link (omega arith) in
+    let came = c.run_named-status.ensures.served tells told info (to_says c.args.words.now (g.D.Disk.seen c.args.disk) c.in-Some.name.now info named to)
+    (subst (λ (held : Content). Serves held info) content serves) in
+    rw (before, after) came
 
 pub returns-clause-done : goal.returns-clause-done
-returns-clause-done g c done tells wanted to =
-    let named : metainfo_of c.args.words.now ≡ Some c.in-Some.name.now = sym c.metainfo_name.ensures ∙ ap option_copied c.in-Some.is in
-    c.run_named-status.ensures.done done tells wanted (to_says c.args.words.now (g.D.Disk.seen c.args.disk) c.in-Some.name.now wanted named to)
+returns-clause-done g c done tells info to =
+    let named : file_named c.args.words.now ≡ Some c.in-Some.name.now = sym c.metainfo_name.ensures ∙ ap option_copied c.in-Some.is in
+    c.run_named-status.ensures.done done tells info (to_says c.args.words.now (g.D.Disk.seen c.args.disk) c.in-Some.name.now info named to)
+
+pub returns-clause-others : goal.returns-clause-others
+returns-clause-others g c tells info to =
+    let named : file_named c.args.words.now ≡ Some c.in-Some.name.now = sym c.metainfo_name.ensures ∙ ap option_copied c.in-Some.is in
+    c.run_named-status.ensures.others tells info (to_says c.args.words.now (g.D.Disk.seen c.args.disk) c.in-Some.name.now info named to)
 
 pub returns-clause-no_control_file : goal.returns-clause-no_control_file
-returns-clause-no_control_file g c tells wanted to lacks =
-    let named : metainfo_of c.args.words.now ≡ Some c.in-Some.name.now = sym c.metainfo_name.ensures ∙ ap option_copied c.in-Some.is in
-    let differs = longer_name wanted.name (codes ".aria2") (omega arith) in
-    lacks_on wanted.name (wanted.name ++ codes ".aria2") _ _ _ _ differs
-    (c.run_named-status.ensures.others tells wanted (to_says c.args.words.now (g.D.Disk.seen c.args.disk) c.in-Some.name.now wanted named to)) lacks
+returns-clause-no_control_file g c tells info to lacks =
+    let named : file_named c.args.words.now ≡ Some c.in-Some.name.now = sym c.metainfo_name.ensures ∙ ap option_copied c.in-Some.is in
+    let says = to_says c.args.words.now (g.D.Disk.seen c.args.disk) c.in-Some.name.now info named to in
+    lacks_on info.files _ _ _ _ _ (control_is_other info (says_sound c.metainfo_is_sound.ensures _ info says)) (c.run_named-status.ensures.others tells info says) lacks
 
 pub returns-clause-summary : goal.returns-clause-summary
-returns-clause-summary g c not_memory not_sink tells sink_tells wanted to =
-    let named : metainfo_of c.args.words.now ≡ Some c.in-Some.name.now = sym c.metainfo_name.ensures ∙ ap option_copied c.in-Some.is in
-    c.run_named-status.ensures.summary not_memory not_sink tells sink_tells wanted (to_says c.args.words.now (g.D.Disk.seen c.args.disk) c.in-Some.name.now wanted named to)
+returns-clause-summary g c not_memory not_sink tells sink_tells info to =
+    let named : file_named c.args.words.now ≡ Some c.in-Some.name.now = sym c.metainfo_name.ensures ∙ ap option_copied c.in-Some.is in
+    let before : at_first g.L.Links.streams [] c.args.links.items ≡ g.L.Links.streams c.index_mut.result.now =
+    first_is g.L.Links.streams [] c.args.links.items c.index_mut.result.now (omega arith) c.index_mut.ensures.value in
+    let after = first_set g.L.Links.streams [] c.args.links.items c.run_named-status.new.link (omega arith) in
+    let summary = c.run_named-status.ensures.summary not_memory not_sink tells sink_tells info (to_says c.args.words.now (g.D.Disk.seen c.args.disk) c.in-Some.name.now info named to) in
+    simp (before, after) summary
 
 pub returns-clause-unread : goal.returns-clause-unread
 returns-clause-unread g c is tells sink_tells none =
-    let named : metainfo_of c.args.words.now ≡ Some c.in-Some.name.now = sym c.metainfo_name.ensures ∙ ap option_copied c.in-Some.is in
-    c.run_named-status.ensures.unread is tells sink_tells (λ wanted says. none wanted (says_to c.args.words.now (g.D.Disk.seen c.args.disk) c.in-Some.name.now wanted named says))
+    let named : file_named c.args.words.now ≡ Some c.in-Some.name.now = sym c.metainfo_name.ensures ∙ ap option_copied c.in-Some.is in
+    c.run_named-status.ensures.unread is tells sink_tells (λ info says. none info (says_to c.args.words.now (g.D.Disk.seen c.args.disk) c.in-Some.name.now info named says))
+
+pub returns-clause-work : goal.returns-clause-work
+returns-clause-work g c tells told info to =
+    let named : file_named c.args.words.now ≡ Some c.in-Some.name.now = sym c.metainfo_name.ensures ∙ ap option_copied c.in-Some.is in
+    let streams : at_first g.L.Links.streams [] c.args.links.items ≡ g.L.Links.streams c.index_mut.result.now =
+    first_is g.L.Links.streams [] c.args.links.items c.index_mut.result.now (omega arith) c.index_mut.ensures.value in
+    let streams_after = first_set g.L.Links.streams [] c.args.links.items c.run_named-status.new.link (omega arith) in
+    let before : at_first g.L.Links.faults 0 c.args.links.items ≡ g.L.Links.faults c.index_mut.result.now =
+    first_is g.L.Links.faults 0 c.args.links.items c.index_mut.result.now (omega arith) c.index_mut.ensures.value in
+    let after = first_set g.L.Links.faults 0 c.args.links.items c.run_named-status.new.link (omega arith) in
+    let came = c.run_named-status.ensures.work tells told info (to_says c.args.words.now (g.D.Disk.seen c.args.disk) c.in-Some.name.now info named to) in
+    rw (streams, streams_after, before, after) came
+
+pub returns-clause-unfetched : goal.returns-clause-unfetched
+returns-clause-unfetched g c tells none =
+    let named : file_named c.args.words.now ≡ Some c.in-Some.name.now = sym c.metainfo_name.ensures ∙ ap option_copied c.in-Some.is in
+    c.run_named-status.ensures.unfetched tells (λ info says. none info (says_to c.args.words.now (g.D.Disk.seen c.args.disk) c.in-Some.name.now info named says))
