@@ -2,9 +2,10 @@
 // what the exit statuses mean. None of it was taken from a run.
 mod faults;
 mod given;
-mod metainfo;
+mod metainfo_files;
 mod mirrors;
 mod replies;
 mod scripted;
+mod several;
 mod words;
 mod worked;

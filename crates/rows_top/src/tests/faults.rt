@@ -41,7 +41,7 @@ fn a_fault_at_the_metainfo_comes_first(rt: HostRuntime) -> Result<(), Fail> {
         (&["s.torrent"], b"i03e", 1, 3),
         (&["t.torrent"], b"i03e", 0, 17),
         (&["t.torrent"], b"i03e", 1, 17),
-        (&["t.torrent"], b"i03e", 2, 26),
+        (&["t.torrent"], b"i03e", 2, 25),
         (&["t"], b"i03e", 0, 28),
     ];
     for (words, metainfo, number, status) in cases {
@@ -138,7 +138,7 @@ fn the_first_write_of_the_sink_failing(rt: HostRuntime) -> Result<(), Fail> {
         (&["t.torrent"], METAINFO, Some(2), b"hello", 41, None),
         (&["t.torrent"], METAINFO, Some(1), b"hello", 17, None),
         (&["t.torrent"], METAINFO, Some(0), b"hello", 17, None),
-        (&["t.torrent"], b"i03e", None, b"hello", 26, None),
+        (&["t.torrent"], b"i03e", None, b"hello", 25, None),
         (&["s.torrent"], METAINFO, None, b"hello", 3, None),
         (&["t"], METAINFO, None, b"hello", 28, None),
     ];

@@ -122,6 +122,23 @@ pub fn mirror_link(
     MemLinks::new(alloc, mirrors, cut, failing(alloc, fault)?)
 }
 
+/// A link to the mirror of the worked example that has these files, each at its target.
+pub fn files_link(alloc: Global, files: &[(&str, &[u8])]) -> Result<MemLinks, NoMemory> {
+    let mut held = Vec::new(alloc);
+    for (target, bytes) in files {
+        let file = MemFile::Bytes(Blob::of(alloc, bytes)?);
+        held.push((Text::of(alloc, target)?, file))?;
+    }
+    let mut mirrors = Vec::new(alloc);
+    mirrors.push(MemMirror {
+        host: Text::of(alloc, "m.test")?,
+        port: 80,
+        files: held,
+        manner: Manner::Ranges,
+    })?;
+    MemLinks::new(alloc, mirrors, 65_536, Vec::new(alloc))
+}
+
 /// A link to the mirror of the worked example, which has this at `/a.bin`.
 pub fn link_to(alloc: Global, bytes: &[u8]) -> Result<MemLinks, NoMemory> {
     mirror_link(alloc, "m.test", 80, "/a.bin", bytes, 65_536, None)
