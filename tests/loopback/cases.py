@@ -1,4 +1,4 @@
-"""The cases that need nothing but Python."""
+"""The cases of the command line, of one request and its reply, and of what the system refuses."""
 import os
 import signal
 import threading
@@ -17,11 +17,10 @@ from mirrors import (
     sends_byte_by_byte,
     sends_for_ever,
 )
-from rooms import BUILT, PROGRAM, TOP, Skipped, Wrong, case, request, want
-from torrents import MOST_PIECE, broken, metainfo
+from rooms import BUILT, LITTLE, PROGRAM, TOP, Skipped, case, request, want
+from torrents import MOST_PIECE
 
-# Runs under these limits of 64 MiB and 48 MiB of memory, and of one kilobyte a file at most.
-LITTLE = "ulimit -v 65536"
+# Runs under these limits of 48 MiB of memory, and of one kilobyte a file at most.
 TOO_LITTLE = "ulimit -v 49152"
 NO_DISK = "trap '' XFSZ; ulimit -f 1"
 
@@ -62,55 +61,6 @@ def _(room):
     with Mirror(sends(reply(b"hello"))) as mirror:
         room.torrent(mirror.url())
         room.fetches(b"hello", program=f"{TOP}/aria_cli")
-
-
-# The metainfo file.
-
-
-@case("no metainfo file")
-def _(room):
-    room.refuses(3, "t.torrent")
-    room.refuses(3, "no/t.torrent")
-    os.symlink("nowhere", room.path("t.torrent"))
-    room.refuses(3, "t.torrent")
-
-
-@case("a metainfo file that can't be read")
-def _(room):
-    os.mkdir(room.path("t.torrent"))
-    room.refuses(17, "t.torrent")
-    os.mkfifo(room.path("f.torrent"))
-    room.refuses(17, "f.torrent")
-
-
-@case("not a metainfo file")
-def _(room):
-    for name, content in broken(b"http://127.0.0.1/a.bin"):
-        room.put("t.torrent", content)
-        try:
-            room.refuses(26, "t.torrent")
-        except Wrong as why:
-            raise Wrong(f"{name}: {why}") from None
-    want(os.listdir(room.folder) == ["t.torrent"], f"files were made: {os.listdir(room.folder)}")
-
-
-@case("a metainfo file that ends early")
-def _(room):
-    whole = metainfo(b"http://127.0.0.1/a.bin")
-    for length in range(len(whole)):
-        room.put("t.torrent", whole[:length])
-        try:
-            room.refuses(26, "t.torrent")
-        except Wrong as why:
-            raise Wrong(f"at {length}: {why}") from None
-
-
-@case("a metainfo file of 32 MiB and more")
-def _(room):
-    for length in (33_554_432, 33_554_433, 2**36):
-        with open(room.path("t.torrent"), "wb") as it:
-            it.truncate(length)
-        room.refuses(26, "t.torrent")
 
 
 # What the program asks, and where.

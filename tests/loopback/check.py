@@ -8,7 +8,9 @@ import subprocess
 import sys
 import tempfile
 
-import cases  # both list their cases
+import cases  # each lists its cases
+import layouts
+import metainfos
 import peers
 from mirrors import free_port
 from rooms import CASES, PROGRAM, Room, Skipped, Wrong
@@ -28,7 +30,8 @@ def can_unshare():
 
 def lacking():
     """What cases need, and isn't here."""
-    gone = {it for it in ("nginx", "mktorrent", "aria2c", "unshare") if shutil.which(it) is None}
+    commands = ("nginx", "mktorrent", "transmission-create", "transmission-show", "aria2c", "unshare")
+    gone = {it for it in commands if shutil.which(it) is None}
     if not has_ipv6():
         gone.add("ipv6")
     if "unshare" not in gone and not can_unshare():

@@ -1,6 +1,7 @@
-"""Mirrors on loopback: one that records what it is asked, and nginx."""
+"""Mirrors on loopback: two that record what they are asked, and nginx."""
 import contextlib
 import os
+import re
 import socket
 import struct
 import subprocess
@@ -70,15 +71,12 @@ class Mirror:
         connection.settimeout(PATIENCE)
         connection.setsockopt(socket.IPPROTO_TCP, socket.TCP_NODELAY, 1)
         with contextlib.suppress(OSError), connection:
-            asked = b""
-            while b"\r\n\r\n" not in asked:
-                piece = connection.recv(65536)
-                if not piece:
-                    break
-                asked += piece
-            place = len(self.requests)
-            self.requests.append(asked)
-            self.requests[place] += self.serve(connection) or b""
+            self.converse(connection)
+
+    def converse(self, connection):
+        place = len(self.requests)
+        self.requests.append(one_request(connection))
+        self.requests[place] += self.serve(connection) or b""
 
     def wait(self):
         """Until each connection has ended, so that its bytes are all recorded."""
@@ -87,6 +85,51 @@ class Mirror:
 
     def url(self, host="127.0.0.1", target="/a.bin"):
         return f"http://{host}:{self.port}{target}".encode()
+
+
+class Site(Mirror):
+    """Serves ranges of files by their targets, and records each request.
+
+    `instead` has replies of another kind by the number of the request, from 0; the connection is closed after one.
+    """
+
+    def __init__(self, files=None, instead=None, host="127.0.0.1"):
+        super().__init__(None, host)
+        self.files = files or {}
+        self.instead = instead or {}
+
+    def converse(self, connection):
+        while asked := one_request(connection):
+            place = len(self.requests)
+            self.requests.append(asked)
+            if place in self.instead:
+                connection.sendall(self.instead[place])
+                return
+            connection.sendall(self.answer(asked))
+
+    def answer(self, asked):
+        found = re.match(rb"GET (\S+) HTTP/1\.1\r\n(?s:.*)Range: bytes=(\d+)-(\d+)\r\n", asked)
+        if not found:
+            return head(b"Content-Length: 0", status=b"400 Bad Request")
+        payload = self.files.get(found[1].decode())
+        if payload is None:
+            return head(b"Content-Length: 0", status=b"404 Not Found")
+        first, last = int(found[2]), int(found[3])
+        if first > last or first >= len(payload):
+            fields = [b"Content-Range: bytes */%d" % len(payload), b"Content-Length: 0"]
+            return head(*fields, status=b"416 Range Not Satisfiable")
+        return reply(payload[first : last + 1], first=first, total=len(payload))
+
+
+def one_request(connection):
+    """The bytes up to an empty line, or up to the end where none comes."""
+    asked = b""
+    while b"\r\n\r\n" not in asked:
+        piece = connection.recv(65536)
+        if not piece:
+            break
+        asked += piece
+    return asked
 
 
 def sends(whole):

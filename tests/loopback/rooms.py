@@ -1,10 +1,11 @@
 """A folder in which the program runs, what is wanted of a run, and the list of cases."""
+import contextlib
 import os
 import re
 import subprocess
 import sys
 
-from torrents import metainfo
+from torrents import metainfo, whole
 
 TOP = os.path.realpath(f"{os.path.dirname(__file__)}/../..")
 BUILT = f"{TOP}/crates/aria_cli/out/aria_cli"
@@ -12,6 +13,9 @@ PROGRAM = os.path.realpath(sys.argv[1])
 
 # The seconds that a run may take.
 LIMIT = 30
+
+# Runs under this limit of 64 MiB of memory.
+LITTLE = "ulimit -v 65536"
 
 HEADER = b"gid|stat|completed|total|code|path\n"
 CASES = []
@@ -40,18 +44,32 @@ def want(holds, text):
         raise Wrong(text)
 
 
-def request(host, last, target="/a.bin"):
-    """The bytes of a request for a resource from its first byte to this one."""
+@contextlib.contextmanager
+def about(name):
+    """Says which of several things a case found wrong."""
+    try:
+        yield
+    except Wrong as why:
+        raise Wrong(f"{name}: {why}") from None
+
+
+def request(host, last, target="/a.bin", first=0):
+    """The bytes of a request for a resource from one byte to another, with both."""
     lines = [
         f"GET {target} HTTP/1.1",
         f"Host: {host}",
         "User-Agent: aria_cli",
         "Accept: */*",
         "Accept-Encoding: identity",
-        f"Range: bytes=0-{last}",
+        f"Range: bytes={first}-{last}",
         "",
     ]
     return "".join(f"{it}\r\n" for it in lines).encode()
+
+
+def files_of(payload, name):
+    """The files that a payload consists of, as pairs of a path and bytes."""
+    return [(name, payload)] if isinstance(payload, bytes) else [(f"{name}/{path}", it) for path, it in payload]
 
 
 class Room:
@@ -64,6 +82,7 @@ class Room:
         return f"{self.folder}/{name}"
 
     def put(self, name, content):
+        os.makedirs(os.path.dirname(self.path(name)), exist_ok=True)
         with open(self.path(name), "wb") as it:
             it.write(content)
 
@@ -78,12 +97,16 @@ class Room:
     def torrent(self, *words, **more):
         self.put("t.torrent", metainfo(*words, **more))
 
+    def control_files(self):
+        return {it for it in os.listdir(self.folder) if it.endswith(".aria2")}
+
     def run(self, *words, program=PROGRAM, out=subprocess.PIPE, shell="", within=(), meanwhile=None, limit=LIMIT):
         """Runs the program on these words, and gives its status and what it wrote.
 
         A line of shell may come first, and another command may begin it all; `meanwhile` gets the process.
         """
         begin = ["sh", "-c", f'{shell}\nexec "$@"', "sh"] if shell else []
+        stood = self.control_files()
         started = subprocess.Popen(
             [*within, *begin, program, *words],
             cwd=self.folder,
@@ -102,8 +125,8 @@ class Room:
                 started.kill()
                 started.communicate()
         want(said == b"", f"it wrote to standard error: {said[:200]!r}")
-        left = [it for it in os.listdir(self.folder) if it.endswith(".aria2")]
-        want(not left, f"a control file stands: {left}")
+        made = self.control_files() - stood
+        want(not made, f"a control file stands: {made}")
         return started.returncode, wrote
 
     def refuses(self, status, *words, **how):
@@ -112,10 +135,10 @@ class Room:
         line = b"error %d\n" % status
         want((ended, wrote) == (status, line), f"status {ended}, output {wrote!r}, and not {line!r}")
 
-    def ends(self, status, total, name="a", words=("t.torrent",), **how):
-        """The run ends with this status, and writes the summary of one download, which is whole or lacks all."""
+    def ends(self, status, total, name="a", completed=0, words=("t.torrent",), **how):
+        """The run ends with this status, and writes the summary of one download, whole or with so many bytes."""
         ended, wrote = self.run(*words, **how)
-        stat, completed = ("OK", total) if status == 0 else ("ERR", 0)
+        stat, completed = ("OK", total) if status == 0 else ("ERR", completed)
         line = f"|{stat}|{completed}|{total}|{status}|{name}\n".encode()
         said = f"status {ended}, output {wrote!r}, and not status {status} with {line!r} after the gid"
         want(ended == status, said)
@@ -123,13 +146,20 @@ class Room:
 
     def fetches(self, payload, name="a", **how):
         """The run ends well, and the payload has these bytes."""
-        self.ends(0, len(payload), name, **how)
-        got = self.get(name)
-        want(got is not None, "there is no payload")
-        want(got == payload, f"the payload has {len(got)} bytes, {got[:64]!r}")
+        self.ends(0, len(whole(payload)), name, **how)
+        self.has(payload, name)
 
-    def fails(self, status, total=5, **how):
-        """The run ends so, and the payload has none of the bytes that came."""
-        self.ends(status, total, **how)
-        got = self.get("a") or b""
-        want(not got.strip(b"\0"), f"the payload has {got[:64]!r}")
+    def fails(self, status, payload=b"hello", completed=0, name="a", **how):
+        """The run ends so once these bytes were written, and the payload has no others of those that came."""
+        self.ends(status, len(whole(payload)), name, completed, **how)
+        self.has(payload, name, completed)
+
+    def has(self, payload, name="a", completed=None):
+        """Each file stands with its length and bytes; past the completed ones they are 0."""
+        left = len(whole(payload)) if completed is None else completed
+        for path, content in files_of(payload, name):
+            right = content[:left].ljust(len(content), b"\0")
+            left -= min(left, len(content))
+            got = self.get(path)
+            want(got is not None, f"there is no file {path!r}")
+            want(got == right, f"the file {path!r} has {len(got)} bytes, {got[:64]!r}, and not {right[:64]!r}")

@@ -1,90 +1,62 @@
-"""Metainfo files of one file, one piece and one web seed (BEP 3, BEP 19)."""
+"""Metainfo files (BEP 3) with web seeds (BEP 19)."""
 import hashlib
 
+MOST_FILE = 33_554_432
 MOST_PIECE = 67_108_864
+MOST_PIECES = 1_048_576
+MOST_TOTAL = 4_398_046_511_104
 
 
-def text(value):
-    """A bencoded string."""
-    return b"%d:%s" % (len(value), value)
+class Raw(bytes):
+    """A spelling that is taken as it is."""
 
 
-def metainfo(url, payload=b"hello", name=b"a", total=None, piece_length=16384, digests=None):
-    """The bytes of the file. `total` and `digests` are those of the payload, if not given."""
-    total = len(payload) if total is None else total
-    digests = hashlib.sha1(payload).digest() if digests is None else digests
-    info = b"d6:lengthi%se4:name%s12:piece lengthi%se6:pieces%se" % (
-        spelled(total),
-        text(name),
-        spelled(piece_length),
-        text(digests),
-    )
-    return b"d4:info%s8:url-list%se" % (info, text(url))
+def bencoded(value):
+    """The spelling of a number, a text, a list or a dictionary."""
+    if isinstance(value, Raw):
+        return value
+    if isinstance(value, int):
+        return b"i%de" % value
+    if isinstance(value, str):
+        value = value.encode()
+    if isinstance(value, bytes):
+        return b"%d:%s" % (len(value), value)
+    if isinstance(value, list):
+        return b"l%se" % b"".join(bencoded(it) for it in value)
+    return b"d%se" % b"".join(bencoded(key) + bencoded(value[key]) for key in sorted(value))
 
 
-def spelled(number):
-    """A number as it stands between `i` and `e`: text is taken as it is."""
-    return number if isinstance(number, bytes) else b"%d" % number
+def digests(payload, piece_length):
+    pieces = (payload[at : at + piece_length] for at in range(0, len(payload), piece_length))
+    return b"".join(hashlib.sha1(it).digest() for it in pieces)
 
 
-def broken(url):
-    """Yields files that are no metainfo file of this form, each with a name."""
-    right = metainfo(url)
-    yield "an empty file", b""
-    yield "another text", b"<!doctype html>\n"
-    yield "a byte more at the end", right + b"e"
-    yield "a byte more at the front", b" " + right
-    yield "two of them", right + right
-    for name, number in (
-        ("a leading zero", b"05"),
-        ("a plus sign", b"+5"),
-        ("a minus sign", b"-5"),
-        ("a blank", b" 5"),
-        ("no digit", b""),
-        ("zero", b"0"),
-        ("2^64 + 5", b"18446744073709551621"),
-        ("2^32 + 5", b"4294967301"),
-        ("a number of 10,000 digits", b"5" * 10_000),
-    ):
-        yield f"a length that is {name}", metainfo(url, total=number)
-    for name, number in (
-        ("zero", 0),
-        ("shorter than the payload", 4),
-        ("above the limit", MOST_PIECE + 1),
-        ("2^32 + 16384", 2**32 + 16384),
-        ("2^64 + 16384", 2**64 + 16384),
-    ):
-        yield f"a piece length that is {name}", metainfo(url, piece_length=number)
-    for name, length in (
-        ("2^64 + 1", b"18446744073709551617"),
-        ("2^63", b"9223372036854775808"),
-        ("past the end of the file", b"4000000000"),
-        ("one with a leading zero", b"01"),
-        ("negative", b"-1"),
-    ):
-        yield f"a name whose length is {name}", right.replace(b"4:name1:a", b"4:name%s:a" % length)
-    for name, value in (
-        ("empty", b""),
-        ("the folder itself", b"."),
-        ("the folder above", b".."),
-        ("a path", b"x/a"),
-        ("an absolute path", b"/tmp/a"),
-        ("one with a NUL", b"a\0b"),
-        ("no UTF-8", b"\xff"),
-        ("too long", b"a" * 256),
-    ):
-        yield f"a name that is {name}", metainfo(url, name=value)
-    for length in (0, 19, 21, 40):
-        yield f"digests of {length} bytes", metainfo(url, digests=b"D" * length)
-    for name, value in (
-        ("empty", b""),
-        ("no URL", b"hello"),
-        ("https", b"https://127.0.0.1/a.bin"),
-        ("ftp", b"ftp://127.0.0.1/a.bin"),
-        ("a folder's", b"http://127.0.0.1/"),
-        ("one with a port above the limit", b"http://127.0.0.1:65536/a.bin"),
-        ("no UTF-8", b"http://127.0.0.1/\xff"),
-    ):
-        yield f"a seed that is {name}", metainfo(value)
-    yield "no seed", right.replace(b"8:url-list" + text(url), b"")
-    yield "another key", b"d8:announce3:foo" + right[1:]
+def whole(payload):
+    """The bytes of a payload, which is one file's bytes or several pairs of a path and its bytes."""
+    return payload if isinstance(payload, bytes) else b"".join(content for _, content in payload)
+
+
+def info_of(payload=b"hello", name=b"a", piece_length=16384):
+    """What stands under `info`."""
+    if isinstance(payload, bytes):
+        told = {"length": len(payload)}
+    else:
+        told = {"files": [{"length": len(content), "path": path.split("/")} for path, content in payload]}
+    return {**told, "name": name, "piece length": piece_length, "pieces": digests(whole(payload), piece_length)}
+
+
+def written(info, seeds, **more):
+    """The bytes of the file. `seeds` is what stands under `url-list`, if anything does."""
+    seeds = {} if seeds is None else {"url-list": seeds}
+    return bencoded({"info": info, **seeds, **more})
+
+
+def metainfo(seeds, payload=b"hello", name=b"a", piece_length=16384):
+    """The bytes of a right file."""
+    return written(info_of(payload, name, piece_length), seeds)
+
+
+def changed(seeds, changes, payload=b"hello"):
+    """The bytes of a file with other values in its `info`, where None leaves a key out."""
+    info = {**info_of(payload), **changes}
+    return written({key: value for key, value in info.items() if value is not None}, seeds)
