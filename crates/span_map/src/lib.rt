@@ -1,11 +1,14 @@
-//! The files of a payload: which lists of files are a layout, and which parts of the files a slice of the payload is.
+//! The files of a payload: which lists of files are a layout, which parts of the files a slice of the payload is, and
+//! what is to be fetched of it.
 #![tactic(auto)]
 
 mod files;
+mod jobs;
 mod layout;
 mod paths;
 
 pub use files::{FileLen, LayoutErr, Part};
+pub use jobs::{Job, JobPart, JobParts};
 pub use layout::{Layout, parts_hold_slices};
 pub use paths::is_valid_part;
 pub use std::alloc::AllocError as NoMemory;
