@@ -1,4 +1,7 @@
+mod Answering
+mod ChunkSteps
 mod Heads
+mod Leads
 mod Numbers
 mod Reading
-mod Replies
+mod Using

@@ -1,7 +1,11 @@
+pub mod BadAnswers
+pub mod Chunks
 pub mod Endpoint
+pub mod Leads
 pub mod MemLinks
 pub mod Memory
 pub mod Mirrors
 pub mod Reading
+pub mod Replies
 pub mod Requests
 pub mod Streams

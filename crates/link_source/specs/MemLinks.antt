@@ -6,7 +6,7 @@ use Rattle.link_source.specs.Streams.{Stream}
 use Rattle.link_source.specs.declared.memory.MemLinks.{MemLinks}
 
 abbrev pub content_of : MemLinks → Content
-content_of links = contents_of links.mirrors.items
+content_of links = contents_of links.mirrors.items links.bad.left.items links.bad.used.items
 
 abbrev pub streams_of : MemLinks → List Stream
 streams_of links = links.streams

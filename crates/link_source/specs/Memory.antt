@@ -1,16 +1,38 @@
 -- What the parts of links in memory show.
-use Rattle.std.specs.Prelude.{ℕ, List, ◌∷◌, Option, Some, None, reverse, map}
-use Rattle.link_source.specs.Mirrors.{Content, Mirror}
+use Rattle.std.specs.Prelude.{◌≡◌, ℕ, List, ◌∷◌, Option, Some, None, MatchOption, reverse, map}
+use Rattle.link_source.specs.BadAnswers.{IsUsed, next_bad}
+use Rattle.link_source.specs.Mirrors.{Content, Mirror, Answers}
+use Rattle.link_source.specs.Replies.{Reply}
 use Rattle.link_source.specs.Streams.{Stream}
+use Rattle.link_source.specs.declared.bad_answers.Bad.{Bad}
 use Rattle.link_source.specs.declared.mirrors.MemMirror.{MemMirror}
+use Rattle.link_source.specs.declared.replies.MemReply.{MemReply}
 use Rattle.link_source.specs.declared.streams.MemStream.{MemStream}
 use Rattle.link_source.specs.declared.streams.Sent.{Sent}
 
 abbrev pub mirror_of : MemMirror → Mirror
 mirror_of m = record { host = m.host; port = m.port; files = m.files.items; manner = m.manner }
 
-abbrev pub contents_of : List MemMirror → Content
-contents_of mirrors = record { mirrors = map mirror_of mirrors }
+abbrev pub mirrors_of : List MemMirror → List Mirror
+mirrors_of mirrors = map mirror_of mirrors
+
+abbrev pub contents_of : List MemMirror → List Bad → List Bad → Content
+contents_of mirrors bad used = record { mirrors = mirrors_of mirrors; bad = bad; used = used }
+
+abbrev pub reply_seen : MemReply → Reply
+reply_seen r = record { head = r.head.items; place = r.place; content = r.content.items; chunked = r.chunked }
+
+-- Where a mirror of this number replied, its next bad answer is used, if one was left. None is for no reply.
+abbrev pub UsesNext : Option ℕ → List Bad → List Bad → List Bad → List Bad → Type 0
+UsesNext None left used new_left new_used = (new_left ≡ left) × (new_used ≡ used)
+UsesNext (Some mirror) left used new_left new_used =
+    MatchOption (next_bad left mirror) ((new_left ≡ left) × (new_used ≡ used)) (λ bad. IsUsed left used bad new_left new_used)
+
+-- the text that this host and port give to bytes, whatever mirror's next bad answer is used then
+abbrev pub Gives : List MemMirror → List Bad → List Bad → List ℕ → ℕ → List ℕ → List ℕ → Option ℕ → Type 0
+Gives mirrors left used host port bytes text mirror =
+    (new_left new_used : List Bad) → UsesNext mirror left used new_left new_used
+    → Answers (contents_of mirrors left used) host port bytes text (contents_of mirrors new_left new_used)
 
 abbrev pub sent_of : Sent → ℕ × List ℕ
 sent_of sent = (sent.at, sent.bytes.items)

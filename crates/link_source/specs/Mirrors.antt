@@ -1,17 +1,17 @@
--- What mirrors hold, and how they reply to requests for a part of a resource (RFC 9110 sections 14.4, 15.3.7, 15.5.5 and
--- 15.5.17).
-use Rattle.std.specs.Prelude.{◌≡◌, ◌==◌, ◌≤◌, ◌<◌, ◌^◌, ℕ, List, [], ◌∷◌, ◌++◌, ◌+◌, ◌-◌, Option, Some, None, length, min, nat_lt, find, option_map, codes, if◌then◌else◌, ◌&&◌}
-use Rattle.std.specs.Fmt.{decimal}
+-- What mirrors in memory hold, and how they answer requests for a part of a resource.
+use Rattle.std.specs.Prelude.{◌≡◌, ◌==◌, ◌≤◌, ◌<◌, ◌^◌, ℕ, true, false, List, [], ◌∷◌, ◌++◌, Option, Some, None, find, position, option_map, option_and_then, ◌&&◌}
 use Rattle.std.specs.Option.{option_map_or}
 use Rattle.std.specs.Str.{bytes_eq}
-use Rattle.dl_words.specs.Lists.{part_at}
+use Rattle.link_source.specs.BadAnswers.{IsUsed, next_bad}
 use Rattle.link_source.specs.Endpoint.{host_value}
-use Rattle.link_source.specs.Requests.{Asks, line, request_of}
+use Rattle.link_source.specs.Replies.{Reply, bare, text_under, not_found, moved, ranges_reply, whole_reply}
+use Rattle.link_source.specs.Requests.{Asks, request_of}
 use Rattle.link_source.specs.Streams.{Stream}
+use Rattle.link_source.specs.declared.bad_answers.Bad.{Bad}
 use Rattle.link_source.specs.declared.mirrors.MemFile.{MemFile}
-use Rattle.link_source.specs.declared.mirrors.MemFile.TheVariants.{Bytes}
+use Rattle.link_source.specs.declared.mirrors.MemFile.TheVariants.{Bytes, Moved}
 use Rattle.link_source.specs.declared.mirrors.Manner.{Manner}
-use Rattle.link_source.specs.declared.mirrors.Manner.TheVariants.{Ranges}
+use Rattle.link_source.specs.declared.mirrors.Manner.TheVariants.{Ranges, Whole, Chunked, ToEnd}
 
 pub record Mirror : Type 0 where
   pub host : List ℕ
@@ -20,76 +20,69 @@ pub record Mirror : Type 0 where
   pub files : List (List ℕ × MemFile)
   pub manner : Manner
 
--- what all the mirrors hold
+-- what all the mirrors hold, the bad answers that they have still to give, and those that they gave
 pub record Content : Type 0 where
   pub mirrors : List Mirror
+  pub bad : List Bad
+  pub used : List Bad
 
 -- no mirrors, as where nothing is told
 abbrev pub no_content : Content
-no_content = record { mirrors = [] }
+no_content = record { mirrors = []; bad = []; used = [] }
 
 -- the first mirror of this host and port
 abbrev pub mirror_at : List Mirror → List ℕ → ℕ → Option Mirror
 mirror_at mirrors host port = find (λ mirror. (mirror.port == port) && bytes_eq mirror.host host) mirrors
 
+-- its number
+abbrev pub number_at : List Mirror → List ℕ → ℕ → Option ℕ
+number_at mirrors host port = position (λ mirror. (mirror.port == port) && bytes_eq mirror.host host) mirrors
+
 -- the first file of this target
 abbrev pub file_at : List (List ℕ × MemFile) → List ℕ → Option MemFile
 file_at files target = option_map (λ file. file.1) (find (λ file. bytes_eq file.0 target) files)
 
-unfoldable pub not_found : List ℕ
-not_found = line (codes "HTTP/1.1 404 Not Found") ++ line (codes "Content-Length: 0") ++ line []
+-- what a mirror of this manner replies of a resource
+abbrev pub content_reply : Manner → List ℕ → ℕ → ℕ → Reply
+content_reply Ranges bytes first last = ranges_reply false bytes first last
+content_reply Chunked bytes first last = ranges_reply true bytes first last
+content_reply Whole bytes first last = whole_reply true bytes
+content_reply ToEnd bytes first last = whole_reply false bytes
 
--- no part of a resource of this length was asked for
-unfoldable pub not_satisfiable : ℕ → List ℕ
-not_satisfiable total =
-    line (codes "HTTP/1.1 416 Range Not Satisfiable")
-    ++ line (codes "Content-Range: bytes */" ++ decimal total)
-    ++ line (codes "Content-Length: 0")
-    ++ line []
+-- what it replies where this stands at the target
+abbrev pub reply_by : Manner → Option MemFile → ℕ → ℕ → Reply
+reply_by manner None first last = bare not_found
+reply_by manner (Some (Moved location)) first last = bare (moved location)
+reply_by manner (Some (Bytes bytes)) first last = content_reply manner bytes first last
 
--- the head before the bytes from first to last of a resource of this length
-unfoldable pub part_head : ℕ → ℕ → ℕ → List ℕ
-part_head first last total =
-    line (codes "HTTP/1.1 206 Partial Content")
-    ++ line (codes "Content-Range: bytes " ++ decimal first ++ codes "-" ++ decimal last ++ codes "/" ++ decimal total)
-    ++ line (codes "Content-Length: " ++ decimal (last + 1 - first))
-    ++ line []
-
-abbrev pub part_reply : List ℕ → ℕ → ℕ → List ℕ
-part_reply bytes first last = part_head first last (length bytes) ++ part_at bytes first (last + 1 - first)
-
--- of the bytes that were asked for those that are there
-abbrev pub ranges_reply : List ℕ → ℕ → ℕ → List ℕ
-ranges_reply bytes first last =
-    if nat_lt first (length bytes)
-    then part_reply bytes first (min last (length bytes - 1))
-    else not_satisfiable (length bytes)
-
--- what a mirror of this manner replies where this stands at the target
-abbrev pub reply_by : Manner → Option MemFile → ℕ → ℕ → List ℕ
-reply_by manner None first last = not_found
-reply_by Ranges (Some (Bytes bytes)) first last = ranges_reply bytes first last
-
-abbrev pub mirror_reply : Mirror → List ℕ → ℕ → ℕ → List ℕ
+abbrev pub mirror_reply : Mirror → List ℕ → ℕ → ℕ → Reply
 mirror_reply mirror target first last = reply_by mirror.manner (file_at mirror.files target) first last
 
--- what the first mirror of this host and port replies
-abbrev pub reply_of : Content → List ℕ → ℕ → List ℕ → ℕ → ℕ → List ℕ
+-- the true reply of the first mirror of this host and port
+abbrev pub reply_of : Content → List ℕ → ℕ → List ℕ → ℕ → ℕ → Reply
 reply_of content host port target first last =
-    option_map_or (λ mirror. mirror_reply mirror target first last) (mirror_at content.mirrors host port) []
+    option_map_or (λ mirror. mirror_reply mirror target first last) (mirror_at content.mirrors host port) (bare [])
 
--- the reply that a host and a port give to bytes, and what the mirrors hold then: none to bytes that are no request
+-- the bad answer that is next there
+abbrev pub bad_at : Content → List ℕ → ℕ → Option Bad
+bad_at content host port = option_and_then (next_bad content.bad) (number_at content.mirrors host port)
+
+-- The reply that a host and a port give to bytes, and what the mirrors hold then. A request gets the true reply, or the
+-- next bad answer in its place where one is left, which is used then. Other bytes get none.
 pub record Answers (old : Content) (host : List ℕ) (port : ℕ) (bytes reply : List ℕ) (new : Content) : Type 0 where
   pub asked : (target : List ℕ) (first last : ℕ) → Asks host port target first last bytes
-      → reply ≡ reply_of old host port target first last
-  pub other : ((target : List ℕ) (first last : ℕ) → Asks host port target first last bytes → ⊥) → reply ≡ []
-  pub stays : new ≡ old
+      → reply ≡ text_under (bad_at old host port) (reply_of old host port target first last)
+  pub used : (target : List ℕ) (first last : ℕ) (bad : Bad) → Asks host port target first last bytes → bad_at old host port ≡ Some bad
+      → IsUsed old.bad old.used bad new.bad new.used
+  pub other : ((target : List ℕ) (first last : ℕ) → Asks host port target first last bytes → ⊥) → (reply ≡ []) × (new ≡ old)
+  pub stays : bad_at old host port ≡ None → new ≡ old
+  pub mirrors_stay : new.mirrors ≡ old.mirrors
 
--- a request gets the reply to what it asks for
+-- a request gets the reply to what it asks for, or the bad answer in its place
 abbrev pub AnswersRequests : Type 0
 AnswersRequests = (old new : Content) (host target reply : List ℕ) (port first last : ℕ) → first ≤ last → last < 2 ^ 64
     → Answers old host port (request_of (host_value host port) target first last) reply new
-    → reply ≡ reply_of old host port target first last
+    → reply ≡ text_under (bad_at old host port) (reply_of old host port target first last)
 
 -- the newest stream gets a reply to the bytes, behind what it has still to give
 abbrev pub AddsReply : List Stream → List ℕ → Content → Content → List ℕ → List ℕ → Type 0

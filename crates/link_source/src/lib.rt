@@ -9,17 +9,21 @@ ghost use Rattle.link_source.specs.Streams.{Stream, TakesDue, dialled, with_sent
 
 use dl_kinds::IoErr;
 
+mod bad_answers;
 mod calls;
+mod chunks;
 mod due;
 mod endpoint;
 mod laws;
 mod memory;
 mod mirrors;
+mod replies;
 mod requests;
 mod streams;
 
+pub use bad_answers::{Bad, BadKind};
 pub use endpoint::{EndErr, Endpoint, is_usable};
-pub use laws::requests_are_read_once;
+pub use laws::{leads_once, requests_are_read_once};
 pub use memory::MemLinks;
 pub use mirrors::{Manner, MemFile, MemMirror};
 

@@ -2,6 +2,7 @@
 ghost use Rattle.std.specs.Prelude.{◌≡◌, ◌<◌, [], IfOk};
 
 use crate::Links;
+use crate::bad_answers::{Bad, BadAnswers};
 use crate::calls::Calls;
 use crate::due::Due;
 use crate::mirrors::{MemMirror, answer, find_mirror};
@@ -10,11 +11,13 @@ use dl_kinds::{IoErr, NoMemory};
 use std::alloc::Global;
 
 /// A link to mirrors in memory. A dial to a host and a port that no mirror has is a fault, and so are a `send` and a
-/// `recv` where no stream is open. Each `send` is one whole request, and other bytes get no reply.
+/// `recv` where no stream is open. Each `send` is one whole request, and other bytes get no reply. A bad answer stands in
+/// the place of one reply of its mirror: of those left the first is next.
 #[derive(Debug, Drop)]
 pub struct MemLinks {
     alloc: Global,
     mirrors: Vec<MemMirror>,
+    bad: BadAnswers,
     cut: u32,
     calls: Calls,
     streams: MemStreams,
@@ -32,11 +35,12 @@ impl MemLinks {
     pub fn new(
         alloc: Global,
         mirrors: Vec<MemMirror>,
+        bad: Vec<Bad>,
         cut: u32,
         failing: Vec<u64>,
     ) -> Result<Self, NoMemory>
         requires { 0 < cut }
-        ensures content { IfOk result (λ links. content_of links ≡ contents_of mirrors.items) }
+        ensures content { IfOk result (λ links. content_of links ≡ contents_of mirrors.items bad.items []) }
         ensures streams { IfOk result (λ links. streams_of links ≡ []) }
         ensures due { IfOk result (λ links. due_of links ≡ []) }
         ensures faults { IfOk result (λ links. faults_of links ≡ 0) }
@@ -44,6 +48,7 @@ impl MemLinks {
         Ok(MemLinks {
             alloc,
             mirrors,
+            bad: BadAnswers::new(alloc, bad)?,
             cut,
             calls: Calls::new(failing),
             streams: MemStreams::new(alloc),
@@ -89,9 +94,10 @@ impl Links for MemLinks {
         let Some((host, port)) = self.streams.peer() else {
             return Err(self.calls.fail());
         };
-        let reply = answer(self.alloc, &self.mirrors, host, port, bytes)?;
-        let due = self.due.with(self.alloc, reply)?;
+        let answered = answer(self.alloc, &self.mirrors, &self.bad, host, port, bytes)?;
+        let due = self.due.with(self.alloc, answered.text)?;
         self.streams.send(self.alloc, bytes)?;
+        self.bad.use_next(answered.mirror);
         self.due = due;
         self.calls.pass();
         Ok(())

@@ -1,9 +1,14 @@
-// Mirrors in memory, and their replies.
-ghost use Rattle.std.specs.Prelude.{◌≡◌, ◌≤◌, ◌<◌, ◌^◌, ◌+◌, ◌==◌, ◌&&◌, find, IfOk, option_copied, string_bytes};
+// Mirrors in memory, and what they answer.
+ghost use Rattle.std.specs.Prelude.{◌≡◌, ◌≤◌, ◌==◌, ◌&&◌, [], find, position, IfOk, option_copied};
 ghost use Rattle.std.specs.Str.{bytes_eq};
-ghost use Rattle.link_source.specs.Mirrors.{Answers, reply_of, file_at, mirror_reply, ranges_reply, reply_by, part_head, not_satisfiable, not_found};
-ghost use Rattle.link_source.specs.Memory.{contents_of, mirror_of};
+ghost use Rattle.link_source.specs.Mirrors.{reply_of, file_at, mirror_reply, content_reply};
+ghost use Rattle.link_source.specs.Memory.{contents_of, mirror_of, reply_seen, Gives};
+ghost use Rattle.link_source.specs.Replies.{text_under};
 
+use crate::bad_answers::{Bad, BadAnswers};
+use crate::replies::{
+    MemReply, moved_reply, not_found_reply, reply_by_range, reply_in_whole, silence,
+};
 use crate::requests::{Asked, read_request};
 use dl_kinds::{Blob, Text};
 use std::alloc::{AllocError, Global};
@@ -12,13 +17,21 @@ use std::alloc::{AllocError, Global};
 #[derive(Debug, Drop)]
 pub enum MemFile {
     Bytes(Blob),
+    /// The resource is at this location, which is a URL or is relative to the one that led here.
+    Moved(Text),
 }
 
-/// How a mirror answers.
+/// How a mirror replies to a request for a part of a resource.
 #[derive(Clone, Copy, Debug, PartialEq, Eq)]
 pub enum Manner {
     /// The part that was asked for, with its place and its length.
     Ranges,
+    /// The whole resource, with its length.
+    Whole,
+    /// The part that was asked for, with its place, in chunks of at most 4,096 bytes.
+    Chunked,
+    /// The whole resource, which ends with the stream.
+    ToEnd,
 }
 
 /// A mirror in memory.
@@ -32,6 +45,13 @@ pub struct MemMirror {
     pub manner: Manner,
 }
 
+/// What is answered to bytes, and the number of the mirror that replied, if one did.
+#[derive(Debug, Drop)]
+pub struct Answered {
+    pub text: Vec<u8>,
+    pub mirror: Option<usize>,
+}
+
 // The first file of a target.
 fn find_file<'a>(files: &'a [(Text, MemFile)], target: &[u8]) -> Option<&'a MemFile>
     ensures { option_copied result ≡ file_at files.now target.now }
@@ -42,61 +62,33 @@ fn find_file<'a>(files: &'a [(Text, MemFile)], target: &[u8]) -> Option<&'a MemF
         .map(|(_, file)| file)
 }
 
-#[tactic(auto, unfolding(crate::specs::Mirrors::not_found))]
-fn not_found_reply(alloc: Global) -> Result<Vec<u8>, AllocError>
-    ensures { IfOk result (λ reply. reply.items ≡ not_found) }
+fn reply_with(
+    alloc: Global,
+    manner: Manner,
+    bytes: &[u8],
+    asked: &Asked<'_>,
+) -> Result<MemReply, AllocError>
+    requires { asked.now.first ≤ asked.now.last }
+    ensures { IfOk result (λ reply. reply_seen reply ≡ content_reply manner bytes.now asked.now.first asked.now.last) }
 {
-    let text = String::from_str(alloc, "HTTP/1.1 404 Not Found\r\nContent-Length: 0\r\n\r\n")?;
-    Ok(text.into_bytes())
-}
-
-fn not_satisfiable_reply(alloc: Global, total: u64) -> Result<Vec<u8>, AllocError>
-    ensures { IfOk result (λ reply. reply.items ≡ not_satisfiable total) }
-{
-    let text = format!(in alloc;
-        "HTTP/1.1 416 Range Not Satisfiable\r\nContent-Range: bytes */{total}\r\nContent-Length: 0\r\n\r\n"
-    )?;
-    Ok(text.into_bytes())
-}
-
-fn head_of_part(alloc: Global, first: u64, last: u64, total: u64) -> Result<Vec<u8>, AllocError>
-    requires ordered { first ≤ last }
-    requires within { last < total }
-    ensures { IfOk result (λ head. head.items ≡ part_head first last total) }
-{
-    let size = last + 1 - first;
-    let text = format!(in alloc;
-        "HTTP/1.1 206 Partial Content\r\nContent-Range: bytes {first}-{last}/{total}\r\nContent-Length: {size}\r\n\r\n"
-    )?;
-    Ok(text.into_bytes())
-}
-
-// The bytes from first to last, as far as there are some.
-fn reply_by_range(alloc: Global, bytes: &[u8], first: u64, last: u64) -> Result<Vec<u8>, AllocError>
-    requires { first ≤ last }
-    ensures { IfOk result (λ reply. reply.items ≡ ranges_reply bytes.now first last) }
-{
-    let total = bytes.len() as u64;
-    if first >= total {
-        return not_satisfiable_reply(alloc, total);
+    match manner {
+        Manner::Ranges => reply_by_range(alloc, false, bytes, asked.first, asked.last),
+        Manner::Chunked => reply_by_range(alloc, true, bytes, asked.first, asked.last),
+        Manner::Whole => reply_in_whole(alloc, true, bytes),
+        Manner::ToEnd => reply_in_whole(alloc, false, bytes),
     }
-    let last = last.min(total - 1);
-    let mut reply = head_of_part(alloc, first, last, total)?;
-    reply.extend_from_slice(&bytes[first as usize..last as usize + 1])?;
-    Ok(reply)
 }
 
 impl MemMirror {
     // The reply to a request.
-    pub(crate) fn reply(&self, alloc: Global, asked: &Asked<'_>) -> Result<Vec<u8>, AllocError>
+    fn reply(&self, alloc: Global, asked: &Asked<'_>) -> Result<MemReply, AllocError>
         requires { asked.now.first ≤ asked.now.last }
-        ensures { IfOk result (λ reply. reply.items ≡ mirror_reply (mirror_of self.now) asked.now.target.now asked.now.first asked.now.last) }
+        ensures { IfOk result (λ reply. reply_seen reply ≡ mirror_reply (mirror_of self.now) asked.now.target.now asked.now.first asked.now.last) }
     {
-        match (self.manner, find_file(&self.files, asked.target)) {
-            (_, None) => not_found_reply(alloc),
-            (Manner::Ranges, Some(MemFile::Bytes(bytes))) => {
-                reply_by_range(alloc, bytes.bytes(), asked.first, asked.last)
-            }
+        match find_file(&self.files, asked.target) {
+            None => not_found_reply(alloc),
+            Some(MemFile::Moved(location)) => moved_reply(alloc, location.as_str()),
+            Some(MemFile::Bytes(bytes)) => reply_with(alloc, self.manner, bytes.bytes(), asked),
         }
     }
 }
@@ -108,35 +100,64 @@ pub fn find_mirror<'a>(mirrors: &'a [MemMirror], host: &str, port: u16) -> Optio
     mirrors.iter().find(|mirror| mirror.port == port && mirror.host.as_str() == host)
 }
 
-// What a host and a port reply to a request.
+// Its number.
+fn number_of(mirrors: &[MemMirror], host: &str, port: u16) -> Option<usize>
+    ensures { result ≡ position (λ mirror. (mirror.port == port) && bytes_eq mirror.host host.now) mirrors.now }
+{
+    mirrors.iter().position(|mirror| mirror.port == port && mirror.host.as_str() == host)
+}
+
+// The true reply of a host and a port to a request.
 fn reply_to(
     alloc: Global,
     mirrors: &[MemMirror],
     host: &str,
     port: u16,
     asked: &Asked<'_>,
-) -> Result<Vec<u8>, AllocError>
+) -> Result<MemReply, AllocError>
     requires { asked.now.first ≤ asked.now.last }
-    ensures { IfOk result (λ reply. reply.items ≡ reply_of (contents_of mirrors.now) host.now port asked.now.target.now asked.now.first asked.now.last) }
+    ensures { IfOk result (λ reply. reply_seen reply ≡ reply_of (contents_of mirrors.now [] []) host.now port asked.now.target.now asked.now.first asked.now.last) }
 {
     match find_mirror(mirrors, host, port) {
         Some(mirror) => mirror.reply(alloc, asked),
-        None => Ok(Vec::new(alloc)),
+        None => Ok(silence(alloc)),
     }
 }
 
-// What a host and a port reply to bytes.
-pub fn answer(
+// What is sent to a request, where this bad answer stands in the reply's place, or none.
+fn text_to(
     alloc: Global,
     mirrors: &[MemMirror],
     host: &str,
     port: u16,
-    bytes: &[u8],
+    asked: &Asked<'_>,
+    bad: Option<Bad>,
 ) -> Result<Vec<u8>, AllocError>
-    ensures { IfOk result (λ reply. Answers (contents_of mirrors.now) host.now port bytes.now reply.items (contents_of mirrors.now)) }
+    requires { asked.now.first ≤ asked.now.last }
+    ensures { IfOk result (λ text. text.items ≡ text_under bad (reply_of (contents_of mirrors.now [] []) host.now port asked.now.target.now asked.now.first asked.now.last)) }
 {
-    match read_request(alloc, host, port, bytes)? {
-        Some(asked) => reply_to(alloc, mirrors, host, port, &asked),
-        None => Ok(Vec::new(alloc)),
-    }
+    reply_to(alloc, mirrors, host, port, asked)?.text_under(alloc, bad)
+}
+
+// What a host and a port answer to bytes.
+pub fn answer(
+    alloc: Global,
+    mirrors: &[MemMirror],
+    bad: &BadAnswers,
+    host: &str,
+    port: u16,
+    bytes: &[u8],
+) -> Result<Answered, AllocError>
+    ensures { IfOk result (λ answer. Gives mirrors.now bad.now.left.items bad.now.used.items host.now port bytes.now answer.text.items answer.mirror) }
+{
+    let Some(asked) = read_request(alloc, host, port, bytes)? else {
+        return Ok(Answered {
+            text: Vec::new(alloc),
+            mirror: None,
+        });
+    };
+    let mirror = number_of(mirrors, host, port);
+    let next = bad.next_of(mirror);
+    let text = text_to(alloc, mirrors, host, port, &asked, next)?;
+    Ok(Answered { text, mirror })
 }

@@ -119,7 +119,7 @@ pub fn mirror_link(
         files,
         manner: Manner::Ranges,
     })?;
-    MemLinks::new(alloc, mirrors, cut, failing(alloc, fault)?)
+    MemLinks::new(alloc, mirrors, Vec::new(alloc), cut, failing(alloc, fault)?)
 }
 
 /// A link to the mirror of the worked example that has these files, each at its target.
@@ -136,7 +136,7 @@ pub fn files_link(alloc: Global, files: &[(&str, &[u8])]) -> Result<MemLinks, No
         files: held,
         manner: Manner::Ranges,
     })?;
-    MemLinks::new(alloc, mirrors, 65_536, Vec::new(alloc))
+    MemLinks::new(alloc, mirrors, Vec::new(alloc), 65_536, Vec::new(alloc))
 }
 
 /// A link to the mirror of the worked example, which has this at `/a.bin`.

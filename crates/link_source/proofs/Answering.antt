@@ -1,0 +1,103 @@
+-- Mirrors in memory as they are found and as they answer.
+use Rattle.std.proofs.Common.{◌≡◌, ◌==◌, ◌&&◌, ◌∙◌, Bool, true, false, cond, not, ℕ, ◌+◌, List, [], ◌∷◌, Option, Some, None, MatchOption, length, ap, sym, refl, subst, map}
+use Rattle.std.proofs.lemmas.List.{length-map}
+use Rattle.std.proofs.lemmas.Option.{none-some}
+use Rattle.std.specs.List.{find, position, position_or_len, prefix_len}
+use Rattle.std.specs.Option.{option_map, option_map_or, option_and_then}
+use Rattle.std.specs.Prelude.{nat_lt}
+use Rattle.std.specs.Str.{bytes_eq}
+use Rattle.link_source.proofs.Reading.{asks_once}
+use Rattle.link_source.specs.BadAnswers.{IsUsed, next_bad}
+use Rattle.link_source.specs.Memory.{mirror_of, contents_of, UsesNext, Gives}
+use Rattle.link_source.specs.Mirrors.{Mirror, bad_at, mirror_reply, reply_of}
+use Rattle.link_source.specs.Replies.{bare, text_under}
+use Rattle.link_source.specs.Requests.{Asks}
+use Rattle.link_source.specs.declared.bad_answers.Bad.{Bad}
+use Rattle.link_source.specs.declared.mirrors.MemMirror.{MemMirror}
+
+-- ---- the same mirror by its value
+
+find-map : {X Y : Type 0} (f : X → Y) (test : Y → Bool) (xs : List X) → find test (map f xs) ≡ option_map f (find (λ x. test (f x)) xs)
+find-map f test [] = refl
+find-map f test (x ∷ xs) =
+    elim (test (f x)) as (λ b. cond b (Some (f x)) (find test (map f xs)) ≡ option_map f (cond b (Some x) (find (λ y. test (f y)) xs)))
+    [ true ↦ refl | false ↦ find-map f test xs ]
+
+prefix_len-map : {X Y : Type 0} (f : X → Y) (test : Y → Bool) (xs : List X) → prefix_len test (map f xs) ≡ prefix_len (λ x. test (f x)) xs
+prefix_len-map f test [] = refl
+prefix_len-map f test (x ∷ xs) = ap (λ n. cond (test (f x)) (1 + n) 0) (prefix_len-map f test xs)
+
+position-map : {X Y : Type 0} (f : X → Y) (test : Y → Bool) (xs : List X) → position test (map f xs) ≡ position (λ x. test (f x)) xs
+position-map f test xs =
+    ap (λ n. cond (nat_lt n (length (map f xs))) (Some n) None) (prefix_len-map f (λ y. not (test y)) xs)
+    ∙ ap (λ n. cond (nat_lt (position_or_len (λ x. test (f x)) xs) n) (Some (position_or_len (λ x. test (f x)) xs)) None) (length-map xs f)
+
+-- what stands at a host and a port replies
+pub replies : (mirrors : List MemMirror) (host : List ℕ) (port : ℕ) (found : Option MemMirror) (target : List ℕ) (first last : ℕ)
+    → found ≡ find (λ mirror. (mirror.port == port) && bytes_eq mirror.host host) mirrors
+    → reply_of (contents_of mirrors [] []) host port target first last ≡ option_map_or (λ mirror. mirror_reply (mirror_of mirror) target first last) found (bare [])
+replies mirrors host port found target first last is =
+    ap (λ (at : Option Mirror). option_map_or (λ mirror. mirror_reply mirror target first last) at (bare []))
+    (find-map mirror_of (λ (mirror : Mirror). (mirror.port == port) && bytes_eq mirror.host host) mirrors ∙ ap (option_map mirror_of) (sym is))
+    ∙ mapped found
+  where
+    mapped : (at : Option MemMirror) → option_map_or (λ mirror. mirror_reply mirror target first last) (option_map mirror_of at) (bare [])
+        ≡ option_map_or (λ mirror. mirror_reply (mirror_of mirror) target first last) at (bare [])
+    mapped None = refl
+    mapped (Some mirror) = refl
+
+-- ---- the bad answer that is used
+
+one_used : (number : Option ℕ) (left used new_left new_used : List Bad) (bad : Bad) → option_and_then (next_bad left) number ≡ Some bad
+    → UsesNext number left used new_left new_used → IsUsed left used bad new_left new_used
+one_used None left used new_left new_used bad is uses = absurd (none-some bad is)
+one_used (Some mirror) left used new_left new_used bad is uses =
+    subst (λ (next : Option Bad). MatchOption next ((new_left ≡ left) × (new_used ≡ used)) (λ b. IsUsed left used b new_left new_used)) is uses
+
+none_used : (number : Option ℕ) (left used new_left new_used : List Bad) → option_and_then (next_bad left) number ≡ None
+    → UsesNext number left used new_left new_used → (new_left ≡ left) × (new_used ≡ used)
+none_used None left used new_left new_used is uses = uses
+none_used (Some mirror) left used new_left new_used is uses =
+    subst (λ (next : Option Bad). MatchOption next ((new_left ≡ left) × (new_used ≡ used)) (λ b. IsUsed left used b new_left new_used)) is uses
+
+same_content : (mirrors : List MemMirror) (left used new_left new_used : List Bad) → (new_left ≡ left) × (new_used ≡ used)
+    → contents_of mirrors new_left new_used ≡ contents_of mirrors left used
+same_content mirrors left used new_left new_used (lefts, useds) =
+    ap (λ l. contents_of mirrors l new_used) lefts ∙ ap (contents_of mirrors left) useds
+
+-- ---- the answers
+
+-- to a request
+pub answered : (mirrors : List MemMirror) (left used : List Bad) (host : List ℕ) (port : ℕ) (bytes target text : List ℕ) (first last : ℕ)
+    (number : Option ℕ) (next : Option Bad) → Asks host port target first last bytes
+    → number ≡ position (λ mirror. (mirror.port == port) && bytes_eq mirror.host host) mirrors
+    → next ≡ option_and_then (next_bad left) number
+    → text ≡ text_under next (reply_of (contents_of mirrors [] []) host port target first last)
+    → Gives mirrors left used host port bytes text number
+answered mirrors left used host port bytes target text first last number next asks number_is next_is text_is new_left new_used uses =
+    let old = contents_of mirrors left used in
+    let there : bad_at old host port ≡ option_and_then (next_bad left) number =
+    ap (option_and_then (next_bad left)) (position-map mirror_of (λ (mirror : Mirror). (mirror.port == port) && bytes_eq mirror.host host) mirrors ∙ sym number_is) in
+    record {
+      asked = λ other_target other_first other_last others.
+          let same = asks_once host port bytes target other_target first last other_first other_last asks others in
+          text_is ∙ ap (λ bad. text_under bad (reply_of old host port target first last)) (next_is ∙ sym there)
+          ∙ ap (λ t. text_under (bad_at old host port) (reply_of old host port t first last)) same.0
+          ∙ ap (λ f. text_under (bad_at old host port) (reply_of old host port other_target f last)) same.1
+          ∙ ap (λ l. text_under (bad_at old host port) (reply_of old host port other_target other_first l)) same.2;
+      used = λ _ _ _ bad _ is. one_used number left used new_left new_used bad (sym there ∙ is) uses;
+      other = λ never. absurd (never target first last asks);
+      stays = λ none. same_content mirrors left used new_left new_used (none_used number left used new_left new_used (sym there ∙ none) uses);
+      mirrors_stay = refl;
+    }
+
+-- and to anything else
+pub unanswered : (mirrors : List MemMirror) (left used : List Bad) (host : List ℕ) (port : ℕ) (bytes : List ℕ)
+    → ((target : List ℕ) (first last : ℕ) → Asks host port target first last bytes → ⊥) → Gives mirrors left used host port bytes [] None
+unanswered mirrors left used host port bytes never new_left new_used uses = record {
+  asked = λ target first last asks. absurd (never target first last asks);
+  used = λ target first last _ asks _. absurd (never target first last asks);
+  other = λ _. (refl, same_content mirrors left used new_left new_used uses);
+  stays = λ _. same_content mirrors left used new_left new_used uses;
+  mirrors_stay = refl;
+}
