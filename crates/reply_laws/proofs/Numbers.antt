@@ -31,7 +31,7 @@ digits-pass test each (c ∷ ds) are =
     let within = digit_from_value c are.0 in
     All-cons (λ b. IsTrue (test b)) c ds (each c (omega (arith, within)) (omega (arith, within))) (digits-pass test each ds are.1)
 
-abbrev is_bare : ℕ → Bool
+abbrev pub is_bare : ℕ → Bool
 is_bare b = not (is_ows b)
 
 digit-is-bare : (c : ℕ) → 48 ≤ c → c ≤ 57 → is_bare c ≡ true
@@ -60,7 +60,7 @@ joined = All-append (λ b. IsTrue (is_value_byte b))
 no-blank : (b : ℕ) (bytes : List ℕ) → is_bare b ≡ true → skip_ows (b ∷ bytes) ≡ b ∷ bytes
 no-blank b bytes is = cond-false _ _ _ (not-true (is_ows b) is)
 
-bare : (bytes : List ℕ) → AllPass is_bare bytes → skip_ows bytes ≡ bytes
+pub bare : (bytes : List ℕ) → AllPass is_bare bytes → skip_ows bytes ≡ bytes
 bare [] are = refl
 bare (b ∷ bytes) are = no-blank b bytes (All-head (λ b. IsTrue (is_bare b)) b bytes are)
 

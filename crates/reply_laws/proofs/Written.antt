@@ -1,5 +1,6 @@
 -- A head of a status line and fields, as mirrors write it, is read as what it says.
-use Rattle.std.proofs.Common.{◌≡◌, ℕ, ◌+◌, ◌≤◌, List, [], ◌∷◌, ◌++◌, append_assoc, length, map, reverse, arith, ap, sym, ◌∙◌, refl}
+use Rattle.std.proofs.Common.{◌≡◌, ℕ, ◌+◌, ◌≤◌, List, [], ◌∷◌, ◌++◌, append_assoc, length, drop, map, reverse, arith, ap, sym, subst, ◌∙◌, refl}
+use Rattle.std.proofs.Math.Seq.{drop-append_seam}
 use Rattle.std.proofs.lemmas.List.{length-append, length-map}
 use Rattle.std.proofs.lemmas.List.Elements.{All-nil, All-cons, All-head, All-tail}
 use Rattle.std.specs.Char.{is_ascii_digit}
@@ -12,8 +13,15 @@ use Rattle.http_header.specs.Token.{lowercase}
 use Rattle.httparse.proofs.TrimLemmas.{trim_ows_space}
 use Rattle.httparse.specs.Grammar.{AllPass, Field, IsField, IsToken, crlf, is_value_byte, skip_ows, print_field, ResponseHead, print_response}
 use Rattle.link_source.specs.Requests.{line}
+use Rattle.body_frames.specs.Bodies.{body_of}
+use Rattle.body_frames.specs.Lines.{Whole}
+use Rattle.range_http.specs.declared.asked.Asked.{Asked}
+use Rattle.range_http.specs.declared.framing.Framing.{Framing}
 use Rattle.range_http.specs.declared.head.Head.{Head}
+use Rattle.range_http.specs.declared.verdict.Verdict.{Verdict}
 use Rattle.range_http.specs.Heads.{IsHead, entry_of}
+use Rattle.range_http.specs.Verdict.{verdict_of}
+use Rattle.reply_laws.specs.Reading.{HasHead, IsRead, framing_seen}
 
 -- a name and a value with a space between them
 abbrev pub field_text : List ℕ × List ℕ → List ℕ
@@ -121,3 +129,28 @@ length_head digits reason fields =
       length-append (codes "HTTP/1.1 " ++ digits) (codes " "),
       length-append (codes "HTTP/1.1 ") digits,
     )
+
+-- ---- whole replies
+
+pub has_head : (digits reason : List ℕ) (fields : List (List ℕ × List ℕ)) (reply rest : List ℕ) (asked : Asked) (verdict : Verdict)
+    → reply ≡ head_text digits reason fields ++ rest → AreWritten digits reason fields → verdict_of (said digits fields) asked ≡ verdict
+    → HasHead reply asked (digits_value 10 digits) (length (head_text digits reason fields)) verdict
+has_head digits reason fields reply rest asked verdict is are means = record {
+  head = said digits fields;
+  begins = subst (λ bytes. IsHead bytes (said digits fields) (length (head_text digits reason fields))) (sym is) (is_head digits reason fields rest are);
+  status_is = refl;
+  means = means;
+}
+
+pub is_read : (digits reason : List ℕ) (fields : List (List ℕ × List ℕ)) (reply rest : List ℕ) (asked : Asked) (verdict : Verdict) (framing : Framing) (content : List ℕ)
+    → reply ≡ head_text digits reason fields ++ rest → AreWritten digits reason fields → verdict_of (said digits fields) asked ≡ verdict
+    → body_of (framing_seen framing) rest ≡ record { content = content; rest = []; standing = Whole }
+    → IsRead reply asked (digits_value 10 digits) verdict framing content
+is_read digits reason fields reply rest asked verdict framing content is are means body = record {
+  used = length (head_text digits reason fields);
+  head = has_head digits reason fields reply rest asked verdict is are means;
+  body =
+      ap (λ bytes. body_of (framing_seen framing) (drop (length (head_text digits reason fields)) bytes)) is
+      ∙ ap (body_of (framing_seen framing)) (drop-append_seam (head_text digits reason fields) rest)
+      ∙ body;
+}

@@ -1,13 +1,12 @@
 -- What mirrors in memory give in answer to a request.
-use Rattle.std.specs.Prelude.{◌≡◌, ℕ, ◌^◌, ◌<◌, ◌≤◌, List, [], ◌∷◌, length, Some}
+use Rattle.std.specs.Prelude.{◌≡◌, ℕ, ◌^◌, ◌<◌, ◌≤◌, List, [], ◌∷◌, Option, Some, None}
 use Rattle.link_source.specs.Endpoint.{host_value}
-use Rattle.link_source.specs.Mirrors.{Content, Mirror, AddsReply, mirror_at, file_at, reply_by, part_reply}
+use Rattle.link_source.specs.Mirrors.{Content, Mirror, AddsReply, bad_at, mirror_at, file_at, reply_by}
+use Rattle.link_source.specs.Replies.{text_under}
 use Rattle.link_source.specs.Requests.{request_of}
 use Rattle.link_source.specs.Streams.{Stream}
 use Rattle.link_source.specs.declared.mirrors.Manner.{Manner}
-use Rattle.link_source.specs.declared.mirrors.Manner.TheVariants.{Ranges}
 use Rattle.link_source.specs.declared.mirrors.MemFile.{MemFile}
-use Rattle.link_source.specs.declared.mirrors.MemFile.TheVariants.{Bytes}
 use Rattle.range_http.specs.declared.asked.Asked.{Asked}
 use Rattle.range_http.specs.Request.{request_text}
 
@@ -15,12 +14,12 @@ use Rattle.range_http.specs.Request.{request_text}
 abbrev pub RequestsAreAlike : Type 0
 RequestsAreAlike = (host target : List ℕ) (asked : Asked) → request_text target host asked ≡ request_of host target asked.first asked.last
 
--- the first mirror of the host and the port answers in this manner, and its first file of the target is this one
-pub record Has (content : Content) (host : List ℕ) (port : ℕ) (target : List ℕ) (manner : Manner) (file : MemFile) : Type 0 where
+-- the first mirror of the host and the port answers in this manner, and this is its first file of the target, if it has one
+pub record Has (content : Content) (host : List ℕ) (port : ℕ) (target : List ℕ) (manner : Manner) (file : Option MemFile) : Type 0 where
   pub mirror : Mirror
   pub mirror_is : mirror_at content.mirrors host port ≡ Some mirror
   pub manner_is : mirror.manner ≡ manner
-  pub file_is : file_at mirror.files target ≡ Some file
+  pub file_is : file_at mirror.files target ≡ file
 
 -- a request goes out on the newest stream, which leads to the host and the port and has nothing more to give
 pub record IsAsked (streams : List Stream) (due sent host : List ℕ) (port : ℕ) (target : List ℕ) (asked : Asked) : Type 0 where
@@ -34,18 +33,14 @@ pub record IsAsked (streams : List Stream) (due sent host : List ℕ) (port : �
   pub ordered : asked.first ≤ asked.last
   pub bounded : asked.last < 2 ^ 64
 
--- due then is the reply to what is asked
+-- due then is the reply to what is asked, or the bad answer in its place
 abbrev pub RequestsAreAnswered : Type 0
 RequestsAreAnswered = (streams : List Stream) (due new_due sent host target : List ℕ) (port : ℕ) (asked : Asked)
-    (content new_content : Content) (manner : Manner) (file : MemFile)
+    (content new_content : Content) (manner : Manner) (file : Option MemFile)
     → Has content host port target manner file → IsAsked streams due sent host port target asked
     → AddsReply streams sent content new_content due new_due
-    → new_due ≡ reply_by manner (Some file) asked.first asked.last
+    → new_due ≡ text_under (bad_at content host port) (reply_by manner file asked.first asked.last)
 
--- where a mirror gives ranges, and all that is asked for is there, it is exactly that part
-abbrev pub PartsAreGiven : Type 0
-PartsAreGiven = (streams : List Stream) (due new_due sent host target bytes : List ℕ) (port : ℕ) (asked : Asked)
-    (content new_content : Content)
-    → Has content host port target Ranges (Bytes bytes) → IsAsked streams due sent host port target asked
-    → AddsReply streams sent content new_content due new_due
-    → asked.last < length bytes → new_due ≡ part_reply bytes asked.first asked.last
+-- where no bad answer is left, none is next
+abbrev pub NoneIsNext : Type 0
+NoneIsNext = (content : Content) (host : List ℕ) (port : ℕ) → content.bad ≡ [] → bad_at content host port ≡ None
