@@ -1,6 +1,6 @@
 -- The bodies of replies, as they are read.
-use Rattle.std.proofs.Common.{◌≡◌, ℕ, zero, suc, ◌+◌, ◌*◌, ◌/◌, ◌%◌, ◌<◌, ◌≤◌, Bool, min, List, [], ◌∷◌, ◌++◌, append_assoc, length, drop, length-drop, length-take, arith, ap, sym, ◌∙◌, refl}
-use Rattle.std.proofs.lemmas.Bool.{cond-true, le-leb}
+use Rattle.std.proofs.Common.{◌≡◌, ℕ, zero, suc, ◌+◌, ◌*◌, ◌/◌, ◌%◌, ◌<◌, ◌≤◌, Bool, min, List, [], ◌∷◌, ◌++◌, append_assoc, length, take, drop, append-nil, length-take-le, length-drop, length-take, arith, ap, sym, ◌∙◌, refl}
+use Rattle.std.proofs.lemmas.Bool.{cond-true, le-leb, leb-true}
 use Rattle.std.proofs.lemmas.Fmt.{digits_is_IsNumeral}
 use Rattle.std.proofs.lemmas.Grind.{div_ceil_times}
 use Rattle.std.proofs.lemmas.List.{take_all, drop_all, take-append-drop, drop-drop}
@@ -13,6 +13,7 @@ use Rattle.body_frames.specs.Written.{WritesSize, ChunkIsRead, LastChunkIsRead}
 use Rattle.dl_words.specs.Lists.{part_at}
 use Rattle.link_source.specs.Chunks.{chunk_at, chunk_count, in_chunks, last_chunk}
 use Rattle.link_source.specs.Requests.{line}
+use Rattle.reply_laws.specs.Replies.{ToldContentIsPlain}
 
 abbrev made : List ℕ → List ℕ → Standing → StreamBody
 made content rest standing = record { content = content; rest = rest; standing = standing }
@@ -29,6 +30,26 @@ length_body content n size =
     ap (λ c. made c (drop n content) standing) (take_all n content (omega arith))
     ∙ ap (λ r. made content r standing) (drop_all n content (omega arith))
     ∙ ap (made content []) (cond-true (nat_le n (length content)) Whole Short (le-leb n (length content) (omega arith)))
+
+plain_body : (stream content : List ℕ) (n : ℕ) → body_of (Length n) stream ≡ whole content → (stream ≡ content) × (length content ≡ n)
+unfolding body_of
+plain_body stream content n is =
+    let front : take n stream ≡ content = ap (λ (body : StreamBody). body.content) is in
+    let none : drop n stream ≡ [] = ap (λ (body : StreamBody). body.rest) is in
+    let standing : (if nat_le n (length stream) then Whole else Short) ≡ Whole = ap (λ (body : StreamBody). body.standing) is in
+    let long : n ≤ length stream = leb-true n (length stream) (is_whole (nat_le n (length stream)) standing) in
+    (
+      sym (take-append-drop n stream) ∙ ap (λ bytes. bytes ++ drop n stream) front ∙ ap (λ bytes. content ++ bytes) none ∙ append-nil content,
+      ap length (sym front) ∙ length-take-le n stream long,
+    )
+  where
+    is_whole : (b : Bool) → (if b then Whole else Short) ≡ Whole → b ≡ true
+    is_whole true same = refl
+    is_whole false same = absurd (cc same)
+
+-- behind a head that tells the length
+pub told_content_is_plain : ToldContentIsPlain
+told_content_is_plain reply content asked status len verdict read = plain_body (drop read.used reply) content len read.body
 
 pub stream_body : (content : List ℕ) → body_of ToEnd content ≡ whole content
 unfolding body_of

@@ -1,5 +1,5 @@
 -- How the replies of mirrors in memory are read (RFC 9110 sections 14.4, 15.3.1, 15.3.7, 15.4.3 and 15.5.5).
-use Rattle.std.specs.Prelude.{◌≡◌, ℕ, ◌+◌, ◌-◌, ◌^◌, ◌<◌, ◌≤◌, List, ◌++◌, length, min, Some, None}
+use Rattle.std.specs.Prelude.{◌≡◌, ℕ, ◌+◌, ◌-◌, ◌^◌, ◌<◌, ◌≤◌, List, ◌++◌, length, drop, min, Some, None}
 use Rattle.dl_words.specs.Lists.{part_at}
 use Rattle.link_source.specs.Leads.{IsReadable}
 use Rattle.link_source.specs.Mirrors.{content_reply}
@@ -64,6 +64,11 @@ NotFoundIsRead = (asked : Asked) → (used : ℕ) × HasHead (text_of (bare not_
 abbrev pub EmptyIsRead : Type 0
 EmptyIsRead = (asked : Asked) → asked.total ≡ None
     → (used : ℕ) × HasHead (text_of (bare (not_satisfiable 0))) asked 416 used Empty
+
+-- behind a head that tells the length of the content stands the content itself
+abbrev pub ToldContentIsPlain : Type 0
+ToldContentIsPlain = (reply content : List ℕ) (asked : Asked) (status len : ℕ) (verdict : Verdict)
+    → (read : IsRead reply asked status verdict (Length len) content) → (drop read.used reply ≡ content) × (length content ≡ len)
 
 -- ---- fronts
 

@@ -3,7 +3,7 @@
 #![tactic(auto)]
 
 ghost use Rattle.reply_laws.specs.Answers.{RequestsAreAlike, RequestsAreAnswered, NoneIsNext};
-ghost use Rattle.reply_laws.specs.Replies.{PartIsRead, ChunkedPartIsRead, WholeIsRead, StreamIsRead, MovedIsRead, NotFoundIsRead, EmptyIsRead, FrontsAreRead, HeadFrontsAreRead};
+ghost use Rattle.reply_laws.specs.Replies.{PartIsRead, ChunkedPartIsRead, WholeIsRead, StreamIsRead, MovedIsRead, NotFoundIsRead, EmptyIsRead, ToldContentIsPlain, FrontsAreRead, HeadFrontsAreRead};
 
 use body_frames::{chunks_are_read, pieces_join};
 use range_http::{head_laws, range_laws};
@@ -17,6 +17,7 @@ pub fn replies_are_read()
     ensures moved { MovedIsRead }
     ensures not_found { NotFoundIsRead }
     ensures empty { EmptyIsRead }
+    ensures plain { ToldContentIsPlain }
 {
     range_laws();
     chunks_are_read();

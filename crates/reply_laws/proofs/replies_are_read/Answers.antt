@@ -1,3 +1,4 @@
+use Rattle.reply_laws.proofs.Bodies.{told_content_is_plain}
 use Rattle.reply_laws.proofs.Parts.{part_is_read, chunked_part_is_read}
 use Rattle.reply_laws.proofs.Whole.{whole_is_read, stream_is_read, moved_is_read, not_found_is_read, empty_is_read}
 use Rattle.reply_laws.proofs.replies_are_read.Goals as goal
@@ -11,4 +12,5 @@ returns c = record {
   moved = moved_is_read;
   not_found = not_found_is_read;
   empty = empty_is_read c.range_laws.ensures.ranges;
+  plain = told_content_is_plain;
 }
