@@ -1,5 +1,5 @@
 -- What mirrors in memory serve.
-use Rattle.std.specs.Prelude.{◌≡◌, ◌<◌, ℕ, List, [], ◌∷◌, ◌++◌, length, Result, MatchResult}
+use Rattle.std.specs.Prelude.{◌≡◌, ◌<◌, ℕ, List, [], ◌∷◌, ◌++◌, length, Some, Result, MatchResult}
 use Rattle.dl_words.specs.Lists.{part_at}
 use Rattle.link_source.specs.Mirrors.{Content}
 use Rattle.link_source.specs.declared.endpoint.Endpoint.{Endpoint}
@@ -18,12 +18,13 @@ use Rattle.aria_top.specs.declared.connection.Loss.{Loss}
 use Rattle.aria_top.specs.declared.connection.Loss.TheVariants.{Link, NoMemory}
 
 -- the mirror that the URL leads to has a resource of the length there, in the manner of ranges, and these are the bytes
--- that are asked for
+-- that are asked for; no bad answer is left to stand in the place of a reply
 pub record Gives (content : Content) (asking : Asking) (bytes : List ℕ) : Type 0 where
   pub endpoint : Endpoint
   pub leads : LeadsTo asking.url endpoint
   pub resource : List ℕ
-  pub has : Has content endpoint.host endpoint.port endpoint.target Ranges (Bytes resource)
+  pub has : Has content endpoint.host endpoint.port endpoint.target Ranges (Some (Bytes resource))
+  pub unspoiled : content.bad ≡ []
   pub size : length resource ≡ asking.total
   pub bytes_are : bytes ≡ part_at resource asking.first asking.len
 

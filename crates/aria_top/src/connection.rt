@@ -306,6 +306,8 @@ fn ask<L: Links>(link: &mut L, request: &[u8]) -> Result<(), Loss>
     ensures link { IsErrOf result Link → Rose (L.faults link.old) (L.faults link.new) }
     ensures later { L.faults link.old ≤ L.faults link.new }
 {
+    // Where no bad answer is left, the mirrors stay as they are.
+    requests_are_answered();
     Ok(link.send(request)?)
 }
 

@@ -59,7 +59,7 @@ returns-clause-served g c told bytes gives =
       request_is = request;
     } in
     serves_exchange c.head_laws.ensures.one c.head_laws.ensures.stays c.head_laws.ensures.none_stays c.head_laws.ensures.finished c.head_laws.ensures.whole
-    c.requests_are_answered.ensures.parts c.replies_are_read.ensures.part dial _ _ bytes c.exchange-got.result c.requires.range gives
+    c.requests_are_answered.ensures.answered c.requests_are_answered.ensures.none_next c.replies_are_read.ensures.part c.replies_are_read.ensures.plain dial _ _ bytes c.exchange-got.result c.requires.range gives
     (c.exchange-got.ensures.ends told dial refl begun)
 
 pub returns-clause-serving : goal.returns-clause-serving
