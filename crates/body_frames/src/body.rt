@@ -61,6 +61,11 @@ impl Body {
             result ≢ Err BodyErr.NoMemory → GainAlike (content_of framing stream)
             (content_of framing (stream ++ piece.now)) out.old.items out.new.items) }
 
+        // It lost nothing, gained no more than the piece's length, and kept its room.
+        ensures grows { vec_len out.old ≤ vec_len out.new }
+        ensures len { vec_len out.new ≤ vec_len out.old + length piece.now }
+        ensures capacity { vec_capacity out.old ≤ vec_capacity out.new }
+
         // What of the piece is the body's, and whether the body is over.
         ensures used { ForEachStream self.old (λ framing stream. IfOk result (λ fed.
             fed.used ≡ used_of framing (stream ++ piece.now) - used_of framing stream)) }
@@ -119,6 +124,9 @@ impl Body {
     fn read(&mut self, piece: &[u8], out: &mut Vec<u8>) -> Result<usize, BodyErr>
         requires open { self.old.phase ≢ Phase.Stopped }
         requires room { vec_len out.old + length piece.now ≤ vec_capacity out.old }
+        ensures grows { vec_len out.old ≤ vec_len out.new }
+        ensures len { vec_len out.new ≤ vec_len out.old + length piece.now }
+        ensures capacity { vec_capacity out.old ≤ vec_capacity out.new }
         ensures used { IfOk result (λ used. used ≤ length piece.now) }
         ensures all { IfOk result (λ used. (used ≡ length piece.now) ⊎ (self.new.phase ≡ Phase.Over)) }
         ensures ok { IfOk result (λ used.
@@ -142,6 +150,7 @@ impl Body {
         requires room { vec_len out.old + length piece.now ≤ vec_capacity out.old }
         ensures most { IfOk result (λ taken. taken ≤ length piece.now) }
         ensures least { IfOk result (λ taken. 0 < taken) }
+        ensures grows { vec_len out.old ≤ vec_len out.new }
         ensures len { IfOk result (λ taken. vec_len out.new ≤ vec_len out.old + taken) }
         ensures capacity { vec_capacity out.old ≤ vec_capacity out.new }
         ensures ok { IfOk result (λ taken.

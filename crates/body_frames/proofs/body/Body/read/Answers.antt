@@ -14,6 +14,9 @@ loop-used-preserved c =
     record {
       bound = omega (arith, c.in_ok-used.ensures.most);
       open_phase = reads.1.goes_on;
+      grows = omega arith;
+      len = omega (arith, c.in_ok-used.ensures.len, c.loop-used.invariant.len);
+      capacity = omega (arith, c.in_ok-used.ensures.capacity, c.loop-used.invariant.capacity);
       room = omega (arith, c.in_ok-used.ensures.len, c.in_ok-used.ensures.capacity, c.loop-used.invariant.room, c.in_ok-used.ensures.most);
       reads = reads;
     }

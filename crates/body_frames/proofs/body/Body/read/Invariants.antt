@@ -7,6 +7,9 @@ abbrev pub invariant-loop-used : goal.invariant-loop-used
 invariant-loop-used l = record {
   bound : l.used ≤ length l.piece;
   open_phase : l.self.phase ≢ Stopped;
+  grows : vec_len l.initial.out ≤ vec_len l.out;
+  len : vec_len l.out ≤ vec_len l.initial.out + l.used;
+  capacity : vec_capacity l.initial.out ≤ vec_capacity l.out;
   room : vec_len l.out + (length l.piece - l.used) ≤ vec_capacity l.out;
   reads : Reads l.initial.self.phase (take l.used l.piece) l.initial.out.items l.out.items l.self.phase;
 }
