@@ -37,8 +37,7 @@ plain_body stream content n is =
     let front : take n stream ≡ content = ap (λ (body : StreamBody). body.content) is in
     let none : drop n stream ≡ [] = ap (λ (body : StreamBody). body.rest) is in
     let standing : (if nat_le n (length stream) then Whole else Short) ≡ Whole = ap (λ (body : StreamBody). body.standing) is in
-    let long : n ≤ length stream = leb-true n (length stream) (is_whole (nat_le n (length stream)) standing) in
-    (
+    let long : n ≤ length stream = leb-true n (length stream) (is_whole (nat_le n (length stream)) standing) in (
       sym (take-append-drop n stream) ∙ ap (λ bytes. bytes ++ drop n stream) front ∙ ap (λ bytes. content ++ bytes) none ∙ append-nil content,
       ap length (sym front) ∙ length-take-le n stream long,
     )

@@ -1,0 +1,6 @@
+pub mod Answers
+pub mod Fills
+pub mod HeadLaws
+pub mod Heads
+pub mod Losses
+pub mod Slices
