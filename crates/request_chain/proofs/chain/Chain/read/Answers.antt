@@ -1,0 +1,75 @@
+use Rattle.std.proofs.Common.{◌++◌, List, ℕ, length, ap, subst, ◌∙◌, arith, append_assoc, length-append, rules}
+use Rattle.std.proofs.lemmas.Result.{err_from_is_err_and}
+use Rattle.request_chain.specs.Chains.{IsChain}
+use Rattle.request_chain.proofs.CallLemmas.{steps_lose, unchecked_loses, call_reads}
+use Rattle.request_chain.proofs.HonestLemmas.{honest_on, honest_still}
+use Rattle.request_chain.proofs.ReadingLemmas.{reading_brought}
+use Rattle.request_chain.proofs.chain.Chain.read.Goals as goal
+
+pub returns-in_err-turn-clause-reads : goal.returns-in_err-turn-clause-reads
+returns-in_err-turn-clause-reads g c told parts before used bytes is gains =
+    let p = err_from_is_err_and c.from_residual.result c.from_residual.ensures.1 in
+    let so_far = c.turns.invariant.steps told parts before used bytes is gains in
+    let last = c.in_err-turn.ensures.steps told parts before so_far.2.later (bytes ++ so_far.0) so_far.2.chain_is so_far.2.gains in (
+      so_far.0 ++ last.0,
+      last.1 ∙ ap (λ items. items ++ last.0) so_far.1 ∙ append_assoc c.args.out.now.items so_far.0 last.0,
+      rw (p.1, p.2) (steps_lose parts before used _ _ bytes so_far.0 last.0 c.args.allow _ _ _ _ so_far.2 last.2 c.turn.ensures.few),
+    )
+
+pub returns-in_err-check-clause-reads : goal.returns-in_err-check-clause-reads
+returns-in_err-check-clause-reads g c told parts before used bytes is gains =
+    let p = err_from_is_err_and c.from_residual-in_err-check.result c.from_residual-in_err-check.ensures.1 in
+    let so_far = c.turns.invariant.steps told parts before used bytes is gains in
+    (so_far.0, so_far.1, rw (p.1, p.2) (unchecked_loses parts before used _ bytes so_far.0 c.args.allow _ _ _ so_far.2 c.in_err-check.ensures.lost c.turns.invariant.few))
+
+pub returns-clause-reads : goal.returns-clause-reads
+returns-clause-reads g c told parts before used bytes is gains =
+    let so_far = c.turns.invariant.steps told parts before used bytes is gains in
+    let chain_is = so_far.2.chain_is in
+    let long = ap length so_far.1 in
+    let parts_long = length-append c.args.out.now.items so_far.0 in
+    let brought = reading_brought c.answers_laws.ensures.grow c.final_head_laws.ensures.stays parts so_far.2.later c.turns.self.course (bytes ++ so_far.0) c.turns.self.stage c.turns.self.room.inbox
+    chain_is.reading chain_is.behind c.in_ok-check.ensures.due in (
+      so_far.0,
+      so_far.1,
+      call_reads parts before used _ _ bytes so_far.0 c.args.room c.args.allow c.turns.gained c.turns.self c.is_over-done.result so_far.2
+          (c.end.ensures.streams told) c.turns.invariant.few (omega (arith, c.turns.invariant.within)) (omega (arith, c.turns.invariant.gained_is))
+          (c.goes_on.ensures.off c.turns-test.false) c.is_over-done.ensures.over c.is_over-done.ensures.asking brought,
+    )
+
+pub returns-in_err-turn-clause-honest : goal.returns-in_err-turn-clause-honest
+returns-in_err-turn-clause-honest g c told none parts before used bytes is gains honest =
+    let so_far = c.turns.invariant.steps told parts before used bytes is gains in
+    honest_on _ _ _ before _ _ _ _ none (c.turns.invariant.honest told none parts before used bytes is gains honest)
+    (λ left stood. c.turn.ensures.honest told left parts before so_far.2.later (bytes ++ so_far.0) so_far.2.chain_is so_far.2.gains stood)
+
+pub turns-preserved : goal.turns-preserved
+turns-preserved g c = record {
+  few = search rules;
+  gained_is = search rules;
+  within = search rules;
+  capacity = search rules;
+  faults = search rules;
+  steps = λ told parts before used bytes is gains.
+      let so_far = c.turns.invariant.steps told parts before used bytes is gains in
+      let last = c.in_ok-turn.ensures.steps told parts before so_far.2.later (bytes ++ so_far.0) so_far.2.chain_is so_far.2.gains in
+      let P : List ℕ → Type 0 = λ came. IsChain parts last.2.later came c.turn.new.self in (
+        so_far.0 ++ last.0,
+        last.1 ∙ ap (λ items. items ++ last.0) so_far.1 ∙ append_assoc c.args.out.now.items so_far.0 last.0,
+        record {
+          later = last.2.later;
+          gains = last.2.gains;
+          taken_is = omega (arith, so_far.2.taken_is, last.2.taken_is);
+          chain_is = subst P (append_assoc bytes so_far.0 last.0) last.2.chain_is;
+        },
+      );
+  honest = λ told none parts before used bytes is gains honest.
+      let so_far = c.turns.invariant.steps told parts before used bytes is gains in
+      honest_on _ _ _ before _ _ _ _ none (c.turns.invariant.honest told none parts before used bytes is gains honest)
+      (λ left stood. c.turn.ensures.honest told left parts before so_far.2.later (bytes ++ so_far.0) so_far.2.chain_is so_far.2.gains stood);
+}
+
+pub returns-clause-honest : goal.returns-clause-honest
+returns-clause-honest g c told none parts before used bytes is gains honest =
+    let so_far = c.turns.invariant.honest told none parts before used bytes is gains honest in
+    honest_still _ _ before _ _ _ _ (c.end.ensures.kept told ∙ so_far.0) (c.end.ensures.streams told) (c.end.ensures.held told) so_far.1

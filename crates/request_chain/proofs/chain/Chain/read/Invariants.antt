@@ -1,0 +1,27 @@
+use Rattle.std.proofs.Common.{◌≡◌, ◌+◌, ◌-◌, ◌*◌, ◌≤◌, ◌++◌, ℕ, List, [], IsTrue, vec_len, vec_capacity}
+use Rattle.link_source.specs.Streams.{Stream}
+use Rattle.span_map.specs.declared.jobs.JobPart.{JobPart}
+use Rattle.request_chain.specs.Chains.{IsChain, Gains}
+use Rattle.request_chain.specs.Honest.{AreHonest}
+use Rattle.request_chain.specs.Turns.{Steps, weight_of}
+use Rattle.request_chain.proofs.chain.Chain.read.Given as goal
+
+abbrev pub invariant-turns : goal.invariant-turns
+invariant-turns g l = record {
+  few : l.self.taken ≤ l.allow;
+  gained_is : l.gained ≡ vec_len l.out - vec_len l.initial.out;
+  within : vec_len l.out ≤ vec_len l.initial.out + l.room;
+  capacity : vec_capacity l.initial.out ≤ vec_capacity l.out;
+  faults : g.L.Links.faults l.initial.link ≤ g.L.Links.faults l.link;
+  steps : IsTrue g.L.Links.tells → (parts : List JobPart) (before used : List Stream) (bytes : List ℕ)
+      → IsChain parts used bytes l.fn.self → Gains before (g.L.Links.streams l.initial.link) used
+      → (added : List ℕ) × (l.out.items ≡ l.initial.out.items ++ added) × Steps parts before used bytes (g.L.Links.streams l.link) added 0 l.self;
+  honest : IsTrue g.L.Links.tells → (g.L.Links.content l.initial.link).bad ≡ [] → (parts : List JobPart) (before used : List Stream) (bytes : List ℕ)
+      → IsChain parts used bytes l.fn.self → Gains before (g.L.Links.streams l.initial.link) used
+      → AreHonest (g.L.Links.content l.initial.link) before (g.L.Links.streams l.initial.link) (g.L.Links.due l.initial.link)
+      → (g.L.Links.content l.link ≡ g.L.Links.content l.initial.link)
+      × AreHonest (g.L.Links.content l.initial.link) before (g.L.Links.streams l.link) (g.L.Links.due l.link);
+}
+
+abbrev pub decreases-turns : goal.decreases-turns
+decreases-turns g l = weight_of l.self + 3 * (l.allow - l.self.taken)

@@ -1,0 +1,86 @@
+use Rattle.std.proofs.Common.{List, ℕ, refl, sym, ap, subst, ◌∙◌, arith}
+use Rattle.std.proofs.lemmas.Result.{err_from_is_err_and}
+use Rattle.link_source.specs.Streams.{with_received}
+use Rattle.reply_reader.specs.declared.loss.Loss.TheVariants.{Short}
+use Rattle.request_chain.specs.Stages.{IsReading, got_at}
+use Rattle.request_chain.proofs.HonestLemmas.{honest_received, honest_still, comes_due}
+use Rattle.request_chain.proofs.ReadingLemmas.{short_answer}
+use Rattle.request_chain.proofs.ReceivingLemmas.{more_reading}
+use Rattle.request_chain.proofs.TurnLemmas.{no_bytes, ended_loses, unchecked_ended, unchecked_still, link_loses}
+use Rattle.request_chain.proofs.chain.Chain.receive.Goals as goal
+
+pub returns-in_ok-check-in-Ok-eq0-clause-receives : goal.returns-in_ok-check-in-Ok-eq0-clause-receives
+returns-in_ok-check-in-Ok-eq0-clause-receives g c told parts before used bytes is gains =
+    let self = c.args.self.now in
+    let P : List ℕ → Type 0 = λ waiting. IsReading self.stage self.course waiting parts used bytes in
+    let reading = subst P c.requires.none_waits is.reading in
+    let has = short_answer parts used self.course bytes self.stage reading c.in_ok-check-in-Ok-eq0.ensures.due c.requires.sent in
+    let none = no_bytes c.refill.new.self (sym c.in-Ok-eq0.ensures.count ∙ c.in-Ok-eq0.field-0-test) in
+    let ended = c.in-Ok-eq0.ensures.received told ∙ ap (λ came. with_received came (g.L.Links.streams c.args.link.now)) none in
+    rw c.got.ensures (ended_loses parts before used _ _ self.course bytes _ _ _ refl (Short (got_at self.stage)) tt has gains ended)
+
+pub returns-in_err-check-in-Ok-eq0-clause-receives : goal.returns-in_err-check-in-Ok-eq0-clause-receives
+returns-in_err-check-in-Ok-eq0-clause-receives g c told parts before used bytes is gains =
+    let p = err_from_is_err_and c.from_residual.result c.from_residual.ensures.1 in
+    let self = c.args.self.now in
+    let P : List ℕ → Type 0 = λ waiting. IsReading self.stage self.course waiting parts used bytes in
+    let reading = subst P c.requires.none_waits is.reading in
+    let none = no_bytes c.refill.new.self (sym c.in-Ok-eq0.ensures.count ∙ c.in-Ok-eq0.field-0-test) in
+    let ended = c.in-Ok-eq0.ensures.received told ∙ ap (λ came. with_received came (g.L.Links.streams c.args.link.now)) none in
+    rw (p.1, p.2) (unchecked_ended parts before used _ _ self.course bytes _ _ _ refl self.stage _ c.in_err-check-in-Ok-eq0.ensures.lost reading c.requires.sent gains ended)
+
+pub returns-in_err-check-in-Err-clause-receives : goal.returns-in_err-check-in-Err-clause-receives
+returns-in_err-check-in-Err-clause-receives g c told parts before used bytes is gains =
+    let p = err_from_is_err_and c.from_residual-in_err-check-in-Err.result c.from_residual-in_err-check-in-Err.ensures.1 in
+    let self = c.args.self.now in
+    let P : List ℕ → Type 0 = λ waiting. IsReading self.stage self.course waiting parts used bytes in
+    let reading = subst P c.requires.none_waits is.reading in
+    rw (p.1, p.2) (unchecked_still parts before used _ _ self.course bytes _ _ _ refl self.stage _ c.in_err-check-in-Err.ensures.lost reading gains (c.in-Err.ensures.failed told))
+
+pub returns-in-Ok-clause-receives : goal.returns-in-Ok-clause-receives
+returns-in-Ok-clause-receives g c told parts before used bytes is gains =
+    let self = c.args.self.now in
+    let P : List ℕ → Type 0 = λ waiting. IsReading self.stage self.course waiting parts used bytes in
+    let reading = subst P c.requires.none_waits is.reading in
+    let refilled = c.in-Ok.ensures in
+    let later = more_reading parts before used _ _ self.course self.stage c.refill.new.self bytes (omega (arith, refilled.count)) gains (refilled.received told) c.requires.sent reading in
+    record { later = later.0; gains = later.1; taken_is = omega (arith, later.2, refilled.count); reading = later.3 }
+
+pub returns-in_ok-check-in-Err-clause-receives : goal.returns-in_ok-check-in-Err-clause-receives
+returns-in_ok-check-in-Err-clause-receives g c told parts before used bytes is gains =
+    let self = c.args.self.now in
+    let P : List ℕ → Type 0 = λ waiting. IsReading self.stage self.course waiting parts used bytes in
+    let reading = subst P c.requires.none_waits is.reading in
+    link_loses parts before used _ _ self.course bytes _ _ _ refl c.in-Err.error _ self.stage c.link_loss.ensures.loss reading c.in_ok-check-in-Err.ensures.due c.requires.sent gains (c.in-Err.ensures.failed told)
+
+pub returns-in_ok-check-in-Ok-eq0-clause-honest : goal.returns-in_ok-check-in-Ok-eq0-clause-honest
+returns-in_ok-check-in-Ok-eq0-clause-honest g c told parts before used bytes is gains honest =
+    let self = c.args.self.now in (
+      c.refill.ensures.kept told,
+      honest_received (g.L.Links.content c.args.link.now) parts before _ used self.course bytes self.room.inbox self.stage is.reading c.requires.sent gains
+          _ c.refill.new.self _ _ (c.in-Ok-eq0.ensures.received told) (comes_due _ c.refill.new.self _ _ c.in-Ok-eq0.ensures.count (c.in-Ok-eq0.ensures.given told)) honest,
+    )
+
+pub returns-in_err-check-in-Ok-eq0-clause-honest : goal.returns-in_err-check-in-Ok-eq0-clause-honest
+returns-in_err-check-in-Ok-eq0-clause-honest g c told parts before used bytes is gains honest =
+    let self = c.args.self.now in (
+      c.refill.ensures.kept told,
+      honest_received (g.L.Links.content c.args.link.now) parts before _ used self.course bytes self.room.inbox self.stage is.reading c.requires.sent gains
+          _ c.refill.new.self _ _ (c.in-Ok-eq0.ensures.received told) (comes_due _ c.refill.new.self _ _ c.in-Ok-eq0.ensures.count (c.in-Ok-eq0.ensures.given told)) honest,
+    )
+
+pub returns-in-Ok-clause-honest : goal.returns-in-Ok-clause-honest
+returns-in-Ok-clause-honest g c told parts before used bytes is gains honest =
+    let self = c.args.self.now in (
+      c.refill.ensures.kept told,
+      honest_received (g.L.Links.content c.args.link.now) parts before _ used self.course bytes self.room.inbox self.stage is.reading c.requires.sent gains
+          _ c.refill.new.self _ _ (c.in-Ok.ensures.received told) (comes_due _ c.refill.new.self _ _ c.in-Ok.ensures.count (c.in-Ok.ensures.given told)) honest,
+    )
+
+pub returns-in_err-check-in-Err-clause-honest : goal.returns-in_err-check-in-Err-clause-honest
+returns-in_err-check-in-Err-clause-honest g c told parts before used bytes is gains honest =
+    honest_still _ _ before _ _ _ _ (c.refill.ensures.kept told) (c.in-Err.ensures.failed told) (c.in-Err.ensures.held told) honest
+
+pub returns-in_ok-check-in-Err-clause-honest : goal.returns-in_ok-check-in-Err-clause-honest
+returns-in_ok-check-in-Err-clause-honest g c told parts before used bytes is gains honest =
+    honest_still _ _ before _ _ _ _ (c.refill.ensures.kept told) (c.in-Err.ensures.failed told) (c.in-Err.ensures.held told) honest

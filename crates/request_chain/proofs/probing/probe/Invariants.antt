@@ -1,0 +1,17 @@
+use Rattle.std.proofs.Common.{◌≤◌, ◌-◌, List, IsTrue}
+use Rattle.link_source.specs.Streams.{Stream}
+use Rattle.request_chain.specs.Chains.{Gains}
+use Rattle.request_chain.specs.Probes.{At}
+use Rattle.request_chain.specs.Searches.{SearchLeads}
+use Rattle.request_chain.proofs.probing.probe.Given as goal
+
+abbrev pub invariant-turns : goal.invariant-turns
+invariant-turns g l = record {
+  few : l.redirects ≤ 20;
+  faults : g.L.Links.faults l.initial.link ≤ g.L.Links.faults l.link;
+  searched : IsTrue g.L.Links.tells → (used : List Stream) × Gains (g.L.Links.streams l.initial.link) (g.L.Links.streams l.link) used
+      × SearchLeads (At l.fn.url 0 0) used (At l.hop.url l.redirects l.hop.status);
+}
+
+abbrev pub decreases-turns : goal.decreases-turns
+decreases-turns g l = 20 - l.redirects

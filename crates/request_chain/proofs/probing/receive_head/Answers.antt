@@ -1,0 +1,36 @@
+use Rattle.std.proofs.Common.{◌+◌, [], length, refl, arith}
+use Rattle.std.proofs.lemmas.Result.{err_from_is_err_and}
+use Rattle.request_chain.proofs.ProbeLemmas.{none_left, read_more, read_whole, read_none, read_room}
+use Rattle.request_chain.proofs.probing.receive_head.Goals as goal
+
+pub returns-in_err-count-clause-heads : goal.returns-in_err-count-clause-heads
+returns-in_err-count-clause-heads g c told url before opened =
+    let p = err_from_is_err_and c.from_residual.result c.from_residual.ensures.1 in
+    rw (p.1, p.2) (c.in_err-count.ensures.receives told url before (c.turns.invariant.awaits told url before opened))
+
+pub returns-in-Whole-clause-heads : goal.returns-in-Whole-clause-heads
+returns-in-Whole-clause-heads g c told url before opened =
+    let awaits = c.in_ok-count.ensures.receives told url before (c.turns.invariant.awaits told url before opened) in
+    read_whole url before _ _ _ _ awaits c.in-Whole.head (length awaits.front + c.in-Whole.used) (c.in-Whole.ensures.whole.2 awaits.front awaits.at)
+
+pub turns-preserved : goal.turns-preserved
+turns-preserved g c = record {
+  faults = omega (arith, c.turns.invariant.faults, c.receive.ensures.later);
+  awaits = λ told url before opened.
+      let awaits = c.in_ok-count.ensures.receives told url before (c.turns.invariant.awaits told url before opened) in
+      read_more url before _ _ _ _ awaits c.read_head.new.reader ((c.in-More.ensures.more refl).1 awaits.front awaits.at);
+}
+
+pub returns-in-Bad-clause-heads : goal.returns-in-Bad-clause-heads
+returns-in-Bad-clause-heads g c told url before opened =
+    let awaits = c.in_ok-count.ensures.receives told url before (c.turns.invariant.awaits told url before opened) in
+    read_none url before _ _ _ _ awaits 0 (c.in-Bad.ensures.bad refl awaits.front awaits.at)
+
+pub returns-in-NoMemory-clause-heads : goal.returns-in-NoMemory-clause-heads
+returns-in-NoMemory-clause-heads g c told url before opened =
+    let awaits = c.in_ok-count.ensures.receives told url before (c.turns.invariant.awaits told url before opened) in
+    read_room url before _ _ _ _ awaits 0
+
+pub returns-clause-heads : goal.returns-clause-heads
+returns-clause-heads g c told url before opened =
+    none_left url before _ [] _ _ (c.turns.invariant.awaits told url before opened) (omega arith)

@@ -1,0 +1,16 @@
+use Rattle.std.proofs.Common.{◌≤◌, ℕ, List, [], IsTrue}
+use Rattle.link_source.specs.Streams.{Stream}
+use Rattle.request_chain.specs.Probes.{probe_asked}
+use Rattle.request_chain.specs.Searches.{Awaits}
+use Rattle.request_chain.specs.Sending.{IsOpened}
+use Rattle.request_chain.proofs.probing.receive_head.Given as goal
+
+abbrev pub invariant-turns : goal.invariant-turns
+invariant-turns g l = record {
+  faults : g.L.Links.faults l.initial.link ≤ g.L.Links.faults l.link;
+  awaits : IsTrue g.L.Links.tells → (url : List ℕ) (before : List Stream) → IsOpened url probe_asked before (g.L.Links.streams l.initial.link)
+      → Awaits url before (g.L.Links.streams l.link) l.left [] l.reader;
+}
+
+abbrev pub decreases-turns : goal.decreases-turns
+decreases-turns g l = l.left

@@ -1,0 +1,14 @@
+pub mod Chains
+pub mod Contents
+pub mod Courses
+pub mod Exchanges
+pub mod Fetched
+pub mod Honest
+pub mod Parts
+pub mod Plans
+pub mod Probes
+pub mod Searches
+pub mod Redirects
+pub mod Sending
+pub mod Stages
+pub mod Turns

@@ -1,0 +1,52 @@
+-- The steps of a call of a chain.
+use Rattle.std.specs.Prelude.{◌≡◌, ℕ, ◌+◌, ◌*◌, List, ◌++◌, length}
+use Rattle.link_source.specs.Streams.{Stream}
+use Rattle.range_http.specs.declared.head.Head.{Head}
+use Rattle.range_http.specs.declared.verdict.Verdict.TheVariants.{Moved}
+use Rattle.range_http.specs.Verdict.{verdict_of}
+use Rattle.span_map.specs.declared.jobs.JobPart.{JobPart}
+use Rattle.reply_reader.specs.Heads.{HasFinalHead}
+use Rattle.reply_reader.specs.declared.loss.Loss.{Loss}
+use Rattle.request_chain.specs.Chains.{Gains, received_by, IsChain, TellsLoss}
+use Rattle.request_chain.specs.Courses.{plan_now, IfAsking}
+use Rattle.request_chain.specs.Plans.{asked_of}
+use Rattle.request_chain.specs.Stages.{IsSent, IsReading, steps_of}
+use Rattle.request_chain.specs.declared.chain.Chain.{Chain}
+use Rattle.request_chain.specs.declared.course.Course.{Course}
+
+-- what was gained since so many bytes of the call had come
+pub record Steps (parts : List JobPart) (before used : List Stream) (bytes : List ℕ) (now : List Stream) (added : List ℕ) (was : ℕ) (chain : Chain) : Type 0 where
+  pub later : List Stream
+  pub gains : Gains before now later
+  pub taken_is : received_by later + was ≡ received_by used + chain.taken
+  pub chain_is : IsChain parts later (bytes ++ added) chain
+
+-- the same, where a head may wait
+pub record Receives (parts : List JobPart) (before used : List Stream) (bytes : List ℕ) (now : List Stream) (was : ℕ) (chain : Chain) : Type 0 where
+  pub later : List Stream
+  pub gains : Gains before now later
+  pub taken_is : received_by later + was ≡ received_by used + chain.taken
+  pub reading : IsReading chain.stage chain.course chain.room.inbox parts later bytes
+
+-- the same, where the rest was lost
+pub record StepLoses (parts : List JobPart) (before used : List Stream) (bytes : List ℕ) (now : List Stream) (added : List ℕ) (was faults : ℕ) (chain : Chain) (loss : Loss) : Type 0 where
+  pub later : List Stream
+  pub gains : Gains before now later
+  pub taken_is : received_by later + was ≡ received_by used + chain.taken
+  pub tells : TellsLoss parts later (bytes ++ added) faults loss
+
+-- the final head of the newest stream was read, and what waits is behind it
+pub record HeadIsRead (parts : List JobPart) (used : List Stream) (course : Course) (waiting bytes : List ℕ) (head : Head) : Type 0 where
+  pub sent : IsSent parts used course
+  pub bytes_are : bytes ≡ sent.brought
+  pub front : List ℕ
+  pub received_is : sent.newest.received ≡ front ++ waiting
+  pub begins : HasFinalHead front head (length front)
+
+-- how many steps may come yet, if no more is received
+abbrev pub weight_of : Chain → ℕ
+weight_of chain = 3 * length chain.room.inbox + steps_of chain.stage
+
+-- the head says that what is asked for was moved
+abbrev pub HasMoved : Course → Head → Type 0
+HasMoved course head = IfAsking (plan_now course) (λ part others url count status. verdict_of head (asked_of part) ≡ Moved)

@@ -1,0 +1,405 @@
+// A chain of requests over one link.
+ghost use Rattle.std.specs.Prelude.{◌≡◌, ◌≢◌, ◌⊎◌, ◌≤◌, ◌<◌, ◌+◌, ◌-◌, ◌*◌, ◌++◌, [], List, ℕ, true, false, Ok, Err, All, IsTrue, IsFalse, OnOk, IfOk, IfErr, MatchResult, length, vec_len, vec_capacity};
+ghost use Rattle.dl_words.specs.Counts.{Rose};
+ghost use Rattle.link_source.specs.Streams.{Stream};
+ghost use Rattle.range_http.specs.Verdict.{verdict_of};
+ghost use Rattle.span_map.specs.declared.jobs.JobPart.{JobPart};
+ghost use Rattle.reply_reader.specs.Heads.{HasFinalHead};
+ghost use Rattle.reply_reader.specs.Losses.{IsKnown};
+ghost use Rattle.reply_reader.specs.declared.loss.Loss.TheVariants.{Link};
+ghost use Rattle.request_chain.specs.Chains.{IsPart, IsChain, HasBrought, TellsLoss, Gains, Reads, Loses};
+ghost use Rattle.request_chain.specs.Courses.{plan_now, IsAsking};
+ghost use Rattle.request_chain.specs.Honest.{AreHonest};
+ghost use Rattle.request_chain.specs.Plans.{Over, Done};
+ghost use Rattle.request_chain.specs.Stages.{IsReading, IsReadingHead, IsReadingContent, IsSent, steps_of};
+ghost use Rattle.request_chain.specs.Turns.{Steps, Receives, StepLoses, HeadIsRead, HasMoved, weight_of};
+
+use crate::content::{Content, begin};
+use crate::course::{Course, Moved};
+use crate::exchange::{link_loss, send_request};
+use crate::redirect::target;
+use crate::room::ChainRoom;
+use crate::stage::Stage;
+use dl_kinds::Code;
+use link_source::Links;
+use range_http::Head;
+use reply_reader::{HeadReader, HeadsRead, Loss, SliceState, answers_laws, final_head_laws};
+use span_map::JobParts;
+use std::alloc::Global;
+use std::mem;
+
+/// The requests that bring parts of resources, one after the other over one link. Each goes out on a stream of its own.
+#[derive(Debug, Drop)]
+pub struct Chain {
+    course: Course,
+    stage: Stage,
+    room: ChainRoom,
+    /// How many bytes came from the link in the last read.
+    taken: u32,
+}
+
+/// How many bytes came from the link, and whether all parts came.
+#[derive(Clone, Copy, Debug, PartialEq, Eq)]
+pub struct ChainRead {
+    pub taken: u32,
+    pub done: bool,
+}
+
+// Closes the newest stream where no more is asked.
+fn end<L: Links>(link: &mut L, done: bool)
+    ensures streams { IsTrue L.tells → L.streams link.new ≡ L.streams link.old }
+    ensures held { IsTrue L.tells → L.due link.new ≡ L.due link.old }
+    ensures kept { IsTrue L.tells → L.content link.new ≡ L.content link.old }
+    ensures faults { L.faults link.new ≡ L.faults link.old }
+{
+    if done {
+        link.hang_up();
+    }
+}
+
+impl Chain {
+    pub fn new(parts: JobParts, room: ChainRoom) -> Self
+        requires parts { All IsPart parts }
+        ensures { IsChain parts [] [] result }
+    {
+        let mut room = room;
+        room.inbox.clear();
+        Chain {
+            course: Course::new(parts),
+            stage: Stage::Asking,
+            room,
+            taken: 0,
+        }
+    }
+
+    /// How many bytes came from the link in the last read.
+    pub fn taken(&self) -> u32
+        ensures { result ≡ self.now.taken }
+    {
+        self.taken
+    }
+
+    // Sends the next request.
+    fn ask<L: Links>(&mut self, alloc: Global, link: &mut L) -> Result<(), Loss>
+        requires asking { IsAsking (plan_now self.old.course) }
+        requires none_open { self.old.stage ≡ Stage.Asking }
+        ensures asks { IsTrue L.tells → (parts : List JobPart) (before used : List Stream) (bytes : List ℕ)
+            → IsChain parts used bytes self.old → Gains before (L.streams link.old) used → MatchResult result
+            (λ _. Steps parts before used bytes (L.streams link.new) [] self.old.taken self.new)
+            (StepLoses parts before used bytes (L.streams link.new) [] self.old.taken (L.faults link.new) self.new) }
+        ensures course { self.new.course ≡ self.old.course }
+        ensures taken { self.new.taken ≡ self.old.taken }
+        ensures smaller { OnOk result (weight_of self.new < weight_of self.old) }
+        ensures link { IfErr result (λ loss. (count : ℕ) → loss ≡ Link count → Rose (L.faults link.old) (L.faults link.new)) }
+        ensures known { IfErr result IsKnown }
+        ensures honest { IsTrue L.tells → (L.content link.old).bad ≡ [] → (before : List Stream)
+            → AreHonest (L.content link.old) before (L.streams link.old) (L.due link.old)
+            → (L.content link.new ≡ L.content link.old) × AreHonest (L.content link.old) before (L.streams link.new) (L.due link.new) }
+        ensures later { L.faults link.old ≤ L.faults link.new }
+    {
+        let asked = self.course.asked();
+        send_request(alloc, link, self.course.url(), self.course.status(), &asked)?;
+        self.stage = Stage::Head(HeadReader::new(alloc));
+        Ok(())
+    }
+
+    // Receives more of the newest stream, where nothing waits.
+    fn receive<L: Links>(&mut self, alloc: Global, link: &mut L, allow: u32) -> Result<(), Loss>
+        requires sent { self.old.stage ≢ Stage.Asking }
+        requires none_waits { self.old.room.inbox ≡ [] }
+        requires more { self.old.taken < allow }
+        ensures receives { IsTrue L.tells → (parts : List JobPart) (before used : List Stream) (bytes : List ℕ)
+            → IsChain parts used bytes self.old → Gains before (L.streams link.old) used → MatchResult result
+            (λ _. Receives parts before used bytes (L.streams link.new) self.old.taken self.new)
+            (StepLoses parts before used bytes (L.streams link.new) [] self.old.taken (L.faults link.new) self.new) }
+        ensures course { self.new.course ≡ self.old.course }
+        ensures stage { self.new.stage ≡ self.old.stage }
+        ensures taken { OnOk result (self.new.taken ≡ self.old.taken + length self.new.room.inbox) }
+        ensures same { IfErr result (λ _. self.new.taken ≡ self.old.taken) }
+        ensures some { OnOk result (0 < length self.new.room.inbox) }
+        ensures few { self.new.taken ≤ allow }
+        ensures link { IfErr result (λ loss. (count : ℕ) → loss ≡ Link count → Rose (L.faults link.old) (L.faults link.new)) }
+        ensures known { IfErr result IsKnown }
+        ensures honest { IsTrue L.tells → (parts : List JobPart) (before used : List Stream) (bytes : List ℕ)
+            → IsChain parts used bytes self.old → Gains before (L.streams link.old) used
+            → AreHonest (L.content link.old) before (L.streams link.old) (L.due link.old)
+            → (L.content link.new ≡ L.content link.old) × AreHonest (L.content link.old) before (L.streams link.new) (L.due link.new) }
+        ensures later { L.faults link.old ≤ L.faults link.new }
+    {
+        match self.room.inbox.refill(link, allow - self.taken) {
+            Ok(0) => {
+                self.stage.check(alloc)?;
+                Err(Loss::Short {
+                    got: self.stage.got(),
+                })
+            }
+            Ok(count) => {
+                self.taken += count;
+                Ok(())
+            }
+            Err(error) => {
+                self.stage.check(alloc)?;
+                Err(link_loss(link, error))
+            }
+        }
+    }
+
+    // Follows the resource to where the head says that it is.
+    fn follow(&mut self, alloc: Global, head: &Head) -> Result<(), Loss>
+        requires asking { IsAsking (plan_now self.old.course) }
+        requires none_open { self.old.stage ≡ Stage.Asking }
+        ensures follows { (parts : List JobPart) (used : List Stream) (bytes : List ℕ)
+            → HeadIsRead parts used self.old.course self.old.room.inbox bytes head.now → HasMoved self.old.course head.now → MatchResult result
+            (λ _. IsChain parts used bytes self.new)
+            (λ loss. (faults : ℕ) → TellsLoss parts used bytes faults loss) }
+        ensures small { OnOk result (weight_of self.new ≤ 2) }
+        ensures taken { self.new.taken ≡ self.old.taken }
+        ensures own { IfErr result (λ loss. (count : ℕ) → loss ≡ Link count → ⊥) }
+        ensures known { IfErr result IsKnown }
+    {
+        final_head_laws();
+        if self.course.is_moved_often() {
+            return Err(Loss::Redirects);
+        }
+        match target(alloc, self.course.url(), head) {
+            Ok(Some(url)) => {
+                self.room.inbox.clear();
+                self.course.follow(Moved {
+                    url,
+                    status: head.status,
+                });
+                Ok(())
+            }
+            Ok(None) => Err(Loss::Refused {
+                status: head.status,
+                code: Code(22),
+            }),
+            Err(_) => Err(Loss::NoMemory),
+        }
+    }
+
+    // Goes on by the head of the reply.
+    fn start(&mut self, alloc: Global, head: &Head) -> Result<(), Loss>
+        requires asking { IsAsking (plan_now self.old.course) }
+        requires none_open { self.old.stage ≡ Stage.Asking }
+        ensures starts { (parts : List JobPart) (used : List Stream) (bytes : List ℕ)
+            → HeadIsRead parts used self.old.course self.old.room.inbox bytes head.now → MatchResult result
+            (λ _. IsChain parts used bytes self.new)
+            (λ loss. (faults : ℕ) → TellsLoss parts used bytes faults loss) }
+        ensures small { OnOk result ((weight_of self.new ≤ 3 * length self.old.room.inbox) ⊎ (weight_of self.new ≤ 2)) }
+        ensures taken { self.new.taken ≡ self.old.taken }
+        ensures own { IfErr result (λ loss. (count : ℕ) → loss ≡ Link count → ⊥) }
+        ensures known { IfErr result IsKnown }
+    {
+        final_head_laws();
+        let asked = self.course.asked();
+        let begun = begin(head, &asked)?;
+        match begun {
+            Some(content) => {
+                self.stage = Stage::Content(content);
+                Ok(())
+            }
+            None => self.follow(alloc, head),
+        }
+    }
+
+    // Reads on a head, with all that waits.
+    fn read_head(&mut self, alloc: Global, reader: HeadReader) -> Result<(), Loss>
+        requires asking { IsAsking (plan_now self.old.course) }
+        requires none_open { self.old.stage ≡ Stage.Asking }
+        requires some { 0 < length self.old.room.inbox }
+        ensures reads { (parts : List JobPart) (used : List Stream) (bytes : List ℕ)
+            → IsReadingHead parts used self.old.course self.old.room.inbox bytes reader → MatchResult result
+            (λ _. IsChain parts used bytes self.new)
+            (λ loss. (faults : ℕ) → TellsLoss parts used bytes faults loss) }
+        ensures smaller { OnOk result (weight_of self.new < 3 * length self.old.room.inbox + 1) }
+        ensures taken { self.new.taken ≡ self.old.taken }
+        ensures own { IfErr result (λ loss. (count : ℕ) → loss ≡ Link count → ⊥) }
+        ensures known { IfErr result IsKnown }
+    {
+        final_head_laws();
+        let mut reader = reader;
+        match self.room.inbox.read_head(alloc, &mut reader) {
+            HeadsRead::Whole { head, .. } => self.start(alloc, &head),
+            HeadsRead::More => {
+                self.stage = Stage::Head(reader);
+                Ok(())
+            }
+            HeadsRead::Bad => Err(Loss::BadReply),
+            HeadsRead::NoMemory => Err(Loss::NoMemory),
+        }
+    }
+
+    // Reads on a content.
+    fn read_content(&mut self, content: Content, out: &mut Vec<u8>, room: usize) -> Result<(), Loss>
+        requires asking { IsAsking (plan_now self.old.course) }
+        requires none_open { self.old.stage ≡ Stage.Asking }
+        requires some { 0 < length self.old.room.inbox }
+        requires some_room { 0 < room }
+        requires room { vec_len out.old + room ≤ vec_capacity out.old }
+        ensures reads { (parts : List JobPart) (used : List Stream) (bytes : List ℕ)
+            → IsReadingContent parts used self.old.course self.old.room.inbox bytes content
+            → (added : List ℕ) × (out.new.items ≡ out.old.items ++ added) × MatchResult result
+            (λ _. IsChain parts used (bytes ++ added) self.new)
+            (λ loss. (faults : ℕ) → TellsLoss parts used (bytes ++ added) faults loss) }
+        ensures len { vec_len out.new ≤ vec_len out.old + room }
+        ensures capacity { vec_capacity out.old ≤ vec_capacity out.new }
+        ensures smaller { OnOk result (weight_of self.new < 3 * length self.old.room.inbox) }
+        ensures taken { self.new.taken ≡ self.old.taken }
+        ensures own { IfErr result (λ loss. (count : ℕ) → loss ≡ Link count → ⊥) }
+        ensures known { IfErr result IsKnown }
+    {
+        answers_laws();
+        let mut content = content;
+        let ChainRoom { inbox, dropped } = &mut self.room;
+        match content.read(inbox, room, out, dropped) {
+            SliceState::More => {
+                self.stage = Stage::Content(content);
+                Ok(())
+            }
+            SliceState::Come => {
+                self.room.inbox.clear();
+                self.course.come_to(content.last);
+                Ok(())
+            }
+            SliceState::Wrong => Err(Loss::BadReply),
+            SliceState::Over => Err(Loss::Short { got: content.got }),
+        }
+    }
+
+    // Reads bytes that wait.
+    fn read_on(&mut self, alloc: Global, out: &mut Vec<u8>, room: usize) -> Result<(), Loss>
+        requires asking { IsAsking (plan_now self.old.course) }
+        requires sent { self.old.stage ≢ Stage.Asking }
+        requires some { 0 < length self.old.room.inbox }
+        requires some_room { 0 < room }
+        requires room { vec_len out.old + room ≤ vec_capacity out.old }
+        ensures reads { (parts : List JobPart) (used : List Stream) (bytes : List ℕ)
+            → IsReading self.old.stage self.old.course self.old.room.inbox parts used bytes
+            → (added : List ℕ) × (out.new.items ≡ out.old.items ++ added) × MatchResult result
+            (λ _. IsChain parts used (bytes ++ added) self.new)
+            (λ loss. (faults : ℕ) → TellsLoss parts used (bytes ++ added) faults loss) }
+        ensures len { vec_len out.new ≤ vec_len out.old + room }
+        ensures capacity { vec_capacity out.old ≤ vec_capacity out.new }
+        ensures smaller { OnOk result (weight_of self.new < weight_of self.old) }
+        ensures taken { self.new.taken ≡ self.old.taken }
+        ensures own { IfErr result (λ loss. (count : ℕ) → loss ≡ Link count → ⊥) }
+        ensures known { IfErr result IsKnown }
+    {
+        match mem::replace(&mut self.stage, Stage::Asking) {
+            Stage::Asking => Ok(()),
+            Stage::Head(reader) => self.read_head(alloc, reader),
+            Stage::Content(content) => self.read_content(content, out, room),
+        }
+    }
+
+    // One step: a request is sent, or some bytes are read.
+    fn turn<L: Links>(
+        &mut self,
+        alloc: Global,
+        link: &mut L,
+        out: &mut Vec<u8>,
+        room: usize,
+        allow: u32,
+    ) -> Result<(), Loss>
+        requires asking { IsAsking (plan_now self.old.course) }
+        requires some_room { 0 < room }
+        requires room { vec_len out.old + room ≤ vec_capacity out.old }
+        requires few { self.old.taken ≤ allow }
+        requires more { (self.old.taken < allow) ⊎ (0 < length self.old.room.inbox) }
+        ensures steps { IsTrue L.tells → (parts : List JobPart) (before used : List Stream) (bytes : List ℕ)
+            → IsChain parts used bytes self.old → Gains before (L.streams link.old) used
+            → (added : List ℕ) × (out.new.items ≡ out.old.items ++ added) × MatchResult result
+            (λ _. Steps parts before used bytes (L.streams link.new) added self.old.taken self.new)
+            (StepLoses parts before used bytes (L.streams link.new) added self.old.taken (L.faults link.new) self.new) }
+        ensures len { vec_len out.new ≤ vec_len out.old + room }
+        ensures capacity { vec_capacity out.old ≤ vec_capacity out.new }
+        ensures few { self.new.taken ≤ allow }
+        ensures smaller { OnOk result (weight_of self.new + 3 * (allow - self.new.taken) < weight_of self.old + 3 * (allow - self.old.taken)) }
+        ensures link { IfErr result (λ loss. (count : ℕ) → loss ≡ Link count → Rose (L.faults link.old) (L.faults link.new)) }
+        ensures known { IfErr result IsKnown }
+        ensures honest { IsTrue L.tells → (L.content link.old).bad ≡ [] → (parts : List JobPart) (before used : List Stream) (bytes : List ℕ)
+            → IsChain parts used bytes self.old → Gains before (L.streams link.old) used
+            → AreHonest (L.content link.old) before (L.streams link.old) (L.due link.old)
+            → (L.content link.new ≡ L.content link.old) × AreHonest (L.content link.old) before (L.streams link.new) (L.due link.new) }
+        ensures later { L.faults link.old ≤ L.faults link.new }
+    {
+        if self.stage.is_asking() {
+            return self.ask(alloc, link);
+        }
+        if !self.room.inbox.is_empty() {
+            return self.read_on(alloc, out, room);
+        }
+        self.receive(alloc, link, allow)?;
+        self.read_on(alloc, out, room)
+    }
+
+    // Whether a read goes on that gained so many bytes.
+    fn goes_on(&self, gained: usize, room: usize, allow: u32) -> bool
+        ensures on { IsTrue result → IsAsking (plan_now self.now.course) × (gained < room)
+            × ((self.now.taken < allow) ⊎ (0 < length self.now.room.inbox)) }
+        ensures off { IsFalse result → (plan_now self.now.course ≡ Over Done) ⊎ (room ≤ gained)
+            ⊎ ((allow ≤ self.now.taken) × (self.now.room.inbox ≡ [])) }
+    {
+        !self.course.is_over()
+            && gained < room
+            && (self.taken < allow || !self.room.inbox.is_empty())
+    }
+
+    /// Reads on, and puts the bytes of the parts at the end of `out`, until there are `room` of them, or `allow` bytes
+    /// came from the link, heads and all, or all came. After a loss and once all came the chain isn't used again. It
+    /// never asks the link for more than 65,536 bytes at once, and takes memory for heads, requests and URLs alone.
+    pub fn read<L: Links>(
+        &mut self,
+        alloc: Global,
+        link: &mut L,
+        out: &mut Vec<u8>,
+        room: usize,
+        allow: u32,
+    ) -> Result<ChainRead, Loss>
+        requires some_room { 0 < room }
+        requires room { vec_len out.old + room ≤ vec_capacity out.old }
+        requires some { 0 < allow }
+        ensures reads { IsTrue L.tells → (parts : List JobPart) (before used : List Stream) (bytes : List ℕ)
+            → IsChain parts used bytes self.old → Gains before (L.streams link.old) used
+            → (added : List ℕ) × (out.new.items ≡ out.old.items ++ added) × MatchResult result
+            (λ read. Reads parts before used bytes (L.streams link.new) added room allow read self.new)
+            (Loses parts before used bytes (L.streams link.new) added allow (L.faults link.new) self.new) }
+
+        // Also of a link that tells nothing.
+        ensures full { IfOk result (λ read. (read.done ≡ true) ⊎ (vec_len out.old + room ≤ vec_len out.new) ⊎ (read.taken ≡ allow)) }
+        ensures taken { IfOk result (λ read. read.taken ≡ self.new.taken) }
+        ensures few { self.new.taken ≤ allow }
+        ensures len { vec_len out.new ≤ vec_len out.old + room }
+        ensures capacity { vec_capacity out.old ≤ vec_capacity out.new }
+        ensures link { IfErr result (λ loss. (count : ℕ) → loss ≡ Link count → Rose (L.faults link.old) (L.faults link.new)) }
+        ensures known { IfErr result IsKnown }
+        ensures honest { IsTrue L.tells → (L.content link.old).bad ≡ [] → (parts : List JobPart) (before used : List Stream) (bytes : List ℕ)
+            → IsChain parts used bytes self.old → Gains before (L.streams link.old) used
+            → AreHonest (L.content link.old) before (L.streams link.old) (L.due link.old)
+            → (L.content link.new ≡ L.content link.old) × AreHonest (L.content link.old) before (L.streams link.new) (L.due link.new) }
+        ensures later { L.faults link.old ≤ L.faults link.new }
+    {
+        answers_laws();
+        final_head_laws();
+        let before = out.len();
+        self.taken = 0;
+        let mut gained = 0;
+        'turns: while self.goes_on(gained, room, allow) {
+            self.turn(alloc, link, out, room - gained, allow)?;
+            gained = out.len().saturating_sub(before);
+        }
+        self.stage.check(alloc)?;
+        let done = self.course.is_over();
+        end(link, done);
+        Ok(ChainRead {
+            taken: self.taken,
+            done,
+        })
+    }
+
+    /// The buffers, for another chain.
+    pub fn into_room(self) -> ChainRoom {
+        self.room
+    }
+}

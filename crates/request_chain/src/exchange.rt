@@ -1,0 +1,86 @@
+// One request, on a stream of its own.
+ghost use Rattle.std.specs.Prelude.{◌≡◌, ◌⊎◌, ◌≤◌, ℕ, List, [], IsTrue, IfOk, IfErr, OnOk};
+ghost use Rattle.dl_words.specs.Counts.{Rose};
+ghost use Rattle.reply_reader.specs.Losses.{IsKnown};
+ghost use Rattle.reply_reader.specs.declared.loss.Loss.TheVariants.{Link, NoMemory};
+ghost use Rattle.link_source.specs.Endpoint.{IsUsable};
+ghost use Rattle.link_source.specs.Streams.{Stream};
+ghost use Rattle.request_chain.specs.Exchanges.{LeadsTo, request_for};
+ghost use Rattle.request_chain.specs.Honest.{AreHonest};
+ghost use Rattle.request_chain.specs.Plans.{unusable};
+ghost use Rattle.request_chain.specs.Sending.{loss_by, IsOpened, IsUnopened};
+
+use dl_kinds::{Code, IoErr};
+use link_source::{EndErr, Endpoint, Links};
+use range_http::{Asked, request};
+use reply_reader::Loss;
+use std::alloc::Global;
+
+/// The loss by a link's error, which is told with the link's count.
+pub(crate) fn link_loss<L: Links>(link: &L, error: IoErr) -> Loss
+    ensures loss { result ≡ loss_by (L.faults link.now) error }
+    ensures known { IsKnown result }
+{
+    match error {
+        IoErr::Fault => Loss::Link {
+            count: link.faults(),
+        },
+        IoErr::NoMemory => Loss::NoMemory,
+    }
+}
+
+/// The endpoint of a URL, to which a reply of this status led.
+fn endpoint(alloc: Global, url: &str, status: u16) -> Result<Endpoint, Loss>
+    ensures leads { IfOk result (λ endpoint. LeadsTo url.now endpoint) }
+    ensures lost { IfErr result (λ loss. (loss ≡ NoMemory) ⊎ ((loss ≡ unusable status) × (IsUsable url.now → ⊥))) }
+    ensures known { IfErr result IsKnown }
+{
+    match Endpoint::of(alloc, url) {
+        Ok(endpoint) => Ok(endpoint),
+        Err(EndErr::NotUrl | EndErr::Scheme) => Err(Loss::Refused {
+            status,
+            code: Code(22),
+        }),
+        Err(EndErr::NoMemory) => Err(Loss::NoMemory),
+    }
+}
+
+fn request_for(alloc: Global, endpoint: &Endpoint, asked: &Asked) -> Result<Vec<u8>, Loss>
+    ensures bytes { IfOk result (λ bytes. bytes.items ≡ request_for asked.now endpoint.now) }
+    ensures lost { IfErr result (λ loss. loss ≡ NoMemory) }
+    ensures known { IfErr result IsKnown }
+{
+    let Ok(host) = endpoint.host_field(alloc) else {
+        return Err(Loss::NoMemory);
+    };
+    request(alloc, endpoint.target.as_str(), host.as_str(), asked).map_err(|_| Loss::NoMemory)
+}
+
+/// Sends the request for a range of the resource at a URL, on a new stream.
+pub(crate) fn send_request<L: Links>(
+    alloc: Global,
+    link: &mut L,
+    url: &str,
+    status: u16,
+    asked: &Asked,
+) -> Result<(), Loss>
+    ensures sent { OnOk result (IsTrue L.tells → IsOpened url.now asked.now (L.streams link.old) (L.streams link.new)) }
+    ensures lost { IfErr result (λ loss. IsTrue L.tells →
+        IsUnopened url.now status (L.streams link.old) (L.streams link.new) (L.faults link.new) loss) }
+    ensures link { IfErr result (λ loss. (count : ℕ) → loss ≡ Link count → Rose (L.faults link.old) (L.faults link.new)) }
+    ensures known { IfErr result IsKnown }
+    ensures honest { IsTrue L.tells → (L.content link.old).bad ≡ [] → (before : List Stream)
+        → AreHonest (L.content link.old) before (L.streams link.old) (L.due link.old)
+        → (L.content link.new ≡ L.content link.old) × AreHonest (L.content link.old) before (L.streams link.new) (L.due link.new) }
+    ensures later { L.faults link.old ≤ L.faults link.new }
+{
+    let endpoint = endpoint(alloc, url, status)?;
+    let request = request_for(alloc, &endpoint, asked)?;
+    if let Err(error) = link.dial(endpoint.host.as_str(), endpoint.port) {
+        return Err(link_loss(link, error));
+    }
+    match link.send(&request) {
+        Ok(()) => Ok(()),
+        Err(error) => Err(link_loss(link, error)),
+    }
+}

@@ -1,0 +1,130 @@
+// What came and waits to be read.
+ghost use Rattle.std.specs.Prelude.{◌≡◌, ◌<◌, ◌≤◌, ◌+◌, ◌++◌, ◌==◌, [], List, ℕ, Ok, true, length, take, drop, IsTrue, IfOk, OnErr, vec_len};
+ghost use Rattle.dl_kinds.specs.Causes.{HasCause};
+ghost use Rattle.link_source.specs.Streams.{TakesDue, with_received};
+ghost use Rattle.reply_reader.specs.Heads.{HasFinalHead, HasNoFinalHead, IsAtHead, IfFinal};
+ghost use Rattle.reply_reader.specs.declared.heads.HeadsRead.TheVariants.{More, Bad};
+
+use circular_buffer::HeapCircularBuffer;
+use dl_kinds::{IoErr, NoMemory};
+use link_source::Links;
+use reply_reader::{HeadReader, HeadsRead};
+use std::alloc::Global;
+use std::marker::Model;
+
+/// The most bytes that wait, and that are asked of a link at once.
+const ROOM: usize = 65_536;
+
+/// The bytes that came and weren't read yet, in their order. A byte goes from the link into the block, from there into
+/// the ring, and from the ring to where it is wanted. While heads are read it goes through the block once more.
+#[derive(Debug, Drop)]
+pub(crate) struct Inbox {
+    ring: HeapCircularBuffer<u8>,
+    /// Through which bytes go from a link into the ring, and from the ring to a reader of heads.
+    block: Vec<u8>,
+}
+
+impl Model for Inbox {
+    ghost Value = { List ℕ };
+
+    ghost view = { λ i. i.ring.items };
+
+    ghost invariant = { λ i. (i.ring.capacity ≡ 65536) × (length i.ring.items ≤ 65536) × (vec_len i.block ≡ 65536) };
+}
+
+// Receives some bytes into the front of a block.
+fn receive<L: Links>(link: &mut L, block: &mut [u8], most: usize) -> Result<usize, IoErr>
+    requires some { 0 < most }
+    requires room { most ≤ length block.old }
+    ensures most { IfOk result (λ count. count ≤ most) }
+    ensures received { IfOk result (λ count. IsTrue L.tells → L.streams link.new ≡ with_received (take count block.new) (L.streams link.old)) }
+    ensures given { IfOk result (λ count. IsTrue L.tells → TakesDue (L.due link.old) count block.new (L.due link.new)) }
+    ensures failed { OnErr result (IsTrue L.tells → L.streams link.new ≡ L.streams link.old) }
+    ensures held { OnErr result (IsTrue L.tells → L.due link.new ≡ L.due link.old) }
+    ensures kept { IsTrue L.tells → L.content link.new ≡ L.content link.old }
+    ensures cause { HasCause (L.faults link.old) (L.faults link.new) result }
+{
+    link.recv(&mut block[..most])
+}
+
+impl Inbox {
+    pub fn new(alloc: Global) -> Result<Self, NoMemory>
+        ensures { IfOk result (λ inbox. inbox ≡ []) }
+    {
+        Ok(Inbox {
+            ring: HeapCircularBuffer::with_capacity(alloc, ROOM)?,
+            block: vec![in alloc; 0; ROOM]?,
+        })
+    }
+
+    pub fn is_empty(&self) -> bool
+        ensures { result ≡ (length self.now == 0) }
+    {
+        self.ring.is_empty()
+    }
+
+    /// Receives some bytes of the newest stream, at most so many, in place of those that wait. None come at its end
+    /// alone.
+    pub fn refill<L: Links>(&mut self, link: &mut L, most: u32) -> Result<u32, IoErr>
+        requires { 0 < most }
+        ensures most { IfOk result (λ count. count ≤ most) }
+        ensures count { IfOk result (λ count. count ≡ length self.new) }
+        ensures received { IfOk result (λ _. IsTrue L.tells → L.streams link.new ≡ with_received self.new (L.streams link.old)) }
+        ensures given { IfOk result (λ count. IsTrue L.tells → TakesDue (L.due link.old) count self.new (L.due link.new)) }
+        ensures failed { OnErr result (IsTrue L.tells → L.streams link.new ≡ L.streams link.old) }
+        ensures held { OnErr result (IsTrue L.tells → L.due link.new ≡ L.due link.old) }
+        ensures kept { IsTrue L.tells → L.content link.new ≡ L.content link.old }
+        ensures cause { HasCause (L.faults link.old) (L.faults link.new) result }
+    {
+        self.ring.clear();
+        let count = receive(link, &mut self.block, ROOM.min(most as usize))?;
+        self.ring.fill_from_slice(&self.block[..count]);
+        Ok(count as u32)
+    }
+
+    /// Some bytes at the front, all of those that stand together.
+    pub fn front(&self) -> &[u8]
+        ensures front { (rest : List ℕ) × (self.now ≡ result.now ++ rest) }
+        ensures some { 0 < length self.now → 0 < length result.now }
+        ensures few { length result.now ≤ 65536 }
+    {
+        let (first, second) = self.ring.as_slices();
+        if first.is_empty() { second } else { first }
+    }
+
+    /// Drops so many bytes at the front.
+    pub fn pass(&mut self, count: u32)
+        requires { count ≤ length self.old }
+        ensures { self.new ≡ drop count self.old }
+    {
+        let rest = self.ring.len() - count as usize;
+        self.ring.truncate_front(rest);
+    }
+
+    pub fn clear(&mut self)
+        ensures { self.new ≡ [] }
+    {
+        self.ring.clear();
+    }
+
+    /// Reads on a head with all that waits. What stands behind the head waits on.
+    pub fn read_head(&mut self, alloc: Global, reader: &mut HeadReader) -> HeadsRead
+        ensures whole { IfFinal result (λ head used. (used ≤ length self.old) × (self.new ≡ drop used self.old)
+            × ((received : List ℕ) → IsAtHead received reader.old → HasFinalHead (received ++ self.old) head (length received + used))) }
+        ensures more { result ≡ More → (self.new ≡ [])
+            × ((received : List ℕ) → IsAtHead received reader.old → IsAtHead (received ++ self.old) reader.new) }
+        ensures bad { result ≡ Bad → (received : List ℕ) → IsAtHead received reader.old → HasNoFinalHead (received ++ self.old) }
+        ensures none_more { length self.new ≤ length self.old }
+    {
+        let count = self.ring.read_into(&mut self.block);
+        match reader.take(alloc, &self.block[..count]) {
+            HeadsRead::Whole { head, used } => {
+                self.ring.fill_from_slice(&self.block[used as usize..count]);
+                HeadsRead::Whole { head, used }
+            }
+            HeadsRead::More => HeadsRead::More,
+            HeadsRead::Bad => HeadsRead::Bad,
+            HeadsRead::NoMemory => HeadsRead::NoMemory,
+        }
+    }
+}

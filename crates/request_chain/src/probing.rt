@@ -1,0 +1,201 @@
+// How long a resource is.
+ghost use Rattle.std.specs.Prelude.{◌≡◌, ◌⊎◌, ◌≤◌, ◌<◌, ◌+◌, ◌-◌, [], List, ℕ, Ok, Some, None, IsTrue, OnOk, IfOk, IfErr, IfSome, MatchResult, codes, length};
+ghost use Rattle.dl_words.specs.Counts.{Rose};
+ghost use Rattle.link_source.specs.Streams.{Stream};
+ghost use Rattle.range_http.specs.Fields.{values_of, sole};
+ghost use Rattle.range_http.specs.Verdict.{verdict_of};
+ghost use Rattle.range_http.specs.declared.verdict.Verdict.TheVariants.{Moved as HasMoved};
+ghost use Rattle.reply_reader.specs.Heads.{IsAtHead, IsHeadDue, HasNoFinalHead};
+ghost use Rattle.reply_reader.specs.declared.loss.Loss.TheVariants.{Link, NoMemory, BadReply};
+ghost use Rattle.request_chain.specs.Chains.{Gains};
+ghost use Rattle.request_chain.specs.Contents.{IsOwn};
+ghost use Rattle.request_chain.specs.Plans.{unusable};
+ghost use Rattle.request_chain.specs.Probes.{Told, Lost, probe_asked, probe_by, Probed, TellsProbeLoss};
+ghost use Rattle.request_chain.specs.Searches.{Awaits, HasHead, HeadLost};
+ghost use Rattle.request_chain.specs.Redirects.{moved_to};
+ghost use Rattle.request_chain.specs.Sending.{IsOpened, IsUnopened};
+
+use crate::course::{Moved, REDIRECT_LIMIT};
+use crate::exchange::{link_loss, send_request};
+use crate::inbox::Inbox;
+use crate::redirect::target;
+use crate::room::ChainRoom;
+use dl_kinds::{Code, Text};
+use link_source::Links;
+use range_http::{Asked, Head, Verdict, classify};
+use reply_reader::{HeadReader, HeadsRead, Loss, final_head_laws};
+use std::alloc::Global;
+
+/// The most bytes of the heads of a reply, and one more.
+const MAX_HEADS: u32 = 9 * 65_536;
+
+// What a head tells: a length, or that the resource was moved.
+fn told_length(head: &Head) -> Result<Option<u64>, Loss>
+    ensures length { IfOk result (λ told. IfSome told (λ total. probe_by head.now (verdict_of head.now probe_asked) ≡ Told total)) }
+    ensures moved { result ≡ Ok None → verdict_of head.now probe_asked ≡ HasMoved }
+    ensures lost { IfErr result (λ loss. IsOwn loss × (probe_by head.now (verdict_of head.now probe_asked) ≡ Lost loss)) }
+{
+    let asked = Asked {
+        first: 0,
+        last: 0,
+        total: None,
+    };
+    match classify(head, &asked) {
+        Verdict::Part {
+            total: Some(total),
+            ..
+        } => Ok(Some(total)),
+        Verdict::Whole {
+            total: Some(total),
+            ..
+        } => Ok(Some(total)),
+        Verdict::Part { total: None, .. } | Verdict::Whole { total: None, .. } => Err(
+            Loss::Refused {
+                status: head.status,
+                code: Code(22),
+            },
+        ),
+        Verdict::Empty => Ok(Some(0)),
+        Verdict::WrongLength { told } => Ok(Some(told)),
+        Verdict::Moved => Ok(None),
+        Verdict::NotFound => Err(Loss::NotFound),
+        Verdict::Refused { code } => Err(Loss::Refused {
+            status: head.status,
+            code,
+        }),
+    }
+}
+
+// A head that doesn't come whole is lost so, if it is one so far.
+fn check(alloc: Global, reader: &HeadReader) -> Result<(), Loss>
+    ensures due { OnOk result ((front : List ℕ) → IsAtHead front reader.now → IsHeadDue front) }
+    ensures lost { IfErr result (λ loss. (loss ≡ NoMemory) ⊎ ((loss ≡ BadReply) × ((front : List ℕ) → IsAtHead front reader.now → HasNoFinalHead front))) }
+{
+    match reader.is_due(alloc) {
+        Ok(true) => Ok(()),
+        Ok(false) => Err(Loss::BadReply),
+        Err(_) => Err(Loss::NoMemory),
+    }
+}
+
+// Receives more of the heads.
+fn receive<L: Links>(
+    alloc: Global,
+    link: &mut L,
+    inbox: &mut Inbox,
+    reader: &HeadReader,
+    most: u32,
+) -> Result<u32, Loss>
+    requires { 0 < most }
+    ensures receives { IsTrue L.tells → (url : List ℕ) (before : List Stream) → Awaits url before (L.streams link.old) most [] reader.now
+        → MatchResult result (λ count. Awaits url before (L.streams link.new) (most - count) inbox.new reader.now)
+        (HeadLost url before (L.streams link.new) (L.faults link.new)) }
+    ensures some { IfOk result (λ count. (0 < count) × (count ≤ most)) }
+    ensures link { IfErr result (λ loss. (count : ℕ) → loss ≡ Link count → Rose (L.faults link.old) (L.faults link.new)) }
+    ensures later { L.faults link.old ≤ L.faults link.new }
+{
+    match inbox.refill(link, most) {
+        Ok(0) => {
+            check(alloc, reader)?;
+            Err(Loss::Short { got: 0 })
+        }
+        Ok(count) => Ok(count),
+        Err(error) => {
+            check(alloc, reader)?;
+            Err(link_loss(link, error))
+        }
+    }
+}
+
+// Receives the heads of a reply, and gives the final one.
+fn receive_head<L: Links>(alloc: Global, link: &mut L, inbox: &mut Inbox) -> Result<Head, Loss>
+    ensures heads { IsTrue L.tells → (url : List ℕ) (before : List Stream) → IsOpened url probe_asked before (L.streams link.old)
+        → MatchResult result (HasHead url before (L.streams link.new))
+        (HeadLost url before (L.streams link.new) (L.faults link.new)) }
+    ensures link { IfErr result (λ loss. (count : ℕ) → loss ≡ Link count → Rose (L.faults link.old) (L.faults link.new)) }
+    ensures later { L.faults link.old ≤ L.faults link.new }
+{
+    let mut reader = HeadReader::new(alloc);
+    let mut left = MAX_HEADS;
+    'turns: while left > 0 {
+        let count = receive(alloc, link, inbox, &reader, left)?;
+        left -= count;
+        match inbox.read_head(alloc, &mut reader) {
+            HeadsRead::Whole { head, .. } => return Ok(head),
+            HeadsRead::More => {}
+            HeadsRead::Bad => return Err(Loss::BadReply),
+            HeadsRead::NoMemory => return Err(Loss::NoMemory),
+        }
+    }
+    // So many bytes hold a ninth interim head.
+    Err(Loss::BadReply)
+}
+
+// Asks for the first byte, and gives the final head of the reply.
+fn ask<L: Links>(alloc: Global, link: &mut L, inbox: &mut Inbox, hop: &Moved) -> Result<Head, Loss>
+    ensures asks { IsTrue L.tells → MatchResult result (HasHead hop.now.url (L.streams link.old) (L.streams link.new))
+        (λ loss. IsUnopened hop.now.url hop.now.status (L.streams link.old) (L.streams link.new) (L.faults link.new) loss
+        ⊎ HeadLost hop.now.url (L.streams link.old) (L.streams link.new) (L.faults link.new) loss) }
+    ensures link { IfErr result (λ loss. (count : ℕ) → loss ≡ Link count → Rose (L.faults link.old) (L.faults link.new)) }
+    ensures later { L.faults link.old ≤ L.faults link.new }
+{
+    let asked = Asked {
+        first: 0,
+        last: 0,
+        total: None,
+    };
+    send_request(alloc, link, hop.url.as_str(), hop.status, &asked)?;
+    receive_head(alloc, link, inbox)
+}
+
+// Where the head says that the resource is.
+fn next_hop(alloc: Global, url: &str, head: &Head) -> Result<Moved, Loss>
+    ensures leads { (text : List ℕ) → sole (values_of head.now (codes "location")) ≡ Some text → MatchResult result
+        (λ hop. (moved_to url.now text ≡ Some hop.url) × (hop.status ≡ head.now.status))
+        (λ loss. (loss ≡ NoMemory) ⊎ ((loss ≡ unusable head.now.status) × (moved_to url.now text ≡ None))) }
+    ensures own { IfErr result (λ loss. (count : ℕ) → loss ≡ Link count → ⊥) }
+{
+    match target(alloc, url, head) {
+        Ok(Some(url)) => Ok(Moved {
+            url,
+            status: head.status,
+        }),
+        Ok(None) => Err(Loss::Refused {
+            status: head.status,
+            code: Code(22),
+        }),
+        Err(_) => Err(Loss::NoMemory),
+    }
+}
+
+/// The length of a resource, by asking for its first byte, wherever it is moved to.
+pub fn probe<L: Links>(
+    alloc: Global,
+    link: &mut L,
+    url: &str,
+    room: &mut ChainRoom,
+) -> Result<u64, Loss>
+    ensures probes { IsTrue L.tells → (used : List Stream) × Gains (L.streams link.old) (L.streams link.new) used × MatchResult result
+        (λ total. Probed url.now used (Told total))
+        (TellsProbeLoss url.now used (L.faults link.new)) }
+    ensures link { IfErr result (λ loss. (count : ℕ) → loss ≡ Link count → Rose (L.faults link.old) (L.faults link.new)) }
+    ensures later { L.faults link.old ≤ L.faults link.new }
+{
+    final_head_laws();
+    let Ok(url) = Text::of(alloc, url) else {
+        return Err(Loss::NoMemory);
+    };
+    let mut hop = Moved { url, status: 0 };
+    let mut redirects = 0;
+    'turns: loop {
+        let head = ask(alloc, link, &mut room.inbox, &hop)?;
+        if let Some(total) = told_length(&head)? {
+            return Ok(total);
+        }
+        if redirects >= REDIRECT_LIMIT {
+            return Err(Loss::Redirects);
+        }
+        hop = next_hop(alloc, hop.url.as_str(), &head)?;
+        redirects += 1;
+    }
+}
