@@ -1,0 +1,161 @@
+-- How many bytes are fetched.
+use Rattle.std.proofs.Common.{◌≡◌, ◌≢◌, ℕ, ◌+◌, ◌-◌, ◌<◌, ◌≤◌, List, [], ◌∷◌, ◌++◌, length, Option, Some, None, All, refl, sym, ap, subst, inl, inr, arith, zero-le, ⊎_elim}
+use Rattle.std.proofs.lemmas.Bool.{cases_lt, cond_both}
+use Rattle.std.proofs.lemmas.Bool.Decides.{nat_tests}
+use Rattle.std.proofs.lemmas.List.{length-append}
+use Rattle.std.proofs.lemmas.List.Elements.{All-head, All-tail}
+use Rattle.std.proofs.lemmas.List.Sums.{sum_by-cons}
+use Rattle.std.specs.Prelude.{nat_lt, nat_le}
+use Rattle.link_source.specs.Streams.{Stream}
+use Rattle.span_map.specs.declared.jobs.JobPart.{JobPart}
+use Rattle.reply_reader.specs.Answers.{Turn, Due, Given, Away, Lost as LostTurn, Answer, without_bytes}
+use Rattle.reply_reader.specs.Fills.{Fills, AnswersFill}
+use Rattle.reply_reader.specs.declared.loss.Loss.{Loss}
+use Rattle.reply_reader.specs.declared.loss.Loss.TheVariants.{Redirects}
+use Rattle.request_chain.specs.Chains.{IsPart}
+use Rattle.request_chain.specs.Exchanges.{Replies}
+use Rattle.request_chain.specs.Fetched.{FetchedBy}
+use Rattle.request_chain.specs.Plans.{Ending, Done, Open, Lost, Plan, Ask, Over, plan_of, plan_behind, plan_at, behind, asked_of, next_plan, unusable}
+use Rattle.request_chain.specs.Redirects.{moved_to, redirect_limit}
+use Rattle.fetch_session.specs.Jobs.{len_of}
+use Rattle.fetch_session.specs.Lengths.{Fits, FetchedFits}
+
+len_of-cons : (part : JobPart) (parts : List JobPart) → len_of (part ∷ parts) ≡ part.len + len_of parts
+len_of-cons part parts = sum_by-cons (λ (part : JobPart). part.len) part parts
+
+-- what came by a request, and the rest by other parts
+joined : (parts others : List JobPart) (got more : List ℕ) (ending : Ending) → length got + len_of others ≡ len_of parts → Fits others more ending → Fits parts (got ++ more) ending
+joined parts others got more ending is fits =
+    let few : length more ≤ len_of others = fits.few in
+    record {
+      few = omega (arith, length-append got more, few, is);
+      all = λ done. let all = fits.all done in omega (arith, length-append got more, all, is);
+      full = λ full. fits.full (omega (arith, length-append got more, full, is));
+    }
+
+-- not all came, and nothing more does
+cut_short : (part : JobPart) (parts : List JobPart) (got more : List ℕ) (ending : Ending) → more ≡ [] → ending ≢ Done → length got < part.len → Fits (part ∷ parts) (got ++ more) ending
+cut_short part parts got more ending none not_done short =
+    let no_more : length more ≡ 0 = ap length none in
+    record {
+      few = omega (arith, length-append got more, no_more, short, len_of-cons part parts);
+      all = λ done. absurd (not_done done);
+      full = λ full. absurd (omega (arith, length-append got more, no_more, short, full, len_of-cons part parts));
+    }
+
+open_not_done : (ending : Ending) → ending ≡ Open → ending ≢ Done
+open_not_done ending is done = cc
+
+lost_not_done : (ending : Ending) (loss : Loss) → ending ≡ Lost loss → ending ≢ Done
+lost_not_done ending loss is done = cc
+
+-- the parts fit over these streams, whatever is asked first
+abbrev FitOver : List Stream → Type 0
+FitOver streams = (part : JobPart) (parts : List JobPart) (url : List ℕ) (count status : ℕ) (bytes : List ℕ) (ending : Ending)
+    → IsPart part → All IsPart parts → FetchedBy (Ask part parts url count status) streams bytes ending [] → Fits (part ∷ parts) bytes ending
+
+-- the parts, from the first on
+plan_fits : (streams : List Stream) → FitOver streams → (parts : List JobPart) (bytes : List ℕ) (ending : Ending) → All IsPart parts
+    → FetchedBy (plan_of parts) streams bytes ending [] → Fits parts bytes ending
+plan_fits streams fit [] bytes ending are fetched =
+    let none : length bytes ≡ 0 = ap length fetched.0 in
+    record { few = omega (arith, none); all = λ _. none; full = λ _. fetched.1 }
+plan_fits streams fit (part ∷ parts) bytes ending are fetched =
+    fit part parts part.url 0 0 bytes ending (All-head IsPart part parts are) (All-tail IsPart part parts are) fetched
+
+module _ (streams : List Stream) (fit : FitOver streams) (part : JobPart) (parts : List JobPart) (url : List ℕ) (count : ℕ) (is_part : IsPart part) (are : All IsPart parts) (more : List ℕ) (ending : Ending) where
+  -- where all came up to a place
+  behind_fits : (got : List ℕ) (last : ℕ) → part.at ≤ last → last ≤ part.at + part.len - 1 → length got ≡ last + 1 - part.at
+      → FetchedBy (plan_behind part parts last) streams more ending [] → Fits (part ∷ parts) (got ++ more) ending
+  behind_fits got last begins ends is =
+      let some : 0 < part.len = is_part.some in
+      let within : part.at + part.len ≤ part.total = is_part.within in
+      cond_both (nat_lt last (part.at + part.len - 1)) (plan_of (behind part last ∷ parts)) (plan_of parts)
+      (λ (plan : Plan). FetchedBy plan streams more ending [] → Fits (part ∷ parts) (got ++ more) ending)
+      (λ less fetched.
+      let below : last < part.at + part.len - 1 = grind (arith, nat_tests) in
+      let rest : IsPart (behind part last) = record { some = omega arith; within = omega arith } in
+      joined (part ∷ parts) (behind part last ∷ parts) got more ending (omega (arith, len_of-cons part parts, len_of-cons (behind part last) parts, is))
+      (fit (behind part last) parts part.url 0 0 more ending rest are fetched))
+      (λ all fetched.
+      let at : part.at + part.len - 1 ≤ last = grind (arith, nat_tests) in
+      joined (part ∷ parts) parts got more ending (omega (arith, len_of-cons part parts, is)) (plan_fits streams fit parts more ending are fetched))
+
+  -- where it was moved
+  at_fits : (got : List ℕ) (status : ℕ) (moved : Option (List ℕ)) → got ≡ [] → FetchedBy (plan_at part parts (count + 1) status moved) streams more ending []
+      → Fits (part ∷ parts) (got ++ more) ending
+  at_fits got status None none fetched =
+      let no_bytes : length got ≡ 0 = ap length none in
+      let some : 0 < part.len = is_part.some in
+      cut_short part parts got more ending fetched.0 (lost_not_done ending (unusable status) fetched.1) (omega (arith, no_bytes))
+  at_fits got status (Some url') none fetched =
+      let P : List ℕ → Type 0 = λ bytes. Fits (part ∷ parts) (bytes ++ more) ending in
+      subst P (sym none) (fit part parts url' (count + 1) status more ending is_part are fetched)
+
+  away_fits : (got : List ℕ) (status : ℕ) (location : List ℕ) → got ≡ [] → FetchedBy (next_plan part parts url count (Away status location)) streams more ending []
+      → Fits (part ∷ parts) (got ++ more) ending
+  away_fits got status location none =
+      let no_bytes : length got ≡ 0 = ap length none in
+      let some : 0 < part.len = is_part.some in
+      cond_both (nat_le redirect_limit count) (Over (Lost Redirects)) (plan_at part parts (count + 1) status (moved_to url location))
+      (λ (plan : Plan). FetchedBy plan streams more ending [] → Fits (part ∷ parts) (got ++ more) ending)
+      (λ often fetched. cut_short part parts got more ending fetched.0 (lost_not_done ending Redirects fetched.1) (omega (arith, no_bytes)))
+      (λ few fetched. at_fits got status (moved_to url location) none fetched)
+
+  -- less than was asked for
+  short_got : (answer : Answer) → Fills (asked_of part) answer → answer.turn ≢ Given (part.at + part.len - 1) → length answer.got < part.len
+  short_got answer fills not =
+      let some : 0 < part.len = is_part.some in
+      let few : length answer.got ≤ part.at + part.len - 1 + 1 - part.at = fills.few in
+      ⊎_elim (λ (less : length answer.got < part.len). less) (λ (ge : part.len ≤ length answer.got). absurd (not (fills.full (omega arith)))) (cases_lt (length answer.got) part.len)
+
+  turn_fits : (answer : Answer) (turn : Turn) → answer.turn ≡ turn → Fills (asked_of part) answer
+      → FetchedBy (next_plan part parts url count turn) streams more ending [] → Fits (part ∷ parts) (answer.got ++ more) ending
+  turn_fits answer Due is fills fetched =
+      cut_short part parts answer.got more ending fetched.0 (open_not_done ending fetched.1) (short_got answer fills (λ given. cc))
+  turn_fits answer (Given last) is fills fetched =
+      let given = fills.given last is in behind_fits answer.got last given.0 given.1 given.2 fetched
+  turn_fits answer (Away status location) is fills fetched = away_fits answer.got status location (fills.away status location is) fetched
+  turn_fits answer (LostTurn loss) is fills fetched =
+      cut_short part parts answer.got more ending fetched.0 (lost_not_done ending loss fetched.1) (short_got answer fills (λ given. cc))
+
+no_size : (at len : ℕ) → 0 < len → 0 ≡ at + len - 1 + 1 - at → ⊥
+no_size at len some is = omega arith
+
+-- a stream on which nothing was sent answers nothing
+nothing_fills : (part : JobPart) (answer : Answer) → IsPart part → answer ≡ without_bytes Due → Fills (asked_of part) answer
+nothing_fills part answer is_part is =
+    let some : 0 < part.len = is_part.some in
+    let P : Answer → Type 0 = Fills (asked_of part) in
+    subst P (sym is) (record {
+      few = zero-le;
+      given = λ last given. cc;
+      full = λ full. absurd (no_size part.at part.len some full);
+      away = λ status location away. refl;
+    })
+
+module _ (fill : AnswersFill) where
+  reply_fills : (part : JobPart) (url : List ℕ) (stream : Stream) (answer : Answer) → IsPart part → Replies url (asked_of part) stream answer → Fills (asked_of part) answer
+  reply_fills part url stream answer is_part replies =
+      let some : 0 < part.len = is_part.some in
+      elim replies [
+        | inl dialled ↦ nothing_fills part answer is_part dialled.1
+        | inr sent ↦ fill (asked_of part) stream.received stream.ended answer (omega arith) sent.1
+      ]
+
+  fit_over : (streams : List Stream) → FitOver streams
+  fit_over [] part parts url count status bytes ending is_part are fetched =
+      let some : 0 < part.len = is_part.some in
+      let none : length bytes ≡ 0 = ap length fetched.0 in
+      let not_done : ending ≢ Done = elim fetched.1 [ inl usable ↦ open_not_done ending usable.1 | inr lost ↦ lost_not_done ending (unusable status) lost.1 ] in
+      cut_short part parts [] bytes ending fetched.0 not_done some
+  fit_over (stream ∷ streams) part parts url count status bytes ending is_part are fetched =
+      let answer : Answer = fetched.0 in
+      let more : List ℕ = fetched.1 in
+      let P : List ℕ → Type 0 = λ all. Fits (part ∷ parts) all ending in
+      subst P (sym fetched.3)
+      (turn_fits streams (fit_over streams) part parts url count is_part are more ending answer answer.turn refl
+      (reply_fills part url stream answer is_part fetched.2) fetched.4)
+
+  pub fetched_fits : FetchedFits
+  fetched_fits = λ parts streams bytes ending are fetched. plan_fits streams (fit_over streams) parts bytes ending are fetched

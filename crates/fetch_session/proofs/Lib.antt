@@ -1,0 +1,7 @@
+mod Counting
+mod Cuts
+mod KnownLosses
+mod Lengths
+mod Ready
+mod Stepping
+mod Taking

@@ -1,0 +1,83 @@
+use Rattle.std.proofs.Common.{◌≡◌, ◌++◌, length, take, refl, ap, ◌∙◌, arith}
+use Rattle.std.proofs.Math.Seq.{take-append_seam}
+use Rattle.fetch_session.proofs.Stepping.{chain_is, steps_read, steps_lost, fails_lost, fails_memory}
+use Rattle.fetch_session.proofs.Taking.{room_few}
+use Rattle.fetch_session.proofs.fetch.Fetch.read_on.Goals as goal
+
+pub returns-in-Ok-clause-reads : goal.returns-in-Ok-clause-reads
+returns-in-Ok-clause-reads g c = λ tells job before used handed is gains.
+    let self = c.args.self.now in
+    let fits = c.fetched_law.ensures.fits in
+    let follow = c.plan_laws.ensures.follow in
+    let room = c.args.room in
+    let chain = chain_is fits follow job used handed self is room c.requires.some_room c.requires.room c.requires.none_lost in
+    let read = c.in-Ok.ensures.reads tells job.parts before used (handed ++ self.held.items) chain gains in
+    steps_read fits follow job used handed self is room c.requires.some_room c.requires.room _ refl refl c.whole_from-self.ensures.first
+    before _ _ c.args.allow read.0 c.got.result c.in-Ok.read c.requires.none_lost read.1 read.2 c.got.ensures.ready c.got.ensures.taken c.got.ensures.done
+
+pub read-requires-clause-room : goal.read-requires-clause-room
+read-requires-clause-room g c =
+    let self = c.args.self.now in
+    let bounded = room_few self.plan self.end self.held.len c.args.room self.ready c.plan_laws.ensures.follow self.within self.holds c.requires.room in
+    omega (arith, bounded, self.held_fits)
+
+pub returns-in-NoMemory-clause-reads : goal.returns-in-NoMemory-clause-reads
+returns-in-NoMemory-clause-reads g c = λ tells job before used handed is gains.
+    let self = c.args.self.now in
+    let fits = c.fetched_law.ensures.fits in
+    let follow = c.plan_laws.ensures.follow in
+    let room = c.args.room in
+    let chain = chain_is fits follow job used handed self is room c.requires.some_room c.requires.room c.requires.none_lost in
+    let read = c.in-Err.ensures.reads tells job.parts before used (handed ++ self.held.items) chain gains in
+    let held : c.truncate.new.self.items ≡ self.held.items =
+    c.truncate.ensures.items ∙ ap (λ n. take n c.read.new.out.items) (c.len-before.ensures ∙ self.held.ok.0)
+    ∙ ap (take (length self.held.items)) read.1 ∙ take-append_seam self.held.items read.0 in
+    fails_memory fits follow job used handed self is room c.requires.some_room c.requires.room _ refl refl refl
+    before _ _ c.args.allow read.0 c.in-Err.loss c.in-NoMemory.is read.2.later read.2.gains refl held c.requires.none_ready
+
+pub returns-then-self-eq0-clause-reads : goal.returns-then-self-eq0-clause-reads
+returns-then-self-eq0-clause-reads g c = λ tells job before used handed is gains.
+    let self = c.args.self.now in
+    let fits = c.fetched_law.ensures.fits in
+    let follow = c.plan_laws.ensures.follow in
+    let room = c.args.room in
+    let chain = chain_is fits follow job used handed self is room c.requires.some_room c.requires.room c.requires.none_lost in
+    let read = c.in-Err.ensures.reads tells job.parts before used (handed ++ self.held.items) chain gains in
+    fails_lost fits follow job used handed self is room c.requires.some_room c.requires.room _ refl refl c.whole_from-self-in_default.ensures.first
+    before _ _ c.args.allow read.0 c.in-Err.loss c.in_default.not-NoMemory refl read.1 read.2 c.if-self-eq0.true
+
+pub returns-else-self-eq0-clause-reads : goal.returns-else-self-eq0-clause-reads
+returns-else-self-eq0-clause-reads g c = λ tells job before used handed is gains.
+    let self = c.args.self.now in
+    let fits = c.fetched_law.ensures.fits in
+    let follow = c.plan_laws.ensures.follow in
+    let room = c.args.room in
+    let chain = chain_is fits follow job used handed self is room c.requires.some_room c.requires.room c.requires.none_lost in
+    let read = c.in-Err.ensures.reads tells job.parts before used (handed ++ self.held.items) chain gains in
+    steps_lost fits follow job used handed self is room c.requires.some_room c.requires.room _ refl refl c.whole_from-self-in_default.ensures.first
+    before _ _ c.args.allow read.0 c.in-Err.loss c.in_default.not-NoMemory refl read.1 read.2 c.got-in_default.result
+    c.got-in_default.ensures.ready (c.got-in_default.ensures.taken ∙ c.taken.ensures) c.got-in_default.ensures.done (let some = c.if-self-eq0.false in omega (arith, some))
+
+pub returns-in-Ok-clause-honest : goal.returns-in-Ok-clause-honest
+returns-in-Ok-clause-honest g c = λ tells none_bad job before used handed is gains honest.
+    let self = c.args.self.now in
+    let chain = chain_is c.fetched_law.ensures.fits c.plan_laws.ensures.follow job used handed self is c.args.room c.requires.some_room c.requires.room c.requires.none_lost in
+    c.read.ensures.honest tells none_bad job.parts before used (handed ++ self.held.items) chain gains honest
+
+pub returns-in-NoMemory-clause-honest : goal.returns-in-NoMemory-clause-honest
+returns-in-NoMemory-clause-honest g c = λ tells none_bad job before used handed is gains honest.
+    let self = c.args.self.now in
+    let chain = chain_is c.fetched_law.ensures.fits c.plan_laws.ensures.follow job used handed self is c.args.room c.requires.some_room c.requires.room c.requires.none_lost in
+    c.read.ensures.honest tells none_bad job.parts before used (handed ++ self.held.items) chain gains honest
+
+pub returns-then-self-eq0-clause-honest : goal.returns-then-self-eq0-clause-honest
+returns-then-self-eq0-clause-honest g c = λ tells none_bad job before used handed is gains honest.
+    let self = c.args.self.now in
+    let chain = chain_is c.fetched_law.ensures.fits c.plan_laws.ensures.follow job used handed self is c.args.room c.requires.some_room c.requires.room c.requires.none_lost in
+    c.read.ensures.honest tells none_bad job.parts before used (handed ++ self.held.items) chain gains honest
+
+pub returns-else-self-eq0-clause-honest : goal.returns-else-self-eq0-clause-honest
+returns-else-self-eq0-clause-honest g c = λ tells none_bad job before used handed is gains honest.
+    let self = c.args.self.now in
+    let chain = chain_is c.fetched_law.ensures.fits c.plan_laws.ensures.follow job used handed self is c.args.room c.requires.some_room c.requires.room c.requires.none_lost in
+    c.read.ensures.honest tells none_bad job.parts before used (handed ++ self.held.items) chain gains honest

@@ -1,0 +1,90 @@
+-- What is fetched of a job.
+use Rattle.std.specs.Prelude.{◌≡◌, ◌⊎◌, ◌<◌, ◌≤◌, ℕ, ◌+◌, ◌-◌, List, [], ◌++◌, length, Option, Some, None, true}
+use Rattle.dl_kinds.specs.declared.plan.Plan.{Plan}
+use Rattle.dl_kinds.specs.declared.runs.Run.{Run}
+use Rattle.link_source.specs.Streams.{Stream}
+use Rattle.span_map.specs.declared.jobs.Job.{Job}
+use Rattle.span_map.specs.declared.jobs.JobPart.{JobPart}
+use Rattle.reply_reader.specs.declared.loss.Loss.{Loss}
+use Rattle.reply_reader.specs.declared.loss.Loss.TheVariants.{Link}
+use Rattle.request_chain.specs.Chains.{IsChain, Gains, TellsLoss, received_by}
+use Rattle.request_chain.specs.Fetched.{Fetched}
+use Rattle.request_chain.specs.Plans.{Ending, Done}
+use Rattle.request_chain.specs.declared.chain.Chain.{Chain}
+use Rattle.fetch_session.specs.Blocks.{cut, run_start, ready_blocks}
+use Rattle.fetch_session.specs.Jobs.{IsJob, len_of}
+use Rattle.fetch_session.specs.declared.fetch.Fetch.{Fetch}
+use Rattle.fetch_session.specs.declared.fetch.Got.{Got}
+
+abbrev pub plan_of : Fetch → Plan
+plan_of fetch = fetch.plan
+
+-- the blocks that weren't handed out
+abbrev pub rest_of : Fetch → Run
+rest_of fetch = record { first = fetch.ready.first; count = fetch.end - fetch.ready.first }
+
+-- those of them that are ready
+abbrev pub ready_of : Fetch → Run
+ready_of fetch = fetch.ready
+
+-- the loss that it holds back, or has told
+abbrev pub lost_of : Fetch → Option Loss
+lost_of fetch = fetch.lost
+
+-- the second buffer may have come in, and nothing else changed
+pub record SameButSpare (old new : Fetch) : Type 0 where
+  pub plan : new.plan ≡ old.plan
+  pub end_is : new.end ≡ old.end
+  pub ready : new.ready ≡ old.ready
+  pub chain : new.chain ≡ old.chain
+  pub held : new.held ≡ old.held
+  pub lost : new.lost ≡ old.lost
+
+-- more bytes than these are to come
+abbrev pub IsShort : List JobPart → List ℕ → Type 0
+IsShort parts bytes = length bytes < len_of parts
+
+-- these bytes came over these streams: all, or the chain brings more, or the rest is lost
+abbrev pub HasCome : List JobPart → List Stream → List ℕ → Option Loss → Chain → Type 0
+HasCome parts used bytes None chain = Fetched parts used bytes Done [] ⊎ (IsShort parts bytes × IsChain parts used bytes chain)
+HasCome parts used bytes (Some loss) chain = IsShort parts bytes × ((count : ℕ) × TellsLoss parts used bytes count loss)
+
+-- The fetch of the job used these streams, the oldest first, and handed out these bytes of it.
+pub record IsFetch (job : Job) (used : List Stream) (handed : List ℕ) (fetch : Fetch) : Type 0 where
+  pub is_job : IsJob job
+  pub plan_is : fetch.plan ≡ job.plan
+  pub end_is : fetch.end ≡ job.run.first + job.run.count
+  pub begun : job.run.first ≤ fetch.ready.first
+  pub handed_is : run_start job.plan job.run + length handed ≡ cut job.plan fetch.ready.first
+  pub came : HasCome job.parts used (handed ++ fetch.held.items) fetch.lost fetch.chain
+  pub all : (rest_of fetch).count ≡ 0 → Fetched job.parts used handed Done []
+
+-- a loss of the link that is told or held back from now on counts the link's faults now
+abbrev pub CountsNow : Fetch → ℕ → Fetch → Type 0
+CountsNow old faults new = lost_of old ≡ None → (count : ℕ) → lost_of new ≡ Some (Link count) → count ≡ faults
+
+-- What a step gained: came is what came and wasn't handed out.
+pub record Steps (job : Job) (before used : List Stream) (handed : List ℕ) (now : List Stream) (faults allow : ℕ) (old : Fetch) (got : Got) (new : Fetch) : Type 0 where
+  pub later : List Stream
+  pub gains : Gains before now later
+  pub is_fetch : IsFetch job later handed new
+  pub counts : CountsNow old faults new
+  pub came : List ℕ
+  pub ending : Ending
+  pub fetched : Fetched job.parts later (handed ++ came) ending []
+  pub ready : got.ready ≡ ready_blocks job.plan job.run (length handed) (length handed + length came)
+  pub done : got.done ≡ true → ending ≡ Done
+  pub taken : received_by later ≡ received_by used + got.taken
+  pub few : got.taken ≤ allow
+  pub full : (got.done ≡ true) ⊎ (0 < got.ready.count) ⊎ (got.taken ≡ allow)
+
+-- What a step gained that lost the rest: no whole block came that wasn't handed out.
+pub record Fails (job : Job) (before : List Stream) (handed : List ℕ) (now : List Stream) (faults : ℕ) (old : Fetch) (loss : Loss) (new : Fetch) : Type 0 where
+  pub later : List Stream
+  pub gains : Gains before now later
+  pub is_fetch : IsFetch job later handed new
+  pub counts : CountsNow old faults new
+  pub came : List ℕ
+  pub none_whole : (ready_blocks job.plan job.run (length handed) (length handed + length came)).count ≡ 0
+  pub count : ℕ
+  pub tells : TellsLoss job.parts later (handed ++ came) count loss

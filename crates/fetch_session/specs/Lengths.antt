@@ -1,0 +1,19 @@
+-- How many bytes are fetched.
+use Rattle.std.specs.Prelude.{◌≡◌, ◌≤◌, ℕ, List, [], length, All}
+use Rattle.link_source.specs.Streams.{Stream}
+use Rattle.span_map.specs.declared.jobs.JobPart.{JobPart}
+use Rattle.request_chain.specs.Chains.{IsPart}
+use Rattle.request_chain.specs.Fetched.{Fetched}
+use Rattle.request_chain.specs.Plans.{Ending, Done}
+use Rattle.fetch_session.specs.Jobs.{len_of}
+
+-- no more than the parts have, and as many exactly where all came
+pub record Fits (parts : List JobPart) (bytes : List ℕ) (ending : Ending) : Type 0 where
+  pub few : length bytes ≤ len_of parts
+  pub all : ending ≡ Done → length bytes ≡ len_of parts
+  pub full : length bytes ≡ len_of parts → ending ≡ Done
+
+-- where all of the parts were asked for over these streams
+abbrev pub FetchedFits : Type 0
+FetchedFits = (parts : List JobPart) (streams : List Stream) (bytes : List ℕ) (ending : Ending)
+    → All IsPart parts → Fetched parts streams bytes ending [] → Fits parts bytes ending

@@ -1,0 +1,303 @@
+// A fetch of a run of blocks.
+ghost use Rattle.std.specs.Prelude.{◌≡◌, ◌↔◌, ◌<◌, ◌≤◌, ℕ, ◌+◌, ◌++◌, [], List, length, vec_len, vec_capacity, Some, None, Err, min, IsTrue, IsSome, IfSome, IfOk, IfErr, OnErr, MatchResult};
+ghost use Rattle.std.specs.Option.{ForSome, ForNone};
+ghost use Rattle.dl_words.specs.Counts.{Rose};
+ghost use Rattle.dl_kinds.specs.Plan.{blocks_of};
+ghost use Rattle.reply_reader.specs.Losses.{IsKnown};
+ghost use Rattle.fetch_session.specs.Blocks.{AreReady};
+ghost use Rattle.fetch_session.specs.Known.{is_known};
+
+use crate::blocks::{cut, missing, take_front, whole_from};
+use crate::laws::fetched_law;
+use crate::room::{BUFFER, FetchRoom, make_buffer};
+use dl_kinds::{Blob, NoMemory, Plan, Run, plan_laws};
+use link_source::Links;
+use reply_reader::Loss;
+use request_chain::Chain;
+use span_map::Job;
+use std::alloc::Global;
+
+/// What a step gained: the blocks that are ready, how many bytes came from the link, and whether the ready blocks are
+/// the last.
+#[derive(Clone, Copy, Debug, PartialEq, Eq)]
+pub struct Got {
+    pub ready: Run,
+    pub taken: u32,
+    pub done: bool,
+}
+
+/// A fetch of a run of blocks. Steps read on, and between them the blocks that are ready are taken.
+#[derive(Debug, Drop)]
+pub struct Fetch {
+    plan: Plan,
+    // The block behind the run.
+    end: u32,
+    // From the first block on that wasn't handed out.
+    ready: Run,
+    chain: Chain,
+    // The bytes from that block on.
+    held: Vec<u8>,
+    spare: Option<Vec<u8>>,
+    lost: Option<Loss>,
+    ghost within: { end ≤ blocks_of plan.total plan.piece_len },
+    ghost holds: { AreReady plan end ready (vec_len held) },
+    ghost held_fits: { 1048576 ≤ vec_capacity held },
+    ghost spare_fits: { ForSome spare (λ buffer. 1048576 ≤ vec_capacity buffer) },
+    // Where blocks are ready, so is the buffer for what is behind them.
+    ghost spare_is_in: { ForNone spare (ready.count ≡ 0) },
+    ghost known: { ForSome lost (λ loss. IsTrue (is_known loss)) },
+}
+
+impl Fetch {
+    ghost use Rattle.link_source.specs.Streams.{Stream};
+    ghost use Rattle.reply_reader.specs.declared.loss.Loss.TheVariants.{Link};
+    ghost use Rattle.request_chain.specs.Chains.{Gains};
+    ghost use Rattle.request_chain.specs.Honest.{AreHonest};
+    ghost use Rattle.span_map.specs.declared.jobs.Job.{Job};
+    ghost use Rattle.fetch_session.specs.Blocks.{cut, run_start, run_end};
+    ghost use Rattle.fetch_session.specs.Fetches.{plan_of, rest_of, ready_of, lost_of, IsFetch, SameButSpare, Steps, Fails};
+    ghost use Rattle.fetch_session.specs.Jobs.{IsJob};
+
+    /// Begins the fetch of a run, with the parts of resources that are its bytes.
+    pub fn begin(job: Job, room: FetchRoom) -> Fetch
+        requires { IsJob job }
+        ensures fetch { IsFetch job [] [] result }
+        ensures plan { plan_of result ≡ job.plan }
+        ensures rest { rest_of result ≡ job.run }
+        ensures none_ready { (ready_of result).count ≡ 0 }
+        ensures none_lost { lost_of result ≡ None }
+        ensures first { cut job.plan job.run.first ≡ run_start job.plan job.run }
+        ensures end { cut job.plan (job.run.first + job.run.count) ≡ run_end job.plan job.run }
+    {
+        plan_laws();
+        let Job { plan, run, parts } = job;
+        let FetchRoom {
+            chain,
+            mut held,
+            spare,
+        } = room;
+        held.clear();
+        Fetch {
+            plan,
+            end: run.first + run.count,
+            ready: Run {
+                first: run.first,
+                count: 0,
+            },
+            chain: Chain::new(parts, chain),
+            held,
+            spare,
+            lost: None,
+        }
+    }
+
+    /// What stands after a step that took so many bytes.
+    fn got(&self, taken: u32) -> Got
+        ensures ready { result.ready ≡ ready_of self.now }
+        ensures taken { result.taken ≡ taken }
+        ensures done { IsTrue result.done ↔ ((ready_of self.now).count ≡ (rest_of self.now).count) }
+    {
+        Got {
+            ready: self.ready,
+            taken,
+            done: self.ready.first + self.ready.count == self.end,
+        }
+    }
+
+    /// Reads on until `allow` bytes came from the link, heads and all, or 64 blocks are ready, or the last ones are.
+    /// Where blocks are ready before a loss, the next step tells the loss, and each step behind it tells it again. Where
+    /// memory runs out, what came in this step is given up. It takes memory as a chain of requests does, and for a
+    /// buffer that wasn't given back.
+    pub fn step<L: Links>(&mut self, alloc: Global, link: &mut L, allow: u32) -> Result<Got, Loss>
+        requires none_ready { (ready_of self.old).count ≡ 0 }
+        requires some { 0 < allow }
+        ensures reads { IsTrue L.tells → (job : Job) (before used : List Stream) (handed : List ℕ)
+            → IsFetch job used handed self.old → Gains before (L.streams link.old) used
+            → MatchResult result
+            (λ got. Steps job before used handed (L.streams link.new) (L.faults link.new) allow self.old got self.new)
+            (λ loss. Fails job before handed (L.streams link.new) (L.faults link.new) self.old loss self.new) }
+        ensures plan { plan_of self.new ≡ plan_of self.old }
+        ensures rest { rest_of self.new ≡ rest_of self.old }
+
+        // The ready blocks are the first ones that weren't handed out.
+        ensures ready { IfOk result (λ got. got.ready ≡ ready_of self.new) }
+        ensures within { (ready_of self.new).count ≤ (rest_of self.new).count }
+        ensures few { (ready_of self.new).count ≤ 64 }
+        ensures done { IfOk result (λ got. IsTrue got.done ↔ (got.ready.count ≡ (rest_of self.new).count)) }
+
+        // A loss that it held back is told, and nothing else is done.
+        ensures held { IfSome (lost_of self.old) (λ loss. result ≡ Err loss) }
+        ensures untouched { IsSome (lost_of self.old) → link.new ≡ link.old }
+        ensures lost { IfErr result (λ loss. lost_of self.new ≡ Some loss) }
+        ensures known { IfErr result IsKnown }
+
+        // Over mirrors in memory, without bad answers, its streams have given what the mirrors reply.
+        ensures honest { IsTrue L.tells → (L.content link.old).bad ≡ [] → (job : Job) (before used : List Stream) (handed : List ℕ)
+            → IsFetch job used handed self.old → Gains before (L.streams link.old) used
+            → AreHonest (L.content link.old) before (L.streams link.old) (L.due link.old)
+            → (L.content link.new ≡ L.content link.old) × AreHonest (L.content link.old) before (L.streams link.new) (L.due link.new) }
+        ensures none_ready { OnErr result ((ready_of self.new).count ≡ 0) }
+        ensures cause { lost_of self.old ≡ None → (count : ℕ) → lost_of self.new ≡ Some (Link count)
+            → Rose (L.faults link.old) (L.faults link.new) }
+        ensures later { L.faults link.old ≤ L.faults link.new }
+    {
+        fetched_law();
+        plan_laws();
+        if let Some(loss) = self.lost {
+            return Err(loss);
+        }
+        let room = missing(&self.plan, self.ready.first, self.end, self.held.len()) as usize;
+        if room == 0 {
+            return Ok(self.got(0));
+        }
+        if self.refill(alloc).is_err() {
+            self.lost = Some(Loss::NoMemory);
+            return Err(Loss::NoMemory);
+        }
+        self.read_on(alloc, link, room, allow)
+    }
+
+    /// Makes the buffer that wasn't given back.
+    fn refill(&mut self, alloc: Global) -> Result<(), NoMemory>
+        ensures fetch { (job : Job) (used : List Stream) (handed : List ℕ)
+            → IsFetch job used handed self.old → IsFetch job used handed self.new }
+        ensures shown { SameButSpare self.old self.new }
+        ensures spare { IfOk result (λ _. IsSome self.new.spare) }
+    {
+        if self.spare.is_none() {
+            self.spare = Some(make_buffer(alloc)?);
+        }
+        Ok(())
+    }
+
+    /// Reads on, where there is room.
+    fn read_on<L: Links>(
+        &mut self,
+        alloc: Global,
+        link: &mut L,
+        room: usize,
+        allow: u32,
+    ) -> Result<Got, Loss>
+        requires none_ready { (ready_of self.old).count ≡ 0 }
+        requires none_lost { lost_of self.old ≡ None }
+        requires spare { IsSome self.old.spare }
+        requires some { 0 < allow }
+        requires some_room { 0 < room }
+        requires room { cut self.old.plan self.old.ready.first + vec_len self.old.held + room
+            ≡ cut self.old.plan (min (self.old.ready.first + 64) self.old.end) }
+        ensures reads { IsTrue L.tells → (job : Job) (before used : List Stream) (handed : List ℕ)
+            → IsFetch job used handed self.old → Gains before (L.streams link.old) used
+            → MatchResult result
+            (λ got. Steps job before used handed (L.streams link.new) (L.faults link.new) allow self.old got self.new)
+            (λ loss. Fails job before handed (L.streams link.new) (L.faults link.new) self.old loss self.new) }
+        ensures plan { plan_of self.new ≡ plan_of self.old }
+        ensures rest { rest_of self.new ≡ rest_of self.old }
+        ensures ready { IfOk result (λ got. got.ready ≡ ready_of self.new) }
+        ensures within { (ready_of self.new).count ≤ (rest_of self.new).count }
+        ensures few { (ready_of self.new).count ≤ 64 }
+        ensures done { IfOk result (λ got. IsTrue got.done ↔ (got.ready.count ≡ (rest_of self.new).count)) }
+        ensures lost { IfErr result (λ loss. lost_of self.new ≡ Some loss) }
+        ensures known { IfErr result IsKnown }
+
+        // Over mirrors in memory, without bad answers, its streams have given what the mirrors reply.
+        ensures honest { IsTrue L.tells → (L.content link.old).bad ≡ [] → (job : Job) (before used : List Stream) (handed : List ℕ)
+            → IsFetch job used handed self.old → Gains before (L.streams link.old) used
+            → AreHonest (L.content link.old) before (L.streams link.old) (L.due link.old)
+            → (L.content link.new ≡ L.content link.old) × AreHonest (L.content link.old) before (L.streams link.new) (L.due link.new) }
+        ensures none_ready { OnErr result ((ready_of self.new).count ≡ 0) }
+        ensures cause { (count : ℕ) → lost_of self.new ≡ Some (Link count) → Rose (L.faults link.old) (L.faults link.new) }
+        ensures later { L.faults link.old ≤ L.faults link.new }
+    {
+        fetched_law();
+        plan_laws();
+        let before = self.held.len();
+        match self.chain.read(alloc, link, &mut self.held, room, allow) {
+            Ok(read) => {
+                self.ready = whole_from(&self.plan, self.ready.first, self.end, self.held.len());
+                Ok(self.got(read.taken))
+            }
+            Err(loss) => match loss {
+                Loss::NoMemory => {
+                    self.held.truncate(before);
+                    self.lost = Some(loss);
+                    Err(loss)
+                }
+                _ => {
+                    self.ready = whole_from(
+                        &self.plan,
+                        self.ready.first,
+                        self.end,
+                        self.held.len(),
+                    );
+                    self.lost = Some(loss);
+                    if self.ready.count == 0 {
+                        return Err(loss);
+                    }
+                    Ok(self.got(self.chain.taken()))
+                }
+            },
+        }
+    }
+
+    /// The bytes of the ready blocks, in one of the buffers. It takes no memory.
+    pub fn take_blocks(&mut self) -> Blob
+        requires { 0 < (ready_of self.old).count }
+        ensures takes { (job : Job) (used : List Stream) (handed : List ℕ)
+            → IsFetch job used handed self.old → IsFetch job used (handed ++ result) self.new }
+        ensures len { run_start (plan_of self.old) (ready_of self.old) + length result
+            ≡ run_end (plan_of self.old) (ready_of self.old) }
+        ensures place { cut (plan_of self.old) (rest_of self.old).first + length result
+            ≡ cut (plan_of self.new) (rest_of self.new).first }
+        ensures plan { plan_of self.new ≡ plan_of self.old }
+        ensures rest_first { (rest_of self.new).first ≡ (rest_of self.old).first + (ready_of self.old).count }
+        ensures rest_count { (rest_of self.new).count + (ready_of self.old).count ≡ (rest_of self.old).count }
+        ensures none_ready { (ready_of self.new).count ≡ 0 }
+        ensures lost { lost_of self.new ≡ lost_of self.old }
+    {
+        plan_laws();
+        let next = self.ready.first + self.ready.count;
+        let len = (cut(&self.plan, next) - cut(&self.plan, self.ready.first)) as usize;
+        let Some(spare) = self.spare.take() else {
+            unreachable!()
+        };
+        let blocks = take_front(&mut self.held, spare, len);
+        self.ready = Run {
+            first: next,
+            count: 0,
+        };
+        Blob::wrap(blocks)
+    }
+
+    /// Gives a buffer back. A blob that isn't one of the buffers is dropped. It takes no memory.
+    pub fn give_back(&mut self, room: Blob)
+        ensures fetch { (job : Job) (used : List Stream) (handed : List ℕ)
+            → IsFetch job used handed self.old → IsFetch job used handed self.new }
+        ensures plan { plan_of self.new ≡ plan_of self.old }
+        ensures rest { rest_of self.new ≡ rest_of self.old }
+        ensures ready { ready_of self.new ≡ ready_of self.old }
+        ensures lost { lost_of self.new ≡ lost_of self.old }
+    {
+        let buffer = room.into_vec();
+        if buffer.capacity() >= BUFFER {
+            self.spare = Some(buffer);
+        }
+    }
+
+    /// The room, for another fetch.
+    pub fn into_room(self) -> FetchRoom {
+        let Fetch {
+            plan: _,
+            end: _,
+            ready: _,
+            chain,
+            held,
+            spare,
+            lost: _,
+        } = self;
+        FetchRoom {
+            chain: chain.into_room(),
+            held,
+            spare,
+        }
+    }
+}

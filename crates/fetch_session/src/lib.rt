@@ -1,0 +1,13 @@
+//! One run of blocks, fetched over one link: its whole blocks as they come, and why the rest of them didn't.
+#![tactic(auto)]
+
+mod blocks;
+mod fetch;
+mod laws;
+mod probing;
+mod room;
+
+pub use fetch::{Fetch, Got};
+pub use probing::probe;
+pub use reply_reader::Loss;
+pub use room::FetchRoom;

@@ -1,0 +1,29 @@
+// How long a resource is.
+ghost use Rattle.std.specs.Prelude.{◌≡◌, ◌≤◌, List, ℕ, IsTrue, IfErr, MatchResult};
+ghost use Rattle.dl_words.specs.Counts.{Rose};
+ghost use Rattle.link_source.specs.Streams.{Stream};
+ghost use Rattle.reply_reader.specs.declared.loss.Loss.TheVariants.{Link};
+ghost use Rattle.request_chain.specs.Chains.{Gains};
+ghost use Rattle.request_chain.specs.Probes.{Told, Probed, TellsProbeLoss};
+
+use crate::room::FetchRoom;
+use link_source::Links;
+use reply_reader::Loss;
+use std::alloc::Global;
+
+/// The length of the resource at a URL, which is asked for its first byte, and wherever it was moved to, 20 times at
+/// most. Its bytes aren't read.
+pub fn probe<L: Links>(
+    alloc: Global,
+    link: &mut L,
+    url: &str,
+    room: &mut FetchRoom,
+) -> Result<u64, Loss>
+    ensures probes { IsTrue L.tells → (used : List Stream) × Gains (L.streams link.old) (L.streams link.new) used × MatchResult result
+        (λ total. Probed url.now used (Told total))
+        (TellsProbeLoss url.now used (L.faults link.new)) }
+    ensures link { IfErr result (λ loss. (count : ℕ) → loss ≡ Link count → Rose (L.faults link.old) (L.faults link.new)) }
+    ensures later { L.faults link.old ≤ L.faults link.new }
+{
+    request_chain::probe(alloc, link, url, &mut room.chain)
+}
