@@ -1,5 +1,6 @@
 // The real link: one TCP connection at a time.
 ghost use Rattle.std.specs.Prelude.{◌≤◌, false, [], length, IfOk};
+ghost use Rattle.link_source.specs.Mirrors.{no_content};
 
 use crate::faults::Faults;
 use dl_kinds::IoErr;
@@ -53,7 +54,7 @@ impl<'a, R: Net<Stream = TcpStream>> TcpLinks<'a, R> {
 impl<'a, R: Net<Stream = TcpStream>> Links for TcpLinks<'a, R> {
     ghost tells = { false };
 
-    ghost content = { λ _. record { mirrors = [] } };
+    ghost content = { λ _. no_content };
 
     ghost streams = { λ _. [] };
 

@@ -3,7 +3,7 @@ use Rattle.std.proofs.Common.{◌≡◌, ℕ, ◌+◌, ◌-◌, List, [], ◌∷
 use Rattle.std.proofs.lemmas.List.{reverse-reverse, reverse-append, length-append, take-append-le, take_all}
 use Rattle.std.specs.Prelude.{reverse}
 use Rattle.link_source.specs.Streams.{Stream}
-use Rattle.aria_top.specs.Fetched.{Gains}
+use Rattle.request_chain.specs.Chains.{Gains}
 use Rattle.aria_top.specs.Run.{gained, KeepsStreams}
 
 gains_on_top : (before now streams : List Stream) → Gains before now streams → now ≡ reverse streams ++ before

@@ -1,13 +1,6 @@
-mod Parts
-mod Receiving
-mod Replies
-mod Heads
-mod Bodies
-mod Fetching
 mod Served
 mod Gaining
 mod Lengths
-mod PartSteps
 mod Once
 mod Quiet
 mod Standing
@@ -18,3 +11,5 @@ mod Telling
 mod Saying
 mod Control
 mod First
+mod Statuses
+mod Losses

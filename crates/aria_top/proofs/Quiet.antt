@@ -12,14 +12,16 @@ use Rattle.url.specs.Parts.{Parts}
 use Rattle.url.specs.declared.error.ParseError.{ParseError}
 use Rattle.link_source.specs.Endpoint.{IsUsable}
 use Rattle.span_map.specs.Layout.{total_of}
-use Rattle.span_map.specs.Slices.{parts_from}
+use Rattle.span_map.specs.Slices.{parts_from, slice_of}
 use Rattle.span_map.specs.declared.files.FileLen.{FileLen}
 use Rattle.span_map.specs.declared.files.Part.{Part}
 use Rattle.metainfo.specs.Info.{Info, IsSound}
-use Rattle.aria_top.specs.Askings.{asking_of, piece_askings, piece_count, start_of, size_of}
-use Rattle.aria_top.specs.Fetched.{Ending, Done, Open, Unasked, Fetched}
-use Rattle.aria_top.specs.Worked.{WorkedFrom, IsQuiet}
-use Rattle.aria_top.specs.declared.asking.Asking.{Asking}
+use Rattle.span_map.specs.declared.jobs.JobPart.{JobPart}
+use Rattle.request_chain.specs.Fetched.{Fetched}
+use Rattle.request_chain.specs.Plans.{unusable}
+use Rattle.request_chain.specs.Plans.{Open as MoreIsDue, Lost as LossCame}
+use Rattle.aria_top.specs.Askings.{asked_part, piece_parts, piece_count, start_of, size_of}
+use Rattle.aria_top.specs.Worked.{Ending, Done, Open, Lost, WorkedFrom, IsQuiet}
 
 -- a URL is usable or not
 true_or_false : (b : Bool) → (b ≡ true) ⊎ (b ≡ false)
@@ -74,25 +76,28 @@ begins_within info piece sound within =
     let top : piece_count info * info.piece_len < info.total + info.piece_len = (div_ceil_times info.total info.piece_len some).1 in
     omega (arith, step, top)
 
--- so each piece asks for something
-askings_some : (info : Info) (piece : ℕ) → IsSound info → piece < piece_count info → (asking : Asking) × (more : List Asking) × (piece_askings info piece ≡ asking ∷ more)
+asked_of_some : (info : Info) (parts : List Part) → SomeParts parts → (part : JobPart) × (more : List JobPart) × (map (asked_part info) parts ≡ part ∷ more)
 unfolding SomeParts
-askings_some info piece sound within =
+asked_of_some info parts (part, more, are) = (asked_part info part, map (asked_part info) more, ap (map (asked_part info)) are)
+
+-- so each piece asks for something
+parts_asked : (info : Info) (piece : ℕ) → IsSound info → piece < piece_count info → (part : JobPart) × (more : List JobPart) × (piece_parts info piece ≡ part ∷ more)
+parts_asked info piece sound within =
     let start = start_of info piece in
     let some : start < info.total = begins_within info piece sound within in
     let len : 1 ≤ info.piece_len = sound.plan.some in
     let all : info.total ≡ total_of info.files = sound.total in
-    let found = parts_some 0 0 info.files start (start + size_of info piece) (omega arith) (omega (arith, some, len)) (omega (arith, some, all)) in
-    (asking_of info found.0, map (asking_of info) found.1, ap (map (asking_of info)) found.2)
+    asked_of_some info (slice_of info.files start (size_of info piece))
+    (parts_some 0 0 info.files start (start + size_of info piece) (omega arith) (omega (arith, some, len)) (omega (arith, some, all)))
 
 -- where no stream is left, nothing that came was wrong
 pub worked_quiet : (info : Info) (piece left : ℕ) → IsSound info → piece + left ≡ piece_count info → (ending : Ending) × WorkedFrom info piece left [] piece ending × IsQuiet ending
 worked_quiet info piece zero sound all = (Done, (refl, refl, refl), tt)
 worked_quiet info piece (suc left) sound all =
-    let asked = askings_some info piece sound (omega arith) in
-    let asking = asked.0 in
+    let asked = parts_asked info piece sound (omega arith) in
+    let part = asked.0 in
     let more = asked.1 in
     ⊎_elim
-    (λ usable. (Open, inr (refl, ([], subst (λ (l : List Asking). Fetched l [] [] Open []) (sym asked.2) (refl, usable, refl))), tt))
-    (λ unusable. (Unasked, inr (refl, ([], subst (λ (l : List Asking). Fetched l [] [] Unasked []) (sym asked.2) (refl, unusable, refl))), tt))
-    (decide_usable asking.url)
+    (λ usable. (Open, inr (refl, ([], subst (λ (l : List JobPart). Fetched l [] [] MoreIsDue []) (sym asked.2) (refl, inl (usable, refl), refl))), tt))
+    (λ never. (Lost (unusable 0), inr (refl, ([], subst (λ (l : List JobPart). Fetched l [] [] (LossCame (unusable 0)) []) (sym asked.2) (refl, inr (never, refl), refl))), refl))
+    (decide_usable part.url)

@@ -5,13 +5,13 @@ use Rattle.std.specs.declared.alloc.Global.{Global}
 use Rattle.dl_words.specs.Counts.{Rose}
 use Rattle.dl_disk.specs.Files.{Files}
 use Rattle.link_source.specs.Streams.{Stream}
-use Rattle.range_http.specs.HeadLaws.{HasOneHead, HeadIsFinished}
+use Rattle.request_chain.specs.Fetched.{FetchedIsOne}
 use Rattle.metainfo.specs.Info.{Info, IsSound}
 use Rattle.metainfo.specs.Rules.{metainfo_of, IsMetaOfSome}
 use Rattle.metainfo.specs.declared.refusals.MetaErr.{MetaErr}
 use Rattle.aria_top.specs.Ends.{refusal_status}
 use Rattle.aria_top.specs.Metainfo.{Says, TellsStop}
-use Rattle.aria_top.specs.Run.{IsToFetch, TellsWork, Told, error_line, gained}
+use Rattle.aria_top.specs.Run.{IsEnd, IsToFetch, TellsMetainfo, TellsWork, Told, error_line, gained}
 use Rattle.aria_top.specs.Words.{file_named}
 use Rattle.aria_top.specs.declared.ends.Refusal.{Refusal}
 use Rattle.aria_top.specs.declared.ends.Refusal.TheVariants.{Words, Missing, Bencode, Metainfo, Disk}
@@ -59,12 +59,12 @@ refused_disk file info Metainfo says stop = ⊎_elim
 refused_disk file info Disk says stop = refl
 
 -- no stream was gained
-pub quiet_tells : HasOneHead → HeadIsFinished → (info : Info) (streams : List Stream) (refusal : Refusal) (r before now : ℕ) → IsSound info → refusal ≡ Disk
+pub quiet_tells : FetchedIsOne → (info : Info) (streams : List Stream) (refusal : Refusal) (r before now : ℕ) → IsSound info → refusal ≡ Disk
     → (r ≡ refusal_status refusal) ⊎ (r ≡ 40) → TellsWork info (gained streams streams) r before now
-quiet_tells one finished info streams refusal r before now sound disk told =
+quiet_tells law info streams refusal r before now sound disk told =
     let is : (r ≡ 17) ⊎ (r ≡ 40) = subst (λ (d : Refusal). (r ≡ refusal_status d) ⊎ (r ≡ 40)) disk told in
     subst (λ (s : List Stream). TellsWork info s r before now) (sym (gained_is streams streams [] refl))
-    (tells_of one finished info [] 0 17 r before now (ended_unread info (Rose before now) sound) (⊎_elim (λ e. inl e) (λ e. inr (inl e)) is))
+    (tells_of law info [] 0 17 r before now (ended_unread info (Rose before now) sound) (⊎_elim (λ e. inl e) (λ e. inr (inl e)) is))
 
 -- the line of a disk that failed
 pub disk_line : (refusal : Refusal) (status : ℕ) (old new : List ℕ) (before now : ℕ) → refusal ≡ Disk → (status ≡ refusal_status refusal) ⊎ (status ≡ 40) → status ≢ 40
@@ -94,3 +94,14 @@ says_to words seen name info named says = record { name = name; named = named; s
 -- a count that rose since rose since before
 pub rose_before : (r a b c : ℕ) (Q R : Type 0) → a ≤ b → (r ≡ 0) ⊎ (r ≡ 40) ⊎ Rose b c ⊎ Q ⊎ R → (r ≡ 0) ⊎ (r ≡ 40) ⊎ Rose a c ⊎ Q ⊎ R
 rose_before r a b c Q R later told = ⊎_elim (λ e. inl e) (λ other. inr (⊎_elim (λ e. inl e) (λ more. inr (⊎_elim (λ rose. inl (omega arith)) (λ last. inr last) more)) other)) told
+
+-- what a status of a run that fetches tells of the file
+pub says_metainfo : (file : Option (List ℕ)) (info : Info) (status before now : ℕ) → Says file info → IsEnd status → TellsMetainfo file status before now
+says_metainfo file info status before now says end = record {
+  missing_only = λ is. inr (info, says);
+  missing = λ none. let both : Missing ≡ Disk = refused_disk file info Missing says none in cc;
+  bencode_only = λ is. absurd (omega (arith, end, is));
+  bencode = λ un. let both : Bencode ≡ Disk = refused_disk file info Bencode says un in cc;
+  unusable_only = λ is. absurd (omega (arith, end, is));
+  unusable = λ un. let both : Metainfo ≡ Disk = refused_disk file info Metainfo says un in cc;
+}

@@ -4,13 +4,15 @@ use Rattle.dl_kinds.specs.declared.outside.IoErr.{IoErr}
 use Rattle.dl_kinds.specs.declared.outside.IoErr.TheVariants.{Fault, NoMemory as OutOfMemory}
 use Rattle.link_source.specs.Streams.{Stream}
 use Rattle.metainfo.specs.Info.{Info, IsSound}
-use Rattle.aria_top.specs.Askings.{piece_askings, piece_count}
-use Rattle.aria_top.specs.Ends.{disk_failure_of, IsOfDisk}
-use Rattle.aria_top.specs.Fetched.{Ending, Done, Open, Short, Wrong, Unasked, Digest}
-use Rattle.aria_top.specs.Worked.{IsRight, Breaks, WorkedFrom, Worked, PieceLost, WorkLost, WorkEnds}
+use Rattle.aria_top.specs.Askings.{piece_parts, piece_count}
+use Rattle.aria_top.specs.Ends.{failure_of, disk_failure_of, IsOfDisk}
+use Rattle.aria_top.specs.Fetched.{EndsIn, ending_of}
+use Rattle.reply_reader.specs.declared.loss.Loss.{Loss}
+use Rattle.reply_reader.specs.declared.loss.Loss.TheVariants as losses
+use Rattle.aria_top.specs.Worked.{Ending, Done, Digest, IsRight, Breaks, WorkedFrom, Worked, PieceLost, WorkLost, WorkEnds, work_ending}
 use Rattle.aria_top.specs.declared.ends.Failure.{Failure}
-use Rattle.aria_top.specs.declared.ends.Failure.TheVariants.{Disk, Link, NoMemory}
-use Rattle.aria_top.specs.declared.ends.Failure.TheVariants.{Short as ShortFailure, Reply as ReplyFailure, Unasked as UnaskedFailure, Digest as DigestFailure}
+use Rattle.aria_top.specs.declared.ends.Failure.TheVariants.{Disk, NoMemory}
+use Rattle.aria_top.specs.declared.ends.Failure.TheVariants.{Lost as LostFailure, Digest as DigestFailure}
 use Rattle.aria_top.proofs.Gaining.{fetched_more}
 use Rattle.aria_top.proofs.Quiet.{worked_quiet}
 
@@ -23,7 +25,7 @@ WorkGoesOn info piece gained =
 right_more : (info : Info) (piece : ℕ) (streams more : List Stream) → IsRight info piece streams [] → IsRight info piece (streams ++ more) more
 right_more info piece streams more right = record {
   bytes = right.bytes;
-  fetched = fetched_more (piece_askings info piece) streams more right.bytes right.fetched;
+  fetched = fetched_more (piece_parts info piece) streams more right.bytes right.fetched;
   digest = right.digest;
 }
 
@@ -41,16 +43,18 @@ module _ (info : Info) (piece : ℕ) (within : piece < piece_count info) where
   work_breaks : (gained g : List Stream) (ending : Ending) → WorkGoesOn info piece gained → Breaks info piece g ending → Worked info (gained ++ g) piece ending
   work_breaks gained g ending on breaks = on g piece ending (subst (λ (n : ℕ). WorkedFrom info piece n g piece ending) (sym left) (inr (refl, breaks)))
 
+  -- at one that breaks in this way, if the way is known
+  lost_at : (gained g : List Stream) (ending : Option Ending) → WorkGoesOn info piece gained → IfSome ending (Breaks info piece g) → IfSome ending (Worked info (gained ++ g) piece)
+  lost_at gained g (Some ending) on breaks = work_breaks gained g ending on breaks
+  lost_at gained g None on breaks = tt
+
   -- at a piece that failed
   pub work_lost : (gained g : List Stream) (failure : Failure) → IsSound info → WorkGoesOn info piece gained → PieceLost info piece g failure → WorkLost info (gained ++ g) piece (Some failure)
   work_lost gained g Disk sound on right =
       let quiet = worked_quiet info (piece + 1) (piece_count info - (piece + 1)) sound (omega arith) in
       let worked : Worked info ((gained ++ g) ++ []) (piece + 1) quiet.0 = work_goes_on gained g on right [] (piece + 1) quiet.0 quiet.1 in
       (piece + 1, quiet.0, subst (λ (s : List Stream). Worked info s (piece + 1) quiet.0) (append-nil (gained ++ g)) worked, omega arith, quiet.2)
-  work_lost gained g Link sound on breaks = work_breaks gained g Open on breaks
-  work_lost gained g ShortFailure sound on breaks = work_breaks gained g Short on breaks
-  work_lost gained g ReplyFailure sound on breaks = work_breaks gained g Wrong on breaks
-  work_lost gained g UnaskedFailure sound on breaks = work_breaks gained g Unasked on breaks
+  work_lost gained g (LostFailure loss) sound on lost = lost_at gained g (work_ending loss) on lost
   work_lost gained g DigestFailure sound on breaks = work_breaks gained g Digest on breaks
   work_lost gained g NoMemory sound on lost = tt
 
@@ -84,13 +88,21 @@ work_last info before now pieces count None same of ends = subst (λ (n : ℕ). 
 work_last info before now pieces count (Some Disk) same of ends =
     record { gained = ends.gained; gains = ends.gains; ends = (pieces, Done, ends.ends, omega arith, tt) }
 work_last info before now pieces count (Some NoMemory) same of ends = record { gained = ends.gained; gains = ends.gains; ends = tt }
-work_last info before now pieces count (Some Link) same of ends = absurd of
-work_last info before now pieces count (Some ShortFailure) same of ends = absurd of
-work_last info before now pieces count (Some ReplyFailure) same of ends = absurd of
-work_last info before now pieces count (Some UnaskedFailure) same of ends = absurd of
+work_last info before now pieces count (Some (LostFailure loss)) same of ends = absurd of
 work_last info before now pieces count (Some DigestFailure) same of ends = absurd of
 
 -- a failure that isn't there
 pub none_of : (failure : Option Failure) → is_some failure ≡ false → failure ≡ None
 none_of None same = refl
 none_of (Some failure) same = cc
+
+-- the failure of a piece that a loss is
+pub piece_lost : (info : Info) (piece : ℕ) (gained : List Stream) (loss : Loss) → IfSome (ending_of loss) (EndsIn (piece_parts info piece) gained) → PieceLost info piece gained (failure_of loss)
+piece_lost info piece gained (losses.Link count) ends = ends
+piece_lost info piece gained losses.NotFound ends = ends
+piece_lost info piece gained (losses.Refused status code) ends = ends
+piece_lost info piece gained losses.BadReply ends = ends
+piece_lost info piece gained (losses.Length told want) ends = ends
+piece_lost info piece gained (losses.Short got) ends = ends
+piece_lost info piece gained losses.Redirects ends = ends
+piece_lost info piece gained losses.NoMemory ends = tt

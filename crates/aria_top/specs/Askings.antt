@@ -4,9 +4,9 @@ use Rattle.std.specs.Option.{option_map_or}
 use Rattle.dl_kinds.specs.Plan.{pieces_of, piece_start, piece_end}
 use Rattle.span_map.specs.Slices.{slice_of}
 use Rattle.span_map.specs.declared.files.Part.{Part}
+use Rattle.span_map.specs.declared.jobs.JobPart.{JobPart}
 use Rattle.metainfo.specs.Info.{Info}
 use Rattle.metainfo.specs.Urls.{seed_url_of}
-use Rattle.aria_top.specs.declared.asking.Asking.{Asking}
 
 abbrev pub first_seed : Info → List ℕ
 first_seed info = unwrap_or (slice_get info.seeds 0) []
@@ -16,10 +16,10 @@ abbrev pub file_len : Info → ℕ → ℕ
 file_len info file = option_map_or (λ f. f.len) (slice_get info.files file) 0
 
 -- a part of a file is asked of what stands at the file's URL
-abbrev pub asking_of : Info → Part → Asking
-asking_of info part = record {
+abbrev pub asked_part : Info → Part → JobPart
+asked_part info part = record {
   url = seed_url_of info.files (first_seed info) part.file;
-  first = part.at;
+  at = part.at;
   len = part.len;
   total = file_len info part.file;
 }
@@ -38,5 +38,5 @@ abbrev pub digest_of : Info → ℕ → List ℕ
 digest_of info piece = unwrap_or (slice_get info.digests piece) []
 
 -- what is asked for a piece: its parts, in order
-abbrev pub piece_askings : Info → ℕ → List Asking
-piece_askings info piece = map (asking_of info) (slice_of info.files (start_of info piece) (size_of info piece))
+abbrev pub piece_parts : Info → ℕ → List JobPart
+piece_parts info piece = map (asked_part info) (slice_of info.files (start_of info piece) (size_of info piece))

@@ -1,14 +1,16 @@
 -- The exit status of each end of a run, in the numbers of the aria2 manual, section EXIT STATUS; 40 and 41 are this
 -- program's own.
-use Rattle.std.specs.Prelude.{ℕ, Option, Some, None}
+use Rattle.std.specs.Prelude.{◌≡◌, ◌⊎◌, ℕ, Option, Some, None}
+use Rattle.std.specs.Option.{option_map_or}
 use Rattle.dl_kinds.specs.declared.outside.IoErr.{IoErr}
 use Rattle.dl_kinds.specs.declared.outside.IoErr.TheVariants.{Fault, NoMemory as OutOfMemory}
-use Rattle.aria_top.specs.declared.connection.Loss.{Loss}
-use Rattle.aria_top.specs.declared.connection.Loss.TheVariants as losses
+use Rattle.reply_reader.specs.Losses.{mark_of}
+use Rattle.reply_reader.specs.declared.loss.Loss.{Loss}
+use Rattle.reply_reader.specs.declared.loss.Loss.TheVariants.{Link, NoMemory as NoMemoryLoss}
 use Rattle.aria_top.specs.declared.ends.Refusal.{Refusal}
 use Rattle.aria_top.specs.declared.ends.Refusal.TheVariants as refusals
 use Rattle.aria_top.specs.declared.ends.Failure.{Failure}
-use Rattle.aria_top.specs.declared.ends.Failure.TheVariants.{Disk, Link, Short, Reply, Unasked, Digest, NoMemory}
+use Rattle.aria_top.specs.declared.ends.Failure.TheVariants.{Disk, Lost, Digest, NoMemory}
 
 abbrev pub refusal_status : Refusal → ℕ
 refusal_status refusals.Words = 28
@@ -17,12 +19,17 @@ refusal_status refusals.Bencode = 25
 refusal_status refusals.Metainfo = 26
 refusal_status refusals.Disk = 17
 
+-- of a loss it is that of its mark
+abbrev pub loss_status : Loss → ℕ
+loss_status loss = option_map_or (λ mark. mark.code.0) (mark_of loss) 40
+
+-- those of the losses, but for want of memory
+abbrev pub IsLossStatus : ℕ → Type 0
+IsLossStatus status = (status ≡ 3) ⊎ (status ≡ 6) ⊎ (status ≡ 22) ⊎ (status ≡ 23) ⊎ (status ≡ 24) ⊎ (status ≡ 29)
+
 abbrev pub failure_status : Failure → ℕ
 failure_status Disk = 17
-failure_status Link = 6
-failure_status Short = 6
-failure_status Reply = 22
-failure_status Unasked = 22
+failure_status (Lost loss) = loss_status loss
 failure_status Digest = 32
 failure_status NoMemory = 40
 
@@ -31,13 +38,21 @@ abbrev pub work_status : Option Failure → ℕ
 work_status None = 0
 work_status (Some failure) = failure_status failure
 
+-- the link failed
+abbrev pub IsLinkLoss : Loss → Type 0
+IsLinkLoss (Link count) = Unit {0}
+IsLinkLoss loss = ⊥
+
+abbrev pub IsLinkFailure : Failure → Type 0
+IsLinkFailure (Lost loss) = IsLinkLoss loss
+IsLinkFailure Disk = ⊥
+IsLinkFailure Digest = ⊥
+IsLinkFailure NoMemory = ⊥
+
 -- the failure that a loss is, and that a failed call of the disk is
 abbrev pub failure_of : Loss → Failure
-failure_of losses.Link = Link
-failure_of losses.Short = Short
-failure_of losses.Reply = Reply
-failure_of losses.Unasked = Unasked
-failure_of losses.NoMemory = NoMemory
+failure_of NoMemoryLoss = NoMemory
+failure_of loss = Lost loss
 
 abbrev pub disk_failure_of : IoErr → Failure
 disk_failure_of Fault = Disk
@@ -48,3 +63,10 @@ abbrev pub IsOfDisk : Failure → Type 0
 IsOfDisk Disk = Unit {0}
 IsOfDisk NoMemory = Unit {0}
 IsOfDisk failure = ⊥
+
+-- of losses the failure has their statuses
+abbrev pub IsKnown : Failure → Type 0
+IsKnown (Lost loss) = IsLossStatus (loss_status loss)
+IsKnown Disk = Unit {0}
+IsKnown Digest = Unit {0}
+IsKnown NoMemory = Unit {0}

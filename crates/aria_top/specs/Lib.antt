@@ -1,15 +1,10 @@
-pub mod Asking
 pub mod Askings
 pub mod Ends
-pub mod Exchange
 pub mod Fetched
 pub mod Load
-pub mod Loss
 pub mod Metainfo
 pub mod Payload
-pub mod Reply
 pub mod Run
 pub mod Serving
-pub mod Streams
 pub mod Words
 pub mod Worked

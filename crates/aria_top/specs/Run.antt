@@ -10,11 +10,13 @@ use Rattle.dl_disk.specs.Files.{Files}
 use Rattle.link_source.specs.Streams.{Stream}
 use Rattle.metainfo.specs.Info.{Info}
 use Rattle.aria_top.specs.Askings.{piece_count}
-use Rattle.aria_top.specs.Fetched.{Ending, Done, Short, Wrong, Unasked, Digest}
+use Rattle.reply_reader.specs.declared.loss.Loss.{Loss}
+use Rattle.request_chain.specs.Plans.{unusable}
+use Rattle.aria_top.specs.Ends.{loss_status, IsLossStatus}
 use Rattle.aria_top.specs.Metainfo.{Says, IsUnbencoded, IsUnusable}
 use Rattle.aria_top.specs.Payload.{bytes_of_pieces, PiecesStand}
 use Rattle.aria_top.specs.Words.{file_named}
-use Rattle.aria_top.specs.Worked.{Worked}
+use Rattle.aria_top.specs.Worked.{Ending, Done, Lost, Digest, Worked}
 
 -- the words name a metainfo file of this disk that says this
 pub record IsToFetch (words : List (String Global)) (seen : Files) (info : Info) : Type 0 where
@@ -55,11 +57,11 @@ Told old new text before now = (new ≡ old ++ text) ⊎ (Rose before now × ((n
 
 -- the statuses of a run whose metainfo file says what is to be fetched
 abbrev pub IsEnd : ℕ → Type 0
-IsEnd status = (status ≡ 0) ⊎ (status ≡ 6) ⊎ (status ≡ 17) ⊎ (status ≡ 22) ⊎ (status ≡ 32) ⊎ (status ≡ 40) ⊎ (status ≡ 41)
+IsEnd status = (status ≡ 0) ⊎ (status ≡ 17) ⊎ (status ≡ 32) ⊎ (status ≡ 40) ⊎ (status ≡ 41) ⊎ IsLossStatus status
 
 -- the exit statuses
 abbrev pub IsStatus : ℕ → Type 0
-IsStatus status = (status ≡ 28) ⊎ (status ≡ 3) ⊎ (status ≡ 25) ⊎ (status ≡ 26) ⊎ IsEnd status
+IsStatus status = (status ≡ 28) ⊎ (status ≡ 25) ⊎ (status ≡ 26) ⊎ IsEnd status
 
 -- this status, but for want of memory, or where the sink failed
 abbrev pub Reported : ℕ → ℕ → Type 0
@@ -67,7 +69,7 @@ Reported status reported = (reported ≡ status) ⊎ (reported ≡ 40) ⊎ (repo
 
 -- What a status tells of the metainfo file. The counts are those of the disk's faults.
 pub record TellsMetainfo (file : Option (List ℕ)) (status before now : ℕ) : Type 0 where
-  pub missing_only : status ≡ 3 → file ≡ None
+  pub missing_only : status ≡ 3 → (file ≡ None) ⊎ ((info : Info) × Says file info)
   pub missing : file ≡ None → (status ≡ 3) ⊎ (status ≡ 40) ⊎ Rose before now
   pub bencode_only : status ≡ 25 → IsUnbencoded file
   pub bencode : IsUnbencoded file → (status ≡ 25) ⊎ (status ≡ 40) ⊎ Rose before now
@@ -85,11 +87,11 @@ KeepsStreams before now = now ≡ reverse (gained before now) ++ before
 -- What a status tells of the streams that were used for the work. The counts are those of the link's faults.
 pub record TellsWork (info : Info) (streams : List Stream) (status before now : ℕ) : Type 0 where
   pub done : status ≡ 0 → (right : ℕ) × Worked info streams right Done
-  pub link_only : status ≡ 6 → Rose before now ⊎ ((right : ℕ) × Worked info streams right Short)
-  pub short : (right : ℕ) → Worked info streams right Short → Reported 6 status
-  pub reply_only : status ≡ 22 → (right : ℕ) × (Worked info streams right Wrong ⊎ Worked info streams right Unasked)
-  pub wrong : (right : ℕ) → Worked info streams right Wrong → Reported 22 status
-  pub unasked : (right : ℕ) → Worked info streams right Unasked → Reported 22 status ⊎ (status ≡ 17)
+  pub lost_only : IsLossStatus status → ((status ≡ 6) × Rose before now)
+      ⊎ ((right : ℕ) × (loss : Loss) × (loss_status loss ≡ status) × Worked info streams right (Lost loss))
+  -- of a URL that is no `http` URL no stream tells, so that the disk may have failed before it was asked for
+  pub lost : (right : ℕ) (loss : Loss) → Worked info streams right (Lost loss)
+      → Reported (loss_status loss) status ⊎ ((status ≡ 17) × (loss ≡ unusable 0))
   pub digest_only : status ≡ 32 → (right : ℕ) × Worked info streams right Digest
   pub digest : (right : ℕ) → Worked info streams right Digest → Reported 32 status
 

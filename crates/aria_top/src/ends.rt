@@ -1,10 +1,10 @@
 // How a run may end, and the exit status of each end.
 ghost use Rattle.std.specs.Prelude.{◌≡◌};
-ghost use Rattle.aria_top.specs.Ends.{refusal_status, failure_status};
+ghost use Rattle.aria_top.specs.Ends.{refusal_status, loss_status, failure_status};
 ghost use Rattle.aria_top.specs.declared.ends.Failure.TheVariants.{NoMemory};
 
-use crate::connection::Loss;
 use dl_kinds::IoErr;
+use fetch_session::Loss;
 use std::alloc::AllocError;
 
 /// Why nothing was fetched.
@@ -41,17 +41,20 @@ impl Refusal {
 pub enum Failure {
     /// The disk failed.
     Disk,
-    /// The link failed.
-    Link,
-    /// The stream ended before a head or before the asked bytes.
-    Short,
-    /// The bytes are no head, or not the accepted one.
-    Reply,
-    /// The URL of the part that is due is no `http` URL.
-    Unasked,
+    /// A part of a piece didn't come.
+    Lost(Loss),
     /// The piece doesn't have its digest.
     Digest,
     NoMemory,
+}
+
+fn loss_status(loss: Loss) -> u8
+    ensures { result ≡ loss_status loss }
+{
+    match loss.mark() {
+        Some(mark) => mark.code.0,
+        None => 40,
+    }
 }
 
 impl Failure {
@@ -60,8 +63,7 @@ impl Failure {
     {
         match self {
             Failure::Disk => 17,
-            Failure::Link | Failure::Short => 6,
-            Failure::Reply | Failure::Unasked => 22,
+            Failure::Lost(loss) => loss_status(loss),
             Failure::Digest => 32,
             Failure::NoMemory => 40,
         }
@@ -75,11 +77,8 @@ impl From<Loss> for Failure {
 
     fn from(loss: Loss) -> Self {
         match loss {
-            Loss::Link => Failure::Link,
-            Loss::Short => Failure::Short,
-            Loss::Reply => Failure::Reply,
-            Loss::Unasked => Failure::Unasked,
             Loss::NoMemory => Failure::NoMemory,
+            loss => Failure::Lost(loss),
         }
     }
 }

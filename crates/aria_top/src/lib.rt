@@ -1,12 +1,9 @@
 //! The run of the downloader: from the words of the command line to the payload, the summary and the exit status.
 #![tactic(auto)]
 
-mod asking;
-mod connection;
 mod ends;
 mod metainfo_file;
 mod piece;
-mod reply;
 mod report;
 mod top;
 mod words;

@@ -21,7 +21,7 @@ use dl_disk::Disk;
 use dl_kinds::Sink;
 use link_source::Links;
 use metainfo::{Meta, metainfo_is_sound};
-use range_http::head_laws;
+use request_chain::fetched_is_one;
 use std::alloc::Global;
 
 /// What a run hands back.
@@ -59,8 +59,8 @@ fn fetch_and_report<D: Disk, L: Links, O: Sink>(
         (λ pieces. IsTrue L.tells → CountsRight (info_of meta.now) (gained (L.streams link.old) (L.streams link.new)) result pieces)
         (O.taken out.old) (O.taken out.new) }
 {
-    // No stream begins with two heads, so the streams tell one thing.
-    head_laws();
+    // The streams tell one thing.
+    fetched_is_one();
     let progress = fetch_payload(alloc, disk, link, meta);
     report_progress(alloc, gids, meta, &progress, out)
 }
@@ -77,7 +77,7 @@ fn run_named<D: Disk, L: Links, O: Sink>(
     ensures known { IsStatus result }
     ensures words { result ≢ 28 }
     ensures metainfo { IsTrue D.tells → TellsMetainfo (D.seen disk.old name.now) result (D.faults disk.old) (D.faults disk.new) }
-    ensures says { IsEnd result → result ≢ 40 → result ≢ 17 → IsTrue D.tells → (info : Info) × Says (D.seen disk.old name.now) info }
+    ensures says { IsEnd result → result ≢ 40 → result ≢ 17 → result ≢ 3 → IsTrue D.tells → (info : Info) × Says (D.seen disk.old name.now) info }
     ensures work { IsTrue D.tells → IsTrue L.tells → (info : Info) → Says (D.seen disk.old name.now) info
         → TellsWork info (gained (L.streams link.old) (L.streams link.new)) result (L.faults link.old) (L.faults link.new) }
     ensures streams { IsTrue L.tells → KeepsStreams (L.streams link.old) (L.streams link.new) }
@@ -93,8 +93,10 @@ fn run_named<D: Disk, L: Links, O: Sink>(
         → Stays (D.seen disk.old) (D.seen disk.new) (D.may_leave disk.old) (D.may_leave disk.new) }
     ensures disk { result ≡ 17 → Rose (D.faults disk.old) (D.faults disk.new) }
     ensures sink { result ≡ 41 → Rose (O.faults out.old) (O.faults out.new) }
-    ensures refusal { (result ≡ 3) ⊎ (result ≡ 25) ⊎ (result ≡ 26) → IsTrue O.tells
+    ensures refusal { (result ≡ 25) ⊎ (result ≡ 26) → IsTrue O.tells
         → Told (O.taken out.old) (O.taken out.new) (error_line result) (O.faults out.old) (O.faults out.new) }
+    ensures missing { result ≡ 3 → IsTrue D.tells → IsTrue O.tells → ((info : Info) → Says (D.seen disk.old name.now) info → ⊥)
+        → Told (O.taken out.old) (O.taken out.new) (error_line 3) (O.faults out.old) (O.faults out.new) }
     ensures unread { result ≡ 17 → IsTrue D.tells → IsTrue O.tells → ((info : Info) → Says (D.seen disk.old name.now) info → ⊥)
         → Told (O.taken out.old) (O.taken out.new) (error_line 17) (O.faults out.old) (O.faults out.new) }
     ensures summary { result ≢ 40 → result ≢ 41 → IsTrue D.tells → IsTrue O.tells → (info : Info) → Says (D.seen disk.old name.now) info
@@ -105,7 +107,7 @@ fn run_named<D: Disk, L: Links, O: Sink>(
 {
     // What a metainfo file says is sound, so each piece asks for something, and no streams tell nothing else.
     metainfo_is_sound();
-    head_laws();
+    fetched_is_one();
     match read_metainfo(alloc, disk, name) {
         Ok(meta) => fetch_and_report(alloc, disk, link, &meta, gids, out),
         Err(Stop::Refused(refusal)) => report_refusal(alloc, refusal, out),
@@ -138,7 +140,7 @@ pub fn run<D: Disk, L: Links, O: Sink>(
         TellsMetainfo (D.seen disk name) result.status (D.faults disk) (D.faults result.disk)) }
     ensures disk { result.status ≡ 17 → Rose (D.faults disk) (D.faults result.disk) }
     ensures sink { result.status ≡ 41 → Rose (O.faults out.old) (O.faults out.new) }
-    ensures says { IsEnd result.status → result.status ≢ 40 → result.status ≢ 17 → IsTrue D.tells
+    ensures says { IsEnd result.status → result.status ≢ 40 → result.status ≢ 17 → result.status ≢ 3 → IsTrue D.tells
         → (info : Info) × IsToFetch words.now (D.seen disk) info }
     ensures work { IsTrue D.tells → IsTrue L.tells → (info : Info) → IsToFetch words.now (D.seen disk) info
         → TellsWork info (gained (at_first L.streams [] links.items) (at_first L.streams [] result.links.items)) result.status
@@ -168,8 +170,10 @@ pub fn run<D: Disk, L: Links, O: Sink>(
         → Stays (D.seen disk) (D.seen result.disk) (D.may_leave disk) (D.may_leave result.disk) }
 
     // What is written.
-    ensures refusal { (result.status ≡ 28) ⊎ (result.status ≡ 3) ⊎ (result.status ≡ 25) ⊎ (result.status ≡ 26) → IsTrue O.tells
+    ensures refusal { (result.status ≡ 28) ⊎ (result.status ≡ 25) ⊎ (result.status ≡ 26) → IsTrue O.tells
         → Told (O.taken out.old) (O.taken out.new) (error_line result.status) (O.faults out.old) (O.faults out.new) }
+    ensures missing { result.status ≡ 3 → IsTrue D.tells → IsTrue O.tells → ((info : Info) → IsToFetch words.now (D.seen disk) info → ⊥)
+        → Told (O.taken out.old) (O.taken out.new) (error_line 3) (O.faults out.old) (O.faults out.new) }
     // Where the disk failed at the metainfo file, which wants nothing, that is all that is written.
     ensures unread { result.status ≡ 17 → IsTrue D.tells → IsTrue O.tells → ((info : Info) → IsToFetch words.now (D.seen disk) info → ⊥)
         → Told (O.taken out.old) (O.taken out.new) (error_line 17) (O.faults out.old) (O.faults out.new) }

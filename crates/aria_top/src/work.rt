@@ -1,5 +1,5 @@
 // The work on a payload: its pieces are fetched in order, and each is written once it is right.
-ghost use Rattle.std.specs.Prelude.{◌≡◌, ◌≤◌, ◌<◌, ◌+◌, ◌⊎◌, None, Some, IsTrue, IfErr, IfSome, OnOk, OnErr, IsErrOf, min, length};
+ghost use Rattle.std.specs.Prelude.{◌≡◌, ◌≤◌, ◌<◌, ◌+◌, ◌⊎◌, None, Some, IsTrue, IfErr, IfSome, OnOk, OnErr, IsErrOf, length};
 ghost use Rattle.dl_words.specs.Counts.{Rose};
 ghost use Rattle.sha1.specs.Sha1.{sha1};
 ghost use Rattle.metainfo.specs.Info.{info_of};
@@ -8,43 +8,54 @@ ghost use Rattle.payload_files.specs.Names.{HasFolders};
 ghost use Rattle.payload_files.specs.Payload.{HasFiles};
 ghost use Rattle.aria_top.specs.Askings.{piece_count, size_of, digest_of};
 ghost use Rattle.aria_top.specs.Payload.{IsFetchable, PiecesStand, Stands, AreWritten};
-ghost use Rattle.aria_top.specs.Serving.{GivesPiece, Serves, KeepsServing, IsOfOutside};
-ghost use Rattle.aria_top.specs.Ends.{IsOfDisk};
+ghost use Rattle.aria_top.specs.Serving.{GivesPiece, Serves, KeepsContent, IsOfOutside};
+ghost use Rattle.aria_top.specs.Ends.{IsOfDisk, IsKnown, IsLinkFailure};
 ghost use Rattle.aria_top.specs.Worked.{PieceEnds, WorkEnds};
-ghost use Rattle.aria_top.specs.declared.ends.Failure.TheVariants.{Disk, Link};
+ghost use Rattle.aria_top.specs.declared.ends.Failure.TheVariants.{Disk};
 
 use crate::ends::{Failure, Progress};
 use crate::piece::fetch_piece;
 use dl_disk::Disk;
+use fetch_session::FetchRoom;
 use link_source::Links;
 use metainfo::Meta;
 use payload_files::{make_files, same_files_hold, sync_files, write_slice};
 use sha1::Sha1;
 use std::alloc::Global;
 
+// The digest that is listed of a piece.
+fn listed_digest(meta: &Meta, piece: u32) -> &[u8; 20]
+    requires fetchable { IsFetchable (info_of meta.now) }
+    requires within { piece < meta.now.plan.pieces }
+    ensures { result.now ≡ digest_of (info_of meta.now) piece }
+{
+    meta.digests.get(piece as usize).unwrap()
+}
+
 // Fetches a piece, and compares it with its digest.
 fn fetch_right<L: Links>(
     alloc: Global,
     link: &mut L,
+    room: FetchRoom,
     meta: &Meta,
     piece: u32,
-    into: &mut [u8],
-) -> Result<(), Failure>
+    into: &mut Vec<u8>,
+) -> Result<FetchRoom, Failure>
     requires fetchable { IsFetchable (info_of meta.now) }
     requires within { piece < meta.now.plan.pieces }
-    requires room { length into.old ≡ size_of (info_of meta.now) piece }
-    ensures right { OnOk result (sha1 into.new ≡ digest_of (info_of meta.now) piece) }
+    ensures len { OnOk result (length into.new.items ≡ size_of (info_of meta.now) piece) }
+    ensures right { OnOk result (sha1 into.new.items ≡ digest_of (info_of meta.now) piece) }
     ensures ends { IsTrue L.tells → PieceEnds (info_of meta.now) piece (L.streams link.old) (L.streams link.new) result }
     ensures served { IsTrue L.tells → GivesPiece (L.content link.old) (info_of meta.now) piece → IfErr result IsOfOutside }
-    ensures serving { IsTrue L.tells → KeepsServing (L.content link.old) (L.content link.new) }
+    ensures serving { IsTrue L.tells → KeepsContent (L.content link.old) (L.content link.new) }
     ensures disk { IsErrOf result Disk → ⊥ }
-    ensures link { IsErrOf result Link → Rose (L.faults link.old) (L.faults link.new) }
+    ensures known { IfErr result IsKnown }
+    ensures link { IfErr result (λ failure. IsLinkFailure failure → Rose (L.faults link.old) (L.faults link.new)) }
     ensures later { L.faults link.old ≤ L.faults link.new }
 {
-    fetch_piece(alloc, link, meta, piece, into)?;
-    let digest = meta.digests.get(piece as usize).unwrap();
-    if Sha1::digest(into) == *digest {
-        Ok(())
+    let room = fetch_piece(alloc, link, room, meta, piece, into)?;
+    if Sha1::digest(into) == *listed_digest(meta, piece) {
+        Ok(room)
     } else {
         Err(Failure::Digest)
     }
@@ -55,17 +66,18 @@ fn complete_piece<D: Disk, L: Links>(
     alloc: Global,
     disk: &mut D,
     link: &mut L,
+    room: FetchRoom,
     meta: &Meta,
     piece: u32,
-    buffer: &mut [u8],
-) -> Result<(), Failure>
+    buffer: &mut Vec<u8>,
+) -> Result<FetchRoom, Failure>
     requires fetchable { IsFetchable (info_of meta.now) }
     requires within { piece < meta.now.plan.pieces }
-    requires room { size_of (info_of meta.now) piece ≤ length buffer.old }
     ensures ends { IsTrue L.tells → PieceEnds (info_of meta.now) piece (L.streams link.old) (L.streams link.new) result }
     ensures served { IsTrue L.tells → GivesPiece (L.content link.old) (info_of meta.now) piece → IfErr result IsOfOutside }
-    ensures serving { IsTrue L.tells → KeepsServing (L.content link.old) (L.content link.new) }
-    ensures link { IsErrOf result Link → Rose (L.faults link.old) (L.faults link.new) }
+    ensures serving { IsTrue L.tells → KeepsContent (L.content link.old) (L.content link.new) }
+    ensures known { IfErr result IsKnown }
+    ensures link { IfErr result (λ failure. IsLinkFailure failure → Rose (L.faults link.old) (L.faults link.new)) }
     ensures later { L.faults link.old ≤ L.faults link.new }
     ensures written { OnOk result (IsTrue D.tells → PiecesStand (info_of meta.now) (D.seen disk.old) piece → PiecesStand (info_of meta.now) (D.seen disk.new) (piece + 1)) }
     ensures kept { IsTrue D.tells → PiecesStand (info_of meta.now) (D.seen disk.old) piece → PiecesStand (info_of meta.now) (D.seen disk.new) piece }
@@ -74,11 +86,10 @@ fn complete_piece<D: Disk, L: Links>(
     ensures disk { IsErrOf result Disk → Rose (D.faults disk.old) (D.faults disk.new) }
     ensures disk_later { D.faults disk.old ≤ D.faults disk.new }
 {
-    let (start, len) = meta.plan.piece_span(piece);
-    let bytes = &mut buffer[..len as usize];
-    fetch_right(alloc, link, meta, piece, bytes)?;
-    write_slice(alloc, disk, &meta.layout, start, bytes)?;
-    Ok(())
+    let room = fetch_right(alloc, link, room, meta, piece, buffer)?;
+    let (start, _) = meta.plan.piece_span(piece);
+    write_slice(alloc, disk, &meta.layout, start, buffer)?;
+    Ok(room)
 }
 
 fn stopped(failure: Failure, pieces: u32) -> Progress
@@ -96,15 +107,16 @@ fn complete_pieces<D: Disk, L: Links>(
     alloc: Global,
     disk: &mut D,
     link: &mut L,
+    room: FetchRoom,
     meta: &Meta,
-    buffer: &mut [u8],
+    buffer: &mut Vec<u8>,
 ) -> Progress
     requires fetchable { IsFetchable (info_of meta.now) }
-    requires room { min meta.now.plan.total meta.now.plan.piece_len ≤ length buffer.old }
     requires lengths { IsTrue D.tells → HasFiles meta.now.layout (D.seen disk.old) }
     ensures ends { IsTrue L.tells → WorkEnds (info_of meta.now) (L.streams link.old) (L.streams link.new) result.pieces result.failure }
     ensures served { IsTrue L.tells → Serves (L.content link.old) (info_of meta.now) → IfSome result.failure IsOfOutside }
-    ensures link { result.failure ≡ Some Link → Rose (L.faults link.old) (L.faults link.new) }
+    ensures known { IfSome result.failure IsKnown }
+    ensures link { IfSome result.failure (λ failure. IsLinkFailure failure → Rose (L.faults link.old) (L.faults link.new)) }
     ensures stand { IsTrue D.tells → PiecesStand (info_of meta.now) (D.seen disk.new) result.pieces }
     ensures all { result.failure ≡ None → result.pieces ≡ piece_count (info_of meta.now) }
     ensures others { IsTrue D.tells → KeepsOthers meta.now.layout (D.seen disk.old) (D.seen disk.new) (D.may_leave disk.old) (D.may_leave disk.new) }
@@ -112,9 +124,11 @@ fn complete_pieces<D: Disk, L: Links>(
     ensures disk { result.failure ≡ Some Disk → Rose (D.faults disk.old) (D.faults disk.new) }
     ensures later { D.faults disk.old ≤ D.faults disk.new }
 {
+    let mut room = room;
     'each: for piece in 0..meta.plan.pieces {
-        if let Err(failure) = complete_piece(alloc, disk, link, meta, piece, buffer) {
-            return stopped(failure, piece);
+        match complete_piece(alloc, disk, link, room, meta, piece, buffer) {
+            Ok(back) => room = back,
+            Err(failure) => return stopped(failure, piece),
         }
     }
     Progress {
@@ -152,7 +166,8 @@ fn complete<D: Disk, L: Links>(alloc: Global, disk: &mut D, link: &mut L, meta: 
     requires lengths { IsTrue D.tells → HasFiles meta.now.layout (D.seen disk.old) }
     ensures ends { IsTrue L.tells → WorkEnds (info_of meta.now) (L.streams link.old) (L.streams link.new) result.pieces result.failure }
     ensures served { IsTrue L.tells → Serves (L.content link.old) (info_of meta.now) → IfSome result.failure IsOfOutside }
-    ensures link { result.failure ≡ Some Link → Rose (L.faults link.old) (L.faults link.new) }
+    ensures known { IfSome result.failure IsKnown }
+    ensures link { IfSome result.failure (λ failure. IsLinkFailure failure → Rose (L.faults link.old) (L.faults link.new)) }
     ensures stand { IsTrue D.tells → PiecesStand (info_of meta.now) (D.seen disk.new) result.pieces }
     ensures all { result.failure ≡ None → result.pieces ≡ piece_count (info_of meta.now) }
     ensures lasts { result.failure ≡ None → IsTrue D.tells → Stands (info_of meta.now) (D.seen disk.new) (D.may_leave disk.new) }
@@ -162,10 +177,13 @@ fn complete<D: Disk, L: Links>(alloc: Global, disk: &mut D, link: &mut L, meta: 
     ensures later { D.faults disk.old ≤ D.faults disk.new }
 {
     let longest = meta.plan.total.min(meta.plan.piece_len as u64);
-    let Ok(mut buffer) = Vec::from_elem(alloc, 0, longest as usize) else {
+    let Ok(mut buffer) = Vec::with_capacity(alloc, longest as usize) else {
         return stopped(Failure::NoMemory, 0);
     };
-    let progress = complete_pieces(alloc, disk, link, meta, &mut buffer);
+    let Ok(room) = FetchRoom::new(alloc) else {
+        return stopped(Failure::NoMemory, 0);
+    };
+    let progress = complete_pieces(alloc, disk, link, room, meta, &mut buffer);
     if progress.failure.is_some() {
         return progress;
     }
@@ -183,7 +201,8 @@ pub fn fetch_payload<D: Disk, L: Links>(
     requires { IsFetchable (info_of meta.now) }
     ensures ends { IsTrue L.tells → WorkEnds (info_of meta.now) (L.streams link.old) (L.streams link.new) result.pieces result.failure }
     ensures served { IsTrue L.tells → Serves (L.content link.old) (info_of meta.now) → IfSome result.failure IsOfOutside }
-    ensures link { result.failure ≡ Some Link → Rose (L.faults link.old) (L.faults link.new) }
+    ensures known { IfSome result.failure IsKnown }
+    ensures link { IfSome result.failure (λ failure. IsLinkFailure failure → Rose (L.faults link.old) (L.faults link.new)) }
     ensures written { IsTrue D.tells → AreWritten (info_of meta.now) (D.seen disk.new) result.pieces result.failure }
     ensures all { result.failure ≡ None → result.pieces ≡ piece_count (info_of meta.now) }
     ensures lasts { result.failure ≡ None → IsTrue D.tells → Stands (info_of meta.now) (D.seen disk.new) (D.may_leave disk.new) }

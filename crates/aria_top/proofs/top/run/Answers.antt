@@ -66,3 +66,14 @@ pub returns-clause-unfetched : goal.returns-clause-unfetched
 returns-clause-unfetched g c tells none =
     let named : file_named c.args.words.now ≡ Some c.in-Some.name.now = sym c.metainfo_name.ensures ∙ ap option_copied c.in-Some.is in
     c.run_named-status.ensures.unfetched tells (λ info says. none info (says_to c.args.words.now (g.D.Disk.seen c.args.disk) c.in-Some.name.now info named says))
+
+pub returns-clause-says : goal.returns-clause-says
+returns-clause-says g c end not_memory not_disk not_missing tells =
+    let named : file_named c.args.words.now ≡ Some c.in-Some.name.now = sym c.metainfo_name.ensures ∙ ap option_copied c.in-Some.is in
+    let said = c.run_named-status.ensures.says end not_memory not_disk not_missing tells in
+    (said.0, says_to c.args.words.now (g.D.Disk.seen c.args.disk) c.in-Some.name.now said.0 named said.1)
+
+pub returns-clause-missing : goal.returns-clause-missing
+returns-clause-missing g c is tells sink_tells none =
+    let named : file_named c.args.words.now ≡ Some c.in-Some.name.now = sym c.metainfo_name.ensures ∙ ap option_copied c.in-Some.is in
+    c.run_named-status.ensures.missing is tells sink_tells (λ info says. none info (says_to c.args.words.now (g.D.Disk.seen c.args.disk) c.in-Some.name.now info named says))

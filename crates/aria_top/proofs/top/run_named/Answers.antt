@@ -6,7 +6,7 @@ use Rattle.aria_top.specs.Serving.{Serves}
 use Rattle.aria_top.specs.Run.{gained, CountsRight, Summarized}
 use Rattle.aria_top.specs.declared.metainfo_file.Stop.TheVariants.{Refused}
 use Rattle.aria_top.proofs.Keeping.{stayed_on}
-use Rattle.aria_top.proofs.Saying.{says_once, says_sound, refused_disk, quiet_tells, disk_line, rose_before}
+use Rattle.aria_top.proofs.Saying.{says_metainfo, says_once, says_sound, refused_disk, quiet_tells, disk_line, rose_before}
 use Rattle.aria_top.proofs.top.run_named.Goals as goal
 
 pub returns-in-Ok-clause-served : goal.returns-in-Ok-clause-served
@@ -31,7 +31,7 @@ pub returns-in-Err-Refused-clause-work : goal.returns-in-Err-Refused-clause-work
 returns-in-Err-Refused-clause-work g c tells link_tells info says =
     let stop : TellsStop (g.D.Disk.seen c.args.disk.now c.args.name.now) (Refused c.in-Err-Refused.refusal) =
     subst (TellsStop (g.D.Disk.seen c.args.disk.now c.args.name.now)) c.in-Err-Refused.field-0-is (c.in-Err-Refused.ensures.told tells) in
-    quiet_tells c.head_laws.ensures.one c.head_laws.ensures.finished info (g.L.Links.streams c.args.link.now) c.in-Err-Refused.refusal c.report_refusal.result _ _ (says_sound c.metainfo_is_sound.ensures _ info says)
+    quiet_tells c.fetched_is_one.ensures info (g.L.Links.streams c.args.link.now) c.in-Err-Refused.refusal c.report_refusal.result _ _ (says_sound c.metainfo_is_sound.ensures _ info says)
     (refused_disk _ info c.in-Err-Refused.refusal says stop) c.report_refusal.ensures.status
 
 pub returns-in-Err-Refused-clause-summary : goal.returns-in-Err-Refused-clause-summary
@@ -40,3 +40,6 @@ returns-in-Err-Refused-clause-summary g c not_memory not_sink tells sink_tells i
     subst (TellsStop (g.D.Disk.seen c.args.disk.now c.args.name.now)) c.in-Err-Refused.field-0-is (c.in-Err-Refused.ensures.told tells) in
     inr (disk_line c.in-Err-Refused.refusal c.report_refusal.result _ _ _ _ (refused_disk _ info c.in-Err-Refused.refusal says stop) c.report_refusal.ensures.status not_memory
     (λ is. c.report_refusal.ensures.line is sink_tells))
+
+pub returns-in-Ok-clause-metainfo : goal.returns-in-Ok-clause-metainfo
+returns-in-Ok-clause-metainfo g c tells = says_metainfo _ (info_of c.in-Ok.meta) _ _ _ (c.in-Ok.ensures.told tells) c.fetch_and_report.ensures.known

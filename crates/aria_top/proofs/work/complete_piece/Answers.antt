@@ -1,4 +1,5 @@
-use Rattle.std.proofs.Common.{◌≡◌, length, arith, length-take}
+use Rattle.std.proofs.Common.{◌≡◌, ◌∙◌, length, ap, arith}
+use Rattle.sha1.specs.Sha1.{sha1}
 use Rattle.metainfo.specs.Info.{info_of}
 use Rattle.aria_top.specs.Askings.{size_of}
 use Rattle.aria_top.proofs.Standing.{stand_torn, stand_more}
@@ -16,7 +17,6 @@ returns-clause-kept g c told stand =
 pub returns-clause-written : goal.returns-clause-written
 returns-clause-written g c told stand =
     let kept = stand_torn (info_of c.args.meta.now) _ _ c.args.piece _ _ c.requires.fetchable.sound (omega arith) c.piece_span-start.ensures.start (c.write_slice.ensures.torn told) stand in
-    let size : length c.fetch_right.new.into ≡ size_of (info_of c.args.meta.now) c.args.piece =
-    omega (arith, c.fetch_right.auto.into, c.requires.room, c.piece_span-start.ensures.start, c.piece_span-start.ensures.end, length-take c.piece_span-start.result.1 c.args.buffer.now) in
-    stand_more (info_of c.args.meta.now) (g.D.Disk.seen c.write_slice.new.disk) c.args.piece _ (length c.fetch_right.new.into) c.fetch_right.new.into
-    c.piece_span-start.ensures.start size (c.in_ok-write_slice.ensures.held told stand.lengths) c.in_ok-fetch_right.ensures.right kept
+    let size : length c.deref.result.now ≡ size_of (info_of c.args.meta.now) c.args.piece = ap length c.deref.ensures.value ∙ c.in_ok-room.ensures.len in
+    stand_more (info_of c.args.meta.now) (g.D.Disk.seen c.write_slice.new.disk) c.args.piece _ (length c.deref.result.now) c.deref.result.now
+    c.piece_span-start.ensures.start size (c.in_ok-write_slice.ensures.held told stand.lengths) (ap sha1 c.deref.ensures.value ∙ c.in_ok-room.ensures.right) kept

@@ -5,22 +5,22 @@ use Rattle.aria_top.specs.Worked.{WorkLost}
 use Rattle.aria_top.specs.declared.ends.Failure.{Failure}
 use Rattle.aria_top.proofs.Gaining.{gained_on}
 use Rattle.aria_top.proofs.Keeping.{kept_on}
-use Rattle.aria_top.proofs.Served.{gives_piece_on}
+use Rattle.aria_top.proofs.Served.{gives_piece_on, content_on}
 use Rattle.aria_top.proofs.Working.{work_goes_on, work_lost, work_done}
 use Rattle.aria_top.proofs.work.complete_pieces.Goals as goal
 
 pub each-preserved : goal.each-preserved
 each-preserved g c = record {
-  serving = λ told asking bytes gives. c.complete_piece.ensures.serving told asking bytes (c.each.invariant.serving told asking bytes gives);
+  serving = λ told. content_on _ _ _ (c.each.invariant.serving told) (c.complete_piece.ensures.serving told);
   link_later = omega (arith, c.complete_piece.ensures.later, c.each.invariant.link_later);
   came = λ told.
       let was = c.each.invariant.came told in
-      let ends = c.in_default.ensures.ends told in (
+      let ends = c.in-Ok.ensures.ends told in (
         was.0 ++ ends.gained,
         gained_on _ _ _ was.0 ends.gained was.1 ends.gains,
         work_goes_on (info_of c.args.meta.now) c.each.piece (omega arith) was.0 ends.gained was.2 ends.ends,
       );
-  stand = λ told. c.in_default.ensures.written told (c.each.invariant.stand told);
+  stand = λ told. c.in-Ok.ensures.written told (c.each.invariant.stand told);
   others = λ told. kept_on c.args.meta.now.layout _ _ _ _ _ _ (c.each.invariant.others told) (c.complete_piece.ensures.others told);
   folders = λ told. c.complete_piece.ensures.folders told ∙ c.each.invariant.folders told;
   later = omega (arith, c.complete_piece.ensures.disk_later, c.each.invariant.later);

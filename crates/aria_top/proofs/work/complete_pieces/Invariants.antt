@@ -3,15 +3,15 @@ use Rattle.link_source.specs.Streams.{Stream}
 use Rattle.metainfo.specs.Info.{info_of}
 use Rattle.payload_files.specs.Changes.{KeepsOthers}
 use Rattle.aria_top.specs.Askings.{piece_count}
-use Rattle.aria_top.specs.Fetched.{Ending, Gains}
+use Rattle.request_chain.specs.Chains.{Gains}
 use Rattle.aria_top.specs.Payload.{PiecesStand}
-use Rattle.aria_top.specs.Serving.{KeepsServing}
-use Rattle.aria_top.specs.Worked.{WorkedFrom, Worked}
+use Rattle.aria_top.specs.Serving.{KeepsContent}
+use Rattle.aria_top.specs.Worked.{Ending, WorkedFrom, Worked}
 use Rattle.aria_top.proofs.work.complete_pieces.Given as goal
 
 abbrev pub invariant-each : goal.invariant-each
 invariant-each g l = record {
-  serving : IsTrue g.L.Links.tells → KeepsServing (g.L.Links.content l.fn.link) (g.L.Links.content l.link);
+  serving : IsTrue g.L.Links.tells → KeepsContent (g.L.Links.content l.fn.link) (g.L.Links.content l.link);
   link_later : g.L.Links.faults l.fn.link ≤ g.L.Links.faults l.link;
   came : IsTrue g.L.Links.tells → (gained : List Stream) × Gains (g.L.Links.streams l.fn.link) (g.L.Links.streams l.link) gained
       × ((more : List Stream) (right : ℕ) (ending : Ending) → WorkedFrom (info_of l.meta) l.piece (piece_count (info_of l.meta) - l.piece) more right ending

@@ -1,0 +1,43 @@
+-- What a fetch holds back, and what its losses tell.
+use Rattle.std.proofs.Common.{◌≡◌, ◌≤◌, arith, ℕ, List, Option, Some, None, IfSome, Result, Ok, Err, refl, sym, ◌∙◌}
+use Rattle.dl_words.specs.Counts.{Rose}
+use Rattle.link_source.specs.Streams.{Stream}
+use Rattle.reply_reader.specs.declared.loss.Loss.{Loss}
+use Rattle.reply_reader.specs.declared.loss.Loss.TheVariants as losses
+use Rattle.request_chain.specs.Chains.{TellsLoss}
+use Rattle.span_map.specs.declared.jobs.JobPart.{JobPart}
+use Rattle.aria_top.specs.Ends.{IsLinkLoss}
+use Rattle.aria_top.specs.Fetched.{EndsIn, ending_of}
+
+-- where no loss is answered, none was held back
+pub none_held : {T : Type 0} (lost : Option Loss) (result : Result T Loss) (got : T) → IfSome lost (λ loss. result ≡ Err loss) → result ≡ Ok got → lost ≡ None
+none_held None result got held is = refl
+none_held (Some loss) result got held is = let both : Ok got ≡ Err loss = sym is ∙ held in cc
+
+-- a loss of the link has a cause
+pub link_held : (lost : Option Loss) (Cause : Type 0) → ((count : ℕ) → lost ≡ Some (losses.Link count) → Cause) → IfSome lost (λ loss. IsLinkLoss loss → Cause)
+link_held None Cause cause = tt
+link_held (Some (losses.Link count)) Cause cause = λ _. cause count refl
+link_held (Some losses.NotFound) Cause cause = λ no. absurd no
+link_held (Some (losses.Refused status code)) Cause cause = λ no. absurd no
+link_held (Some losses.BadReply) Cause cause = λ no. absurd no
+link_held (Some (losses.Length told want)) Cause cause = λ no. absurd no
+link_held (Some (losses.Short got)) Cause cause = λ no. absurd no
+link_held (Some losses.Redirects) Cause cause = λ no. absurd no
+link_held (Some losses.NoMemory) Cause cause = λ no. absurd no
+
+-- what a loss tells is how it ended
+pub tells_ending : (parts : List JobPart) (used : List Stream) (bytes : List ℕ) (faults : ℕ) (loss : Loss) → TellsLoss parts used bytes faults loss → IfSome (ending_of loss) (EndsIn parts used)
+tells_ending parts used bytes faults (losses.Link count) (fetched, same) = (bytes, fetched)
+tells_ending parts used bytes faults losses.NotFound fetched = (bytes, fetched)
+tells_ending parts used bytes faults (losses.Refused status code) fetched = (bytes, fetched)
+tells_ending parts used bytes faults losses.BadReply fetched = (bytes, fetched)
+tells_ending parts used bytes faults (losses.Length told want) fetched = (bytes, fetched)
+tells_ending parts used bytes faults (losses.Short got) fetched = (bytes, fetched)
+tells_ending parts used bytes faults losses.Redirects fetched = (bytes, fetched)
+tells_ending parts used bytes faults losses.NoMemory fetched = tt
+
+-- the cause of a loss that is held back is one since an earlier count too
+pub held_on : (lost : Option Loss) (a b c : ℕ) → a ≤ b → IfSome lost (λ loss. IsLinkLoss loss → Rose b c) → IfSome lost (λ loss. IsLinkLoss loss → Rose a c)
+held_on None a b c later held = tt
+held_on (Some loss) a b c later held = λ is. let rose : Rose b c = held is in omega (arith, rose)
