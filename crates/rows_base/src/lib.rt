@@ -8,8 +8,12 @@ mod bodies;
 #[cfg(test)]
 mod heads;
 #[cfg(test)]
+mod jobs;
+#[cfg(test)]
 mod layouts;
 #[cfg(test)]
 mod metainfos;
 #[cfg(test)]
 mod numbers;
+#[cfg(test)]
+mod replies;
