@@ -11,7 +11,10 @@ import tempfile
 import cases  # each lists its cases
 import layouts
 import metainfos
+import moves
 import peers
+import replies
+import rests
 from mirrors import free_port
 from rooms import CASES, PROGRAM, Room, Skipped, Wrong
 

@@ -5,7 +5,7 @@ import socket
 from urllib.parse import quote
 
 from mirrors import Site, head, reply
-from rooms import LITTLE, about, case, files_of, request, want
+from rooms import LITTLE, about, case, files_of, want, want_asked
 from torrents import MOST_PIECES, changed, digests
 
 PIECE = 16_384
@@ -28,19 +28,15 @@ def parts(files, piece_length):
                 yield path, max(start, begin) - begin, min(stop, end) - begin - 1
 
 
-def want_asked(site, asked):
-    """The mirror was asked for these parts, each a target with its first and last byte, in this order."""
-    site.wait()
-    host = f"127.0.0.1:{site.port}"
-    wanted = [request(host, last, target, first) for target, first, last in asked]
-    for place, (was, right) in enumerate(itertools.zip_longest(site.requests, wanted)):
-        want(was == right, f"request {place} was {was!r}, and not {right!r}")
+def all_asked(payload, piece_length=PIECE, name="a"):
+    """Each part of each piece, in order, as a target with its first and last byte."""
+    asked = parts(files_of(payload, name), piece_length)
+    return [(f"/{quote(path)}", first, last) for path, first, last in asked]
 
 
 def want_all_asked(site, payload, piece_length=PIECE, name="a"):
     """The mirror was asked for each part of each piece, in order."""
-    asked = parts(files_of(payload, name), piece_length)
-    want_asked(site, [(f"/{quote(path)}", first, last) for path, first, last in asked])
+    want_asked(site, all_asked(payload, piece_length, name))
 
 
 def fetches_from_site(room, payload, piece_length=PIECE, name="a", **how):
@@ -90,12 +86,15 @@ def _(room):
 
 SECOND = THREE[PIECE : 2 * PIECE]
 LATER = [
-    (22, "404", head(b"Content-Length: 0", status=b"404 Not Found")),
-    (22, "503", head(b"Content-Length: 0", status=b"503 Service Unavailable")),
-    (22, "200, with the whole", head(b"Content-Length: 40000", status=b"200 OK") + THREE),
+    (3, "404", head(b"Content-Length: 0", status=b"404 Not Found")),
+    (24, "401", head(b"Content-Length: 0", status=b"401 Unauthorized")),
+    (29, "503", head(b"Content-Length: 0", status=b"503 Service Unavailable")),
+    (22, "500", head(b"Content-Length: 0", status=b"500 Internal Server Error")),
+    (22, "200, with the piece alone", head(b"Content-Length: 16384", status=b"200 OK") + SECOND),
+    (32, "200, with the whole in another order", head(b"Content-Length: 40000", status=b"200 OK") + THREE[::-1]),
     (22, "the first piece again", reply(THREE[:PIECE], total=40_000)),
     (22, "of another total", reply(SECOND, first=PIECE, total=40_001)),
-    (22, "shorter", reply(SECOND[:-1], first=PIECE, total=40_000)),
+    (22, "longer", reply(SECOND + THREE[-1:], first=PIECE, total=40_000)),
     (22, "no HTTP", b"hello\r\n\r\n"),
     (6, "missing", b""),
     (6, "cut in its head", reply(SECOND, first=PIECE, total=40_000)[:20]),
@@ -222,12 +221,17 @@ def _(room):
 @case("a later file that is missing, cut or longer")
 def _(room):
     files = [("x", THREE), ("y", b"hello"), ("z", THREE)]
-    for name, content in (("missing", None), ("cut", b"hell"), ("longer", b"hello!"), ("empty", b"")):
+    for status, name, content in (
+        (3, "missing", None),
+        (22, "cut", b"hell"),
+        (22, "longer", b"hello!"),
+        (22, "empty", b""),
+    ):
         with about(name), Site(served(files)) as site:
             site.files["/a/y"] = content
             room.torrent(site.url(target="/"), files, name="a")
             # the third piece lies in the first file, in the second and in the third
-            room.fails(22, files, 2 * PIECE)
+            room.fails(status, files, 2 * PIECE)
             want(len(site.requests) == 4, f"{len(site.requests)} requests came")
         for path, _ in files:
             os.remove(room.path(f"a/{path}"))

@@ -83,7 +83,7 @@ def _(room):
         want(len(first.connections) == 1, f"{len(first.connections)} connections came")
         os.remove(room.path("a"))
         room.torrent([*broken.WRONG_SEEDS, first.url(target="/b.bin"), second.url()])
-        room.fails(22)
+        room.fails(3)
         want(not second.connections, "the second seed was asked")
 
 

@@ -1,14 +1,18 @@
-"""Mirrors on loopback: two that record what they are asked, and nginx."""
+"""Mirrors on loopback: two that record what they are asked, nginx, and Python's http.server."""
 import contextlib
 import os
 import re
 import socket
 import struct
 import subprocess
+import sys
 import threading
 import time
 
 PATIENCE = 100
+
+# The fields of a right reply with `hello`.
+RANGE, LENGTH = b"Content-Range: bytes 0-4/5", b"Content-Length: 5"
 
 
 def reply(payload, *more, status=b"206 Partial Content", first=0, total=None):
@@ -254,35 +258,24 @@ http {{
 """
 
 
-class Nginx:
-    """nginx over the folder `www` of a room, on one port of each of these addresses."""
+class Served:
+    """Another program that serves the folder `www` of a room."""
 
-    def __init__(self, room, hosts):
-        self.room, self.hosts = room, hosts
+    def __init__(self, room):
+        self.room = room
         self.www = f"{room}/www"
         os.mkdir(self.www)
 
-    def __enter__(self):
-        for _ in range(5):
-            self.port = free_port(*self.hosts)
-            listen = " ".join(f"listen {f'[{it}]' if ':' in it else it}:{self.port};" for it in self.hosts)
-            with open(f"{self.room}/nginx.conf", "w", encoding="ascii") as it:
-                it.write(CONFIG.format(room=self.room, listen=listen))
-            words = ["nginx", "-p", self.room, "-c", f"{self.room}/nginx.conf", "-e", f"{self.room}/error.log"]
-            with open(f"{self.room}/nginx.out", "wb") as out:
-                self.process = subprocess.Popen(words, stdin=subprocess.DEVNULL, stdout=out, stderr=out)
-            if self.answers():
-                return self
-            self.__exit__()
-        with open(f"{self.room}/error.log", encoding="utf-8", errors="replace") as it:
-            raise OSError(f"nginx doesn't start: {it.read()[-300:]}")
-
-    def answers(self):
+    def start(self, words, host, port):
+        """Starts the program, and says whether it answers."""
+        self.port = port
+        with open(f"{self.room}/served.out", "wb") as out:
+            self.process = subprocess.Popen(words, stdin=subprocess.DEVNULL, stdout=out, stderr=out)
         for _ in range(200):
             if self.process.poll() is not None:
                 return False
             try:
-                socket.create_connection((self.hosts[0], self.port), 1).close()
+                socket.create_connection((host, port), 1).close()
                 return True
             except OSError:
                 time.sleep(0.05)
@@ -304,3 +297,38 @@ class Nginx:
 
     def url(self, host="127.0.0.1", target="/a.bin"):
         return f"http://{host}:{self.port}{target}".encode()
+
+
+class Nginx(Served):
+    """nginx, on one port of each of these addresses."""
+
+    def __init__(self, room, hosts):
+        super().__init__(room)
+        self.hosts = hosts
+
+    def __enter__(self):
+        for _ in range(5):
+            port = free_port(*self.hosts)
+            listen = " ".join(f"listen {f'[{it}]' if ':' in it else it}:{port};" for it in self.hosts)
+            with open(f"{self.room}/nginx.conf", "w", encoding="ascii") as it:
+                it.write(CONFIG.format(room=self.room, listen=listen))
+            words = ["nginx", "-p", self.room, "-c", f"{self.room}/nginx.conf", "-e", f"{self.room}/error.log"]
+            if self.start(words, self.hosts[0], port):
+                return self
+            self.__exit__()
+        with open(f"{self.room}/error.log", encoding="utf-8", errors="replace") as it:
+            raise OSError(f"nginx doesn't start: {it.read()[-300:]}")
+
+
+class PythonServer(Served):
+    """The server of Python's http.server, which answers a request for a range with the whole file."""
+
+    def __enter__(self):
+        for _ in range(5):
+            port = free_port("127.0.0.1")
+            words = [sys.executable, "-m", "http.server", "--bind", "127.0.0.1", "--directory", self.www, str(port)]
+            if self.start(words, "127.0.0.1", port):
+                return self
+            self.__exit__()
+        with open(f"{self.room}/served.out", encoding="utf-8", errors="replace") as it:
+            raise OSError(f"http.server doesn't start: {it.read()[-300:]}")

@@ -1,18 +1,24 @@
-"""The cases with nginx as the mirror, and with aria2, mktorrent and transmission beside the program."""
+"""The cases with nginx and http.server as mirrors, and with aria2, mktorrent and transmission beside the program."""
 import contextlib
 import hashlib
 import os
 import subprocess
 import tempfile
 
-from mirrors import Nginx
-from rooms import Wrong, case, files_of, want
-from torrents import MOST_PIECE, bencoded, info_of
+from mirrors import Nginx, PythonServer
+from rooms import LITTLE, Wrong, case, files_of, want
+from torrents import MOST_PIECE, bencoded, info_of, whole
 
 
 @contextlib.contextmanager
 def nginx(*hosts):
     with tempfile.TemporaryDirectory(prefix="nginx-") as folder, Nginx(folder, hosts or ("127.0.0.1",)) as it:
+        yield it
+
+
+@contextlib.contextmanager
+def http_server():
+    with tempfile.TemporaryDirectory(prefix="served-") as folder, PythonServer(folder) as it:
         yield it
 
 
@@ -51,7 +57,7 @@ def _(room):
         room.torrent(mirror.url())
         room.fails(32)
         room.torrent(mirror.url(target="/b.bin"))
-        room.fails(22)
+        room.fails(3)
         mirror.put("a.bin", b"hell")
         room.torrent(mirror.url())
         room.fails(22)
@@ -64,6 +70,46 @@ def _(room):
         mirror.put("a.bin", payload)
         room.torrent(mirror.url(), payload, piece_length=MOST_PIECE)
         room.fetches(payload, limit=100)
+
+
+LONG = os.urandom(64 << 20)
+
+
+@case("64 MiB in pieces of 1 MiB from nginx", "nginx")
+def _(room):
+    with nginx() as mirror:
+        mirror.put("a.bin", LONG)
+        room.torrent(mirror.url(), LONG, piece_length=1 << 20)
+        room.fetches(LONG, limit=100, shell=LITTLE)
+
+
+@case("64 MiB in pieces of 1 MiB from http.server, which sends the whole file for each", slow=True)
+def _(room):
+    with http_server() as mirror:
+        mirror.put("a.bin", LONG)
+        room.torrent(mirror.url(), LONG, piece_length=1 << 20)
+        room.fetches(LONG, limit=100, shell=LITTLE)
+
+
+@case("several files from http.server")
+def _(room):
+    with http_server() as mirror:
+        for path, content in files_of(TREE, "bäume x"):
+            mirror.put(path, content)
+        room.torrent(mirror.url(target="/"), TREE, name="bäume x", piece_length=PIECE)
+        room.fetches(TREE, "bäume x")
+        os.remove(f"{mirror.www}/bäume x/5/a/b/c/d/e/f")
+        os.rename(room.path("bäume x"), room.path("fetched"))
+        room.fails(3, TREE, len(whole(TREE)) // PIECE * PIECE, "bäume x")
+
+
+@case("a folder's name, which is moved to the name with a slash", "nginx")
+def _(room):
+    for serve in (nginx, http_server):
+        with serve() as mirror:
+            mirror.put("a.bin/index.html", b"hello")
+            room.torrent(mirror.url())
+            room.fetches(b"hello")
 
 
 # Metainfo files that other programs make, in pieces of 32 KiB.
@@ -156,7 +202,7 @@ for _maker in MAKERS:
         with nginx() as mirror:
             make(maker, room, mirror, payload, "n")
             os.remove(f"{mirror.www}/n/y")
-            room.fails(22, payload, 3 * PIECE, "n")
+            room.fails(3, payload, 3 * PIECE, "n")
 
     @case(f"transmission-show reads what is fetched, by {_maker}", "nginx", _maker, "transmission-show")
     def _(room, maker=_maker):

@@ -1,5 +1,6 @@
 """A folder in which the program runs, what is wanted of a run, and the list of cases."""
 import contextlib
+import itertools
 import os
 import re
 import subprocess
@@ -65,6 +66,15 @@ def request(host, last, target="/a.bin", first=0):
         "",
     ]
     return "".join(f"{it}\r\n" for it in lines).encode()
+
+
+def want_asked(mirror, asked):
+    """The mirror was asked for these parts, each a target with its first and last byte, in this order."""
+    mirror.wait()
+    host = f"127.0.0.1:{mirror.port}"
+    wanted = [request(host, last, target, first) for target, first, last in asked]
+    for place, (was, right) in enumerate(itertools.zip_longest(mirror.requests, wanted)):
+        want(was == right, f"request {place} was {was!r}, and not {right!r}")
 
 
 def files_of(payload, name):
