@@ -1,5 +1,5 @@
 """Metainfo files that are refused, each with a name, and unusual ones that are taken."""
-from torrents import (
+from lib.torrents import (
     MOST_FILE,
     MOST_PIECE,
     MOST_PIECES,

@@ -1,42 +1,11 @@
 """The cases of payloads of many pieces and many files."""
-import itertools
 import os
 import socket
-from urllib.parse import quote
 
-from mirrors import Site, head, reply
-from rooms import LITTLE, about, case, files_of, want, want_asked
-from torrents import MOST_PIECES, changed, digests
-
-PIECE = 16_384
-# Three pieces, the last one of 7,232 bytes.
-THREE = os.urandom(40_000)
-
-
-def served(payload, name="a"):
-    """A mirror's files by their targets below `/`."""
-    return {f"/{quote(path)}": content for path, content in files_of(payload, name)}
-
-
-def parts(files, piece_length):
-    """For each piece, each file that it touches, with the first and the last byte of it there."""
-    begins = list(itertools.accumulate((len(content) for _, content in files), initial=0))
-    for start in range(0, begins[-1], piece_length):
-        stop = min(start + piece_length, begins[-1])
-        for (path, _), begin, end in zip(files, begins, begins[1:]):
-            if max(start, begin) < min(stop, end):
-                yield path, max(start, begin) - begin, min(stop, end) - begin - 1
-
-
-def all_asked(payload, piece_length=PIECE, name="a"):
-    """Each part of each piece, in order, as a target with its first and last byte."""
-    asked = parts(files_of(payload, name), piece_length)
-    return [(f"/{quote(path)}", first, last) for path, first, last in asked]
-
-
-def want_all_asked(site, payload, piece_length=PIECE, name="a"):
-    """The mirror was asked for each part of each piece, in order."""
-    want_asked(site, all_asked(payload, piece_length, name))
+from lib.mirrors import Site, head, reply
+from lib.payloads import PIECE, SMALL, THREE, served, want_all_asked
+from lib.rooms import LITTLE, about, case, files_of, want, want_asked
+from lib.torrents import MOST_PIECES, changed, digests
 
 
 def fetches_from_site(room, payload, piece_length=PIECE, name="a", **how):
@@ -155,15 +124,6 @@ def _(room):
 
 
 # Several files.
-
-# Pieces of 16 bytes: the first lies in the first file, the second spans three files, the third begins in an empty file.
-SMALL = [
-    ("x", b"0123456789abcdefgh"),
-    ("d/y", b"ijklm"),
-    ("d/e/ü z", b"nopqrstuv"),
-    ("d/none", b""),
-    ("w", b"wxyz"),
-]
 
 
 @case("several files in folders")

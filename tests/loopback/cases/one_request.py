@@ -4,7 +4,7 @@ import signal
 import threading
 import time
 
-from mirrors import (
+from lib.mirrors import (
     LENGTH,
     RANGE,
     Mirror,
@@ -19,8 +19,8 @@ from mirrors import (
     sends_byte_by_byte,
     sends_for_ever,
 )
-from rooms import BUILT, LITTLE, PROGRAM, TOP, Skipped, case, request, want
-from torrents import MOST_PIECE
+from lib.rooms import BUILT, LITTLE, PROGRAM, TOP, Skipped, case, request, want
+from lib.torrents import MOST_PIECE
 
 # Runs under these limits of 48 MiB of memory, and of one kilobyte a file at most.
 TOO_LITTLE = "ulimit -v 49152"

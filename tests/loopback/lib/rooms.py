@@ -6,9 +6,9 @@ import re
 import subprocess
 import sys
 
-from torrents import metainfo, whole
+from lib.torrents import metainfo, whole
 
-TOP = os.path.realpath(f"{os.path.dirname(__file__)}/../..")
+TOP = os.path.realpath(f"{os.path.dirname(__file__)}/../../..")
 BUILT = f"{TOP}/crates/aria_cli/out/aria_cli"
 PROGRAM = os.path.realpath(sys.argv[1])
 

@@ -1,10 +1,10 @@
 """The cases of the metainfo file: the files that are refused, and those that are taken."""
 import os
 
-import broken
-from mirrors import Site
-from rooms import about, case, want
-from torrents import MOST_FILE, metainfo
+from lib import broken
+from lib.mirrors import Site
+from lib.rooms import about, case, want
+from lib.torrents import MOST_FILE, metainfo
 
 
 @case("no metainfo file")

@@ -1,9 +1,9 @@
 """The cases of redirects."""
-from layouts import PIECE, SMALL, THREE, all_asked, served
-from mirrors import RANGE, free_port, head, reply, sends, sends_byte_by_byte, sends_for_ever
-from recording import CHUNKED, MANNERS, Recording, by_manner, in_chunks, interims, moved, part, shorter, whole
-from rests import FRONT, LOST, in_steps
-from rooms import about, case, want, want_asked
+from lib.mirrors import RANGE, free_port, head, reply, sends, sends_byte_by_byte, sends_for_ever
+from lib.payloads import PIECE, SMALL, THREE, all_asked, served
+from lib.recording import CHUNKED, MANNERS, Recording, by_manner, in_chunks, interims, moved, part, shorter, whole
+from lib.rests import FRONT, LOST, in_steps
+from lib.rooms import about, case, want, want_asked
 
 # A reply that says where else the resource is leads there.
 

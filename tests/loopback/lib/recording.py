@@ -3,7 +3,7 @@ import itertools
 import re
 from typing import NamedTuple
 
-from mirrors import Mirror, head, one_request, reply, sends, sends_and_stays
+from lib.mirrors import Mirror, head, one_request, reply, sends, sends_and_stays
 
 OK = b"200 OK"
 CHUNKED = b"Transfer-Encoding: chunked"

@@ -1,8 +1,8 @@
 """The cases of one reply: what is taken, in whatever way it comes, and what isn't."""
-from layouts import PIECE, SMALL, THREE, served, want_all_asked
-from mirrors import LENGTH, RANGE, head, reply, sends, sends_and_resets, sends_byte_by_byte, sends_for_ever
-from recording import CHUNKED, MANNERS, OK, Recording, by_manner, in_chunks, interims, part
-from rooms import LITTLE, about, case, want, want_asked
+from lib.mirrors import LENGTH, RANGE, head, reply, sends, sends_and_resets, sends_byte_by_byte, sends_for_ever
+from lib.payloads import PIECE, SMALL, THREE, served, want_all_asked
+from lib.recording import CHUNKED, MANNERS, OK, Recording, by_manner, in_chunks, interims, part
+from lib.rooms import LITTLE, about, case, want, want_asked
 
 # Replies to a request for all of `hello`. They are taken once its bytes came, whatever comes behind those.
 

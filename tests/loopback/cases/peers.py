@@ -5,9 +5,9 @@ import os
 import subprocess
 import tempfile
 
-from mirrors import Nginx, PythonServer
-from rooms import LITTLE, Wrong, case, files_of, want
-from torrents import MOST_PIECE, bencoded, info_of, whole
+from lib.mirrors import Nginx, PythonServer
+from lib.rooms import LITTLE, Wrong, case, files_of, want
+from lib.torrents import MOST_PIECE, bencoded, info_of, whole
 
 
 @contextlib.contextmanager
