@@ -1,7 +1,7 @@
 use Rattle.std.proofs.Common.{◌≡◌, ◌∙◌, ℕ, zero, suc, Bool, true, false, List, replicate, length, [], Some, None, sym, ap, subst, slice_get, arith}
 use Rattle.std.proofs.lemmas.Option.{slice_get_past}
 use Rattle.std.proofs.lemmas.List.{length-replicate}
-use Rattle.rows_claims.proofs.tables.fresh.Goals as goal
+use Rattle.tests_claims.proofs.tables.fresh.Goals as goal
 
 none_true : (n i : ℕ) → slice_get (replicate n false) i ≡ Some true → ⊥
 none_true zero i is = let e : None ≡ Some true = sym (slice_get_past [] i (omega arith)) ∙ is in cc
