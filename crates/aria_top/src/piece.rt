@@ -18,13 +18,13 @@ ghost use Rattle.aria_top.specs.Payload.{IsFetchable};
 ghost use Rattle.aria_top.specs.Serving.{KeepsContent, ServesFetch};
 ghost use Rattle.reply_reader.specs.Losses.{IsKnown as IsKnownLoss};
 ghost use Rattle.request_chain.specs.Honest.{AreHonest};
-ghost use Rattle.serving_laws.specs.Serving.{GivesAll};
+ghost use Rattle.memory_serving_laws.specs.Serving.{GivesAll};
 
 use dl_kinds::{NoMemory, Run};
 use fetch_session::{Fetch, FetchRoom, Loss};
 use link_source::Links;
 use metainfo::Meta;
-use serving_laws::{gains_are_honest, served_comes};
+use memory_serving_laws::{gains_are_honest, served_comes};
 use span_map::{Job, JobPart, JobParts, Part};
 use std::alloc::Global;
 
