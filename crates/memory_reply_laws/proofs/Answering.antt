@@ -5,7 +5,7 @@ use Rattle.std.specs.Prelude.{Option, Some, None}
 use Rattle.link_source.specs.BadAnswers.{next_bad}
 use Rattle.link_source.specs.Endpoint.{host_value}
 use Rattle.link_source.specs.Mirrors.{Content, Mirror, AddsReply, bad_at, file_at, mirror_reply, number_at, reply_by, reply_of}
-use Rattle.link_source.specs.Replies.{bare, text_under}
+use Rattle.link_source.specs.Replies.{bare_reply, text_under}
 use Rattle.link_source.specs.Requests.{request_of}
 use Rattle.link_source.specs.declared.bad_answers.Bad.{Bad}
 use Rattle.link_source.specs.declared.mirrors.Manner.{Manner}
@@ -20,7 +20,7 @@ requests_are_alike host target asked = refl
 found : (content : Content) (host : List ℕ) (port : ℕ) (target : List ℕ) (manner : Manner) (file : Option MemFile) (first last : ℕ)
     → Has content host port target manner file → reply_of content host port target first last ≡ reply_by manner file first last
 found content host port target manner file first last has =
-    ap (λ (at : Option Mirror). option_map_or (λ mirror. mirror_reply mirror target first last) at (bare [])) has.mirror_is
+    ap (λ (at : Option Mirror). option_map_or (λ mirror. mirror_reply mirror target first last) at (bare_reply [])) has.mirror_is
     ∙ ap (λ m. reply_by m (file_at has.mirror.files target) first last) has.manner_is
     ∙ ap (λ f. reply_by manner f first last) has.file_is
 

@@ -12,7 +12,7 @@ use Rattle.body_frames.specs.Lines.{Standing, Whole, Short}
 use Rattle.body_frames.specs.Written.{WritesSize, ChunkIsRead, LastChunkIsRead}
 use Rattle.dl_words.specs.Lists.{part_at}
 use Rattle.link_source.specs.Chunks.{chunk_at, chunk_count, in_chunks, last_chunk}
-use Rattle.link_source.specs.Requests.{line}
+use Rattle.link_source.specs.Requests.{ended_line}
 use Rattle.memory_reply_laws.specs.Replies.{ToldContentIsPlain}
 
 abbrev made : List ℕ → List ℕ → Standing → StreamBody
@@ -73,7 +73,7 @@ writes_size bytes small =
     record { numeral = is.0; value = is.1; fits = size_fits (length bytes) }
 
 one_chunk : (size bytes rest last : List ℕ)
-    → ((line size ++ line bytes) ++ rest) ++ last ≡ size ++ codes "\r\n" ++ bytes ++ codes "\r\n" ++ (rest ++ last)
+    → ((ended_line size ++ ended_line bytes) ++ rest) ++ last ≡ size ++ codes "\r\n" ++ bytes ++ codes "\r\n" ++ (rest ++ last)
 one_chunk size bytes rest last = regroup size (codes "\r\n") bytes rest last
   where
     regroup : (size end bytes rest last : List ℕ) → (((size ++ end) ++ (bytes ++ end)) ++ rest) ++ last ≡ size ++ end ++ bytes ++ end ++ (rest ++ last)

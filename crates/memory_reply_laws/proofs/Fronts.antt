@@ -9,7 +9,7 @@ use Rattle.range_http.specs.declared.framing.Framing.{Framing}
 use Rattle.range_http.specs.declared.verdict.Verdict.{Verdict}
 use Rattle.range_http.specs.HeadLaws.{HeadComesWhole, HeadStoodBefore}
 use Rattle.range_http.specs.Heads.{IsUnfinished}
-use Rattle.memory_reply_laws.specs.Reading.{HasHead, ContentComes, framing_seen}
+use Rattle.memory_reply_laws.specs.Reading.{BeginsWithHead, ContentComes, framing_seen}
 use Rattle.memory_reply_laws.specs.Replies.{FrontsAreRead, HeadFrontsAreRead}
 
 -- the content only grows
@@ -22,7 +22,7 @@ WrongStays = (framing : BodyFraming) (a b : List ℕ) → IsWrong framing a → 
 
 -- the front ends within the head, or has it
 short-or-whole : HeadComesWhole → HeadStoodBefore → (front rest : List ℕ) (asked : Asked) (status used : ℕ) (verdict : Verdict)
-    → HasHead (front ++ rest) asked status used verdict → IsUnfinished front ⊎ (HasHead front asked status used verdict × (used ≤ length front))
+    → BeginsWithHead (front ++ rest) asked status used verdict → IsUnfinished front ⊎ (BeginsWithHead front asked status used verdict × (used ≤ length front))
 short-or-whole comes_whole stood_before front rest asked status used verdict has = ⊎_elim
     (λ short. inl
     (let cut : take (length front) (front ++ rest) ≡ front = take-append-le (length front) front rest (omega arith) ∙ take_all (length front) front (omega arith) in
@@ -35,7 +35,7 @@ pub head_fronts_are_read : HeadComesWhole → HeadStoodBefore → HeadFrontsAreR
 head_fronts_are_read comes_whole stood_before reply front rest asked status used verdict has is = ⊎_elim
     (λ short. inl short)
     (λ (whole, long). inr whole)
-    (short-or-whole comes_whole stood_before front rest asked status used verdict (subst (λ bytes. HasHead bytes asked status used verdict) is has))
+    (short-or-whole comes_whole stood_before front rest asked status used verdict (subst (λ bytes. BeginsWithHead bytes asked status used verdict) is has))
 
 content-comes : ContentGrows → WrongStays → (stream rest content : List ℕ) (framing : Framing)
     → body_of (framing_seen framing) (stream ++ rest) ≡ record { content = content; rest = []; standing = Whole } → ContentComes stream framing content
@@ -58,4 +58,4 @@ fronts_are_read comes_whole stood_before grows wrong_stays reply front rest aske
       content-comes grows wrong_stays (drop read.used front) rest content framing
           (ap (body_of (framing_seen framing)) (sym (ap (drop read.used) is ∙ drop-append-le read.used front rest long)) ∙ read.body),
     ))
-    (short-or-whole comes_whole stood_before front rest asked status read.used verdict (subst (λ bytes. HasHead bytes asked status read.used verdict) is read.head))
+    (short-or-whole comes_whole stood_before front rest asked status read.used verdict (subst (λ bytes. BeginsWithHead bytes asked status read.used verdict) is read.head))

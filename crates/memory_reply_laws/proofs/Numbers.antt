@@ -12,10 +12,10 @@ use Rattle.std.specs.Prelude.{IsTrue, not, ◌||◌, ◌==◌}
 use Rattle.std.specs.Str.Parse.{AllDigits}
 use Rattle.httparse.proofs.TrimLemmas.{AllPass-reverse}
 use Rattle.httparse.specs.Grammar.{AllPass, is_value_byte, is_ows, skip_ows}
-use Rattle.range_http.specs.Range.{IsNumber}
+use Rattle.range_http.specs.Range.{WritesNumber}
 use Rattle.memory_reply_laws.proofs.Written.{IsValue}
 
-pub is_number : (n : ℕ) → n < 2 ^ 63 → IsNumber (decimal n) n
+pub is_number : (n : ℕ) → n < 2 ^ 63 → WritesNumber (decimal n) n
 is_number n small =
     let is = decimal_is_IsNumeral n (omega arith) in
     record { digits = is.0; value = is.1; small = small }

@@ -11,7 +11,7 @@ use Rattle.httparse.specs.Grammar.{is_token_byte}
 use Rattle.body_frames.specs.Written.{ChunkIsRead, LastChunkIsRead}
 use Rattle.dl_words.specs.Lists.{part_at}
 use Rattle.link_source.specs.Replies.{length_line, part_head, part_reply, body_text, text_of}
-use Rattle.link_source.specs.Requests.{line}
+use Rattle.link_source.specs.Requests.{ended_line}
 use Rattle.range_http.specs.declared.asked.Asked.{Asked}
 use Rattle.range_http.specs.declared.framing.Framing.{Framing}
 use Rattle.range_http.specs.declared.framing.Framing.TheVariants.{Length, Chunked as InChunks}
@@ -100,10 +100,10 @@ part-text : (chunked : Bool) (first last total : ℕ)
 unfolding part_head
 part-text chunked first last total =
     let n = last + 1 - first in
-    let start = line (codes "HTTP/1.1 206 Partial Content") in
+    let start = ended_line (codes "HTTP/1.1 206 Partial Content") in
     let range = field_text (range_field first last total) in
-    ap (λ field. start ++ range ++ field ++ line []) (framing-line chunked n)
-    ∙ two-lines start range (field_text (framing_field chunked n)) (line [])
+    ap (λ field. start ++ range ++ field ++ ended_line []) (framing-line chunked n)
+    ∙ two-lines start range (field_text (framing_field chunked n)) (ended_line [])
 
 pub range_is_written : (first last total : ℕ) → first < 2 ^ 63 → last < 2 ^ 63 → total < 2 ^ 63 → IsWritten (range_field first last total)
 unfolding is_token_byte

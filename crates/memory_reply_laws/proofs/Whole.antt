@@ -11,8 +11,8 @@ use Rattle.std.specs.Prelude.{All, IsTrue, Option, Some, None, is_none, codes, n
 use Rattle.httparse.proofs.TrimLemmas.{AllPass-reverse}
 use Rattle.httparse.specs.Grammar.{AllPass, is_token_byte, is_value_byte}
 use Rattle.link_source.specs.Leads.{IsReadable}
-use Rattle.link_source.specs.Replies.{moved, not_found, not_satisfiable, whole_head, text_of, bare}
-use Rattle.link_source.specs.Requests.{line}
+use Rattle.link_source.specs.Replies.{moved, not_found, not_satisfiable, whole_head, text_of, bare_reply}
+use Rattle.link_source.specs.Requests.{ended_line}
 use Rattle.range_http.specs.declared.asked.Asked.{Asked}
 use Rattle.range_http.specs.declared.framing.Framing.TheVariants.{Length, ToEnd}
 use Rattle.range_http.specs.declared.range.ContentRange.{ContentRange}
@@ -23,7 +23,7 @@ use Rattle.range_http.specs.Range.{IsContentRange, ◌>>=◌}
 use Rattle.range_http.specs.RangeLaws.{NumbersAreRead, RangesAreRead}
 use Rattle.range_http.specs.Verdict.{sized, framed_verdict, told_range, is_empty_range, verdict_of}
 use Rattle.memory_reply_laws.proofs.Bodies.{length_body, stream_body}
-use Rattle.memory_reply_laws.proofs.Numbers.{is_number, is_bare, bare as bare_bytes, decimal_short, values_pass, value_behind}
+use Rattle.memory_reply_laws.proofs.Numbers.{is_number, is_bare, bare_reply as bare_bytes, decimal_short, values_pass, value_behind}
 use Rattle.memory_reply_laws.proofs.Parts.{length_field_of, length_is_written}
 use Rattle.memory_reply_laws.proofs.Written.{field_text, head_text, IsValue, IsWritten, AreWritten, said, length_field, length_head, is_head, has_head, is_read}
 use Rattle.memory_reply_laws.specs.Reading.{IsKnownAs}
@@ -39,7 +39,7 @@ whole_fields total = length_field_of total ∷ []
 
 whole-text : (total : ℕ) → whole_head true total ≡ head_text (codes "200") (codes "OK") (whole_fields total)
 unfolding whole_head
-whole-text total = one-line (line (codes "HTTP/1.1 200 OK")) (field_text (length_field_of total)) (line [])
+whole-text total = one-line (ended_line (codes "HTTP/1.1 200 OK")) (field_text (length_field_of total)) (ended_line [])
 
 whole-written : (total : ℕ) → total < 2 ^ 63 → AreWritten (codes "200") (codes "OK") (whole_fields total)
 whole-written total small = record {
@@ -111,7 +111,7 @@ none-written = record {
   value = record { bytes = values_pass (codes "0") refl; front = refl; back = refl };
 }
 
-not_found-text : text_of (bare not_found) ≡ head_text (codes "404") (codes "Not Found") (none_field ∷ []) ++ []
+not_found-text : text_of (bare_reply not_found) ≡ head_text (codes "404") (codes "Not Found") (none_field ∷ []) ++ []
 unfolding not_found
 not_found-text = refl
 
@@ -144,7 +144,7 @@ two-lines start a b end = simp (append_assoc, append-nil)
 
 moved-text : (location : List ℕ) → moved location ≡ head_text (codes "302") (codes "Found") (moved_fields location)
 unfolding moved
-moved-text location = two-lines (line (codes "HTTP/1.1 302 Found")) (field_text (location_field location)) (field_text none_field) (line [])
+moved-text location = two-lines (ended_line (codes "HTTP/1.1 302 Found")) (field_text (location_field location)) (field_text none_field) (ended_line [])
 
 -- a test that each visible character passes
 passes : (test : ℕ → Bool) → ((b : ℕ) → 33 ≤ b → b ≤ 126 → test b ≡ true) → (text : List ℕ) → All (λ byte. (33 ≤ byte) × (byte ≤ 126)) text → AllPass test text
@@ -215,7 +215,7 @@ empty_fields = (codes "Content-Range", empty_text) ∷ none_field ∷ []
 
 empty-text : not_satisfiable 0 ≡ head_text (codes "416") (codes "Range Not Satisfiable") empty_fields
 unfolding not_satisfiable
-empty-text = two-lines (line (codes "HTTP/1.1 416 Range Not Satisfiable")) (field_text (codes "Content-Range", empty_text)) (field_text none_field) (line [])
+empty-text = two-lines (ended_line (codes "HTTP/1.1 416 Range Not Satisfiable")) (field_text (codes "Content-Range", empty_text)) (field_text none_field) (ended_line [])
 
 empty-written : AreWritten (codes "416") (codes "Range Not Satisfiable") empty_fields
 unfolding is_token_byte

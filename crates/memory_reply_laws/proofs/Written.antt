@@ -12,7 +12,7 @@ use Rattle.http_header.specs.HeaderMap.{append_all}
 use Rattle.http_header.specs.Token.{lowercase}
 use Rattle.httparse.proofs.TrimLemmas.{trim_ows_space}
 use Rattle.httparse.specs.Grammar.{AllPass, Field, IsField, IsToken, crlf, is_value_byte, skip_ows, print_field, ResponseHead, print_response}
-use Rattle.link_source.specs.Requests.{line}
+use Rattle.link_source.specs.Requests.{ended_line}
 use Rattle.body_frames.specs.Bodies.{body_of}
 use Rattle.body_frames.specs.Lines.{Whole}
 use Rattle.range_http.specs.declared.asked.Asked.{Asked}
@@ -21,14 +21,14 @@ use Rattle.range_http.specs.declared.head.Head.{Head}
 use Rattle.range_http.specs.declared.verdict.Verdict.{Verdict}
 use Rattle.range_http.specs.Heads.{IsHead, entry_of}
 use Rattle.range_http.specs.Verdict.{verdict_of}
-use Rattle.memory_reply_laws.specs.Reading.{HasHead, IsRead, framing_seen}
+use Rattle.memory_reply_laws.specs.Reading.{BeginsWithHead, ReadsAs, framing_seen}
 
 -- a name and a value with a space between them
 abbrev pub field_text : List ℕ × List ℕ → List ℕ
-field_text field = line (field.0 ++ codes ": " ++ field.1)
+field_text field = ended_line (field.0 ++ codes ": " ++ field.1)
 
 abbrev pub head_text : List ℕ → List ℕ → List (List ℕ × List ℕ) → List ℕ
-head_text digits reason fields = line (codes "HTTP/1.1 " ++ digits ++ codes " " ++ reason) ++ flat_map field_text fields ++ line []
+head_text digits reason fields = ended_line (codes "HTTP/1.1 " ++ digits ++ codes " " ++ reason) ++ flat_map field_text fields ++ ended_line []
 
 -- the bytes of a value, with no white space at its ends
 pub record IsValue (value : List ℕ) : Type 0 where
@@ -122,8 +122,8 @@ length_head digits reason fields =
     let front = codes "HTTP/1.1 " ++ digits ++ codes " " ++ reason in
     omega (
       arith,
-      length-append (line front ++ flat_map field_text fields) (line []),
-      length-append (line front) (flat_map field_text fields),
+      length-append (ended_line front ++ flat_map field_text fields) (ended_line []),
+      length-append (ended_line front) (flat_map field_text fields),
       length-append front (codes "\r\n"),
       length-append (codes "HTTP/1.1 " ++ digits ++ codes " ") reason,
       length-append (codes "HTTP/1.1 " ++ digits) (codes " "),
@@ -134,7 +134,7 @@ length_head digits reason fields =
 
 pub has_head : (digits reason : List ℕ) (fields : List (List ℕ × List ℕ)) (reply rest : List ℕ) (asked : Asked) (verdict : Verdict)
     → reply ≡ head_text digits reason fields ++ rest → AreWritten digits reason fields → verdict_of (said digits fields) asked ≡ verdict
-    → HasHead reply asked (digits_value 10 digits) (length (head_text digits reason fields)) verdict
+    → BeginsWithHead reply asked (digits_value 10 digits) (length (head_text digits reason fields)) verdict
 has_head digits reason fields reply rest asked verdict is are means = record {
   head = said digits fields;
   begins = subst (λ bytes. IsHead bytes (said digits fields) (length (head_text digits reason fields))) (sym is) (is_head digits reason fields rest are);
@@ -145,7 +145,7 @@ has_head digits reason fields reply rest asked verdict is are means = record {
 pub is_read : (digits reason : List ℕ) (fields : List (List ℕ × List ℕ)) (reply rest : List ℕ) (asked : Asked) (verdict : Verdict) (framing : Framing) (content : List ℕ)
     → reply ≡ head_text digits reason fields ++ rest → AreWritten digits reason fields → verdict_of (said digits fields) asked ≡ verdict
     → body_of (framing_seen framing) rest ≡ record { content = content; rest = []; standing = Whole }
-    → IsRead reply asked (digits_value 10 digits) verdict framing content
+    → ReadsAs reply asked (digits_value 10 digits) verdict framing content
 is_read digits reason fields reply rest asked verdict framing content is are means body = record {
   used = length (head_text digits reason fields);
   head = has_head digits reason fields reply rest asked verdict is are means;

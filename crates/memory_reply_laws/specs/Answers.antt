@@ -22,7 +22,7 @@ pub record Has (content : Content) (host : List ℕ) (port : ℕ) (target : List
   pub file_is : file_at mirror.files target ≡ file
 
 -- a request goes out on the newest stream, which leads to the host and the port and has nothing more to give
-pub record IsAsked (streams : List Stream) (due sent host : List ℕ) (port : ℕ) (target : List ℕ) (asked : Asked) : Type 0 where
+pub record IsRequested (streams : List Stream) (due sent host : List ℕ) (port : ℕ) (target : List ℕ) (asked : Asked) : Type 0 where
   pub newest : Stream
   pub older : List Stream
   pub streams_are : streams ≡ newest ∷ older
@@ -37,7 +37,7 @@ pub record IsAsked (streams : List Stream) (due sent host : List ℕ) (port : �
 abbrev pub RequestsAreAnswered : Type 0
 RequestsAreAnswered = (streams : List Stream) (due new_due sent host target : List ℕ) (port : ℕ) (asked : Asked)
     (content new_content : Content) (manner : Manner) (file : Option MemFile)
-    → Has content host port target manner file → IsAsked streams due sent host port target asked
+    → Has content host port target manner file → IsRequested streams due sent host port target asked
     → AddsReply streams sent content new_content due new_due
     → new_due ≡ text_under (bad_at content host port) (reply_by manner file asked.first asked.last)
 

@@ -13,7 +13,7 @@ use Rattle.range_http.specs.Heads.{IsHead, IsUnfinished}
 use Rattle.range_http.specs.Verdict.{verdict_of}
 
 -- the bytes begin with a head of this status and length, which means this for what was asked
-pub record HasHead (bytes : List ℕ) (asked : Asked) (status used : ℕ) (verdict : Verdict) : Type 0 where
+pub record BeginsWithHead (bytes : List ℕ) (asked : Asked) (status used : ℕ) (verdict : Verdict) : Type 0 where
   pub head : Head
   pub begins : IsHead bytes head used
   pub status_is : head.status ≡ status
@@ -26,15 +26,15 @@ framing_seen Chunked = BodyChunked
 framing_seen ToEnd = BodyToEnd
 
 -- the reply has such a head, and what stands behind it is a body of this framing and this content, and nothing else
-pub record IsRead (reply : List ℕ) (asked : Asked) (status : ℕ) (verdict : Verdict) (framing : Framing) (content : List ℕ) : Type 0 where
+pub record ReadsAs (reply : List ℕ) (asked : Asked) (status : ℕ) (verdict : Verdict) (framing : Framing) (content : List ℕ) : Type 0 where
   pub used : ℕ
-  pub head : HasHead reply asked status used verdict
+  pub head : BeginsWithHead reply asked status used verdict
   pub body : body_of (framing_seen framing) (drop used reply) ≡ record { content = content; rest = []; standing = Whole }
 
 -- the reply tells that the resource is at this location
 pub record IsReadAsMoved (reply : List ℕ) (asked : Asked) (location : List ℕ) : Type 0 where
   pub used : ℕ
-  pub has : HasHead reply asked 302 used Moved
+  pub has : BeginsWithHead reply asked 302 used Moved
   pub location_is : IsLocation has.head location
 
 -- ---- fronts
@@ -47,12 +47,12 @@ pub record ContentComes (stream : List ℕ) (framing : Framing) (content : List 
 
 -- the head is due, or it stands at the front
 abbrev pub HeadComes : List ℕ → Asked → ℕ → ℕ → Verdict → Type 0
-HeadComes front asked status used verdict = IsUnfinished front ⊎ HasHead front asked status used verdict
+HeadComes front asked status used verdict = IsUnfinished front ⊎ BeginsWithHead front asked status used verdict
 
 -- and behind it comes the content
 abbrev pub ReplyComes : List ℕ → Asked → ℕ → ℕ → Verdict → Framing → List ℕ → Type 0
 ReplyComes front asked status used verdict framing content =
-    IsUnfinished front ⊎ (HasHead front asked status used verdict × ContentComes (drop used front) framing content)
+    IsUnfinished front ⊎ (BeginsWithHead front asked status used verdict × ContentComes (drop used front) framing content)
 
 -- no other length is known than this one
 abbrev pub IsKnownAs : ℕ → Option ℕ → Type 0

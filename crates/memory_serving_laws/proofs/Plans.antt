@@ -14,7 +14,7 @@ use Rattle.link_source.specs.declared.mirrors.MemFile.{MemFile}
 use Rattle.link_source.specs.declared.mirrors.MemFile.TheVariants.{Bytes}
 use Rattle.request_chain.specs.Chains.{IsPart}
 use Rattle.request_chain.specs.Plans.{Done, Open, Lost, Plan, Ask, Over, plan_of}
-use Rattle.request_chain.specs.Redirects.{text_of, joined_to, moved_to, redirect_limit}
+use Rattle.request_chain.specs.Redirects.{location_text, joined_to, moved_to, redirect_limit}
 use Rattle.memory_serving_laws.specs.Serving.{GivesAll}
 use Rattle.span_map.specs.declared.jobs.JobPart.{JobPart}
 
@@ -90,5 +90,5 @@ pub moved_on : (url location next : List ℕ) → IsUtf8 location → IsJoined u
 moved_on url location next text joined =
     cond-true (is_utf8 location) (joined_to (parse_url None url) location) None (is_utf8-from_IsUtf8 location text)
     ∙ ap (λ parsed. joined_to parsed location) joined.base_is
-    ∙ ap text_of joined.joined_is
+    ∙ ap location_text joined.joined_is
     ∙ ap Some (sym joined.next_is)

@@ -7,7 +7,7 @@ use Rattle.body_frames.specs.Bodies.{StreamBody, content_of}
 use Rattle.dl_words.specs.Lists.{part_at}
 use Rattle.link_source.specs.Leads.{IsReadable}
 use Rattle.link_source.specs.Mirrors.{content_reply}
-use Rattle.link_source.specs.Replies.{bare, moved, text_of}
+use Rattle.link_source.specs.Replies.{bare_reply, moved, text_of}
 use Rattle.link_source.specs.declared.mirrors.Manner.{Manner}
 use Rattle.link_source.specs.declared.mirrors.Manner.TheVariants as manners
 use Rattle.range_http.specs.declared.asked.Asked.{Asked}
@@ -17,8 +17,8 @@ use Rattle.range_http.specs.declared.head.Head.{Head}
 use Rattle.range_http.specs.declared.verdict.Verdict.{Verdict}
 use Rattle.range_http.specs.declared.verdict.Verdict.TheVariants.{Part, Whole, Moved}
 use Rattle.range_http.specs.Fields.{values_of, sole}
-use Rattle.memory_reply_laws.specs.Reading.{HasHead, IsRead, IsKnownAs, framing_seen}
-use Rattle.memory_reply_laws.specs.Replies.{IsWithin, PartIsRead, ChunkedPartIsRead, WholeIsRead, StreamIsRead, MovedIsRead, last_of}
+use Rattle.memory_reply_laws.specs.Reading.{BeginsWithHead, ReadsAs, IsKnownAs, framing_seen}
+use Rattle.memory_reply_laws.specs.Replies.{AsksWithin, PartIsRead, ChunkedPartIsRead, WholeIsRead, StreamIsRead, MovedIsRead, last_of}
 use Rattle.reply_reader.specs.Answers.{Turn, Given, Away, Answer, Answers, without_bytes, slice_answer, part_slice, whole_slice, size_to, answer_by}
 use Rattle.reply_reader.specs.Heads.{HasFinalHead, HasInterims}
 use Rattle.reply_reader.specs.Slices.{Slice, framing_told, came_of, has_come}
@@ -27,7 +27,7 @@ use Rattle.reply_reader.specs.Slices.{Slice, framing_told, came_of, has_come}
 
 -- a head whose status isn't 1xx is the final one
 has-final-head : (reply : List ℕ) (asked : Asked) (status used : ℕ) (verdict : Verdict) → (nat_le 100 status && nat_lt status 200) ≡ false
-    → (has : HasHead reply asked status used verdict) → HasFinalHead reply has.head used
+    → (has : BeginsWithHead reply asked status used verdict) → HasFinalHead reply has.head used
 unfolding HasInterims
 has-final-head reply asked status used verdict final has = record {
   before = 0;
@@ -73,7 +73,7 @@ whole-slice slice last stream content wanted is taken all =
 
 -- a reply that is read so gives all that is asked for
 content-answers : (reply content wanted : List ℕ) (asked : Asked) (status : ℕ) (verdict : Verdict) (framing : Framing)
-    → (nat_le 100 status && nat_lt status 200) ≡ false → IsRead reply asked status verdict framing content → Takes asked verdict framing content wanted
+    → (nat_le 100 status && nat_lt status 200) ≡ false → ReadsAs reply asked status verdict framing content → Takes asked verdict framing content wanted
     → Answers asked reply false (given asked wanted)
 content-answers reply content wanted asked status verdict framing final read takes =
     let head = read.head.head in
@@ -129,7 +129,7 @@ module _ (bytes : List ℕ) (asked : Asked) (inside : IsInside bytes asked) wher
   known : IsKnownAs (length bytes) asked.total
   known = subst (IsKnownAs (length bytes)) (sym inside.total_is) refl
 
-  within : IsWithin bytes asked
+  within : AsksWithin bytes asked
   within = record { bounded = inside.bounded; ordered = inside.ordered; begins = omega (arith, inside.ordered, inside.ends); known = known }
 
   last-is : last_of bytes asked ≡ asked.last
@@ -150,15 +150,15 @@ module _ (bytes : List ℕ) (asked : Asked) (inside : IsInside bytes asked) wher
 -- ---- elsewhere
 
 pub moved_answers : MovedIsRead → (location : List ℕ) (asked : Asked) → IsReadable location
-    → Answers asked (text_of (bare (moved location))) false (without_bytes (Away 302 location))
+    → Answers asked (text_of (bare_reply (moved location))) false (without_bytes (Away 302 location))
 moved_answers moved_is_read location asked readable =
     let read = moved_is_read location asked readable in
     let head = read.has.head in
-    let stream = drop read.used (text_of (bare (moved location))) in
+    let stream = drop read.used (text_of (bare_reply (moved location))) in
     inr (inr (record {
       head = head;
       used = read.used;
-      begins = has-final-head (text_of (bare (moved location))) asked 302 read.used Moved refl read.has;
+      begins = has-final-head (text_of (bare_reply (moved location))) asked 302 read.used Moved refl read.has;
       is = sym (ap (λ v. answer_by head asked v stream false) read.has.means
           ∙ ap (λ s. without_bytes (Away s (unwrap_or (sole (values_of head (codes "location"))) []))) read.has.status_is
           ∙ ap (λ (values : List (List ℕ)). without_bytes (Away 302 (unwrap_or (sole values) []))) read.location_is.only);

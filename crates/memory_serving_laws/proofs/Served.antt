@@ -13,7 +13,7 @@ use Rattle.reply_reader.specs.Answers.{Due, Away, Answer, size_to}
 use Rattle.request_chain.specs.Exchanges.{Replies}
 use Rattle.request_chain.specs.Fetched.{FetchedBy}
 use Rattle.request_chain.specs.Honest.{IsHonest}
-use Rattle.request_chain.specs.Plans.{Ending, Done, Open, Lost, Plan, Ask, Over, plan_of, asked_of, behind, plan_behind, plan_at, next_plan}
+use Rattle.request_chain.specs.Plans.{Ending, Done, Open, Lost, Plan, Ask, Over, plan_of, asked_of, rest_behind, plan_behind, plan_at, next_plan}
 use Rattle.request_chain.specs.Redirects.{redirect_limit}
 use Rattle.memory_serving_laws.specs.Laws.{ServedComes}
 use Rattle.memory_serving_laws.proofs.Plans.{IsServed, Comes, plan_comes, LeadsOn, leads_on, usable, moved_on}
@@ -50,7 +50,7 @@ module _ (laws : Laws) (content : Content) (good : content.bad ≡ []) where
 
     -- all of the part came, and the others are asked for
     plan-is : plan_behind part parts asked.last ≡ plan_of parts
-    plan-is = cond-false (nat_lt asked.last asked.last) (plan_of (behind part asked.last ∷ parts)) (plan_of parts) (le-ltb asked.last asked.last (omega arith))
+    plan-is = cond-false (nat_lt asked.last asked.last) (plan_of (rest_behind part asked.last ∷ parts)) (plan_of parts) (le-ltb asked.last asked.last (omega arith))
 
     all-wanted : wanted served.resource asked ≡ part_at served.resource part.at part.len
     all-wanted =

@@ -7,7 +7,7 @@ use Rattle.request_chain.specs.Redirects.{redirect_limit}
 use Rattle.span_map.specs.declared.jobs.JobPart.{JobPart}
 
 -- the URL leads within 20 redirects to a resource of the length there, and these are the bytes that are asked for
-pub record Gives (content : Content) (part : JobPart) (bytes : List ℕ) : Type 0 where
+pub record ServesPart (content : Content) (part : JobPart) (bytes : List ℕ) : Type 0 where
   pub resource : List ℕ
   pub leads : Leads content redirect_limit part.url resource
   pub size : length resource ≡ part.total
@@ -17,4 +17,4 @@ pub record Gives (content : Content) (part : JobPart) (bytes : List ℕ) : Type 
 abbrev pub GivesAll : Content → List JobPart → List ℕ → Type 0
 GivesAll content [] bytes = bytes ≡ []
 GivesAll content (part ∷ parts) bytes =
-    (front rest : List ℕ) × Gives content part front × (bytes ≡ front ++ rest) × GivesAll content parts rest
+    (front rest : List ℕ) × ServesPart content part front × (bytes ≡ front ++ rest) × GivesAll content parts rest
