@@ -44,9 +44,9 @@ fn fetch_and_report<D: Disk, L: Links, O: Sink>(
 ) -> u8
     requires { IsFetchable (info_of meta.now) }
     ensures known { IsEnd result }
-    ensures work { IsTrue L.tells → TellsWork (info_of meta.now) (gained (L.streams link.old) (L.streams link.new)) result (L.faults link.old) (L.faults link.new) }
-    ensures streams { IsTrue L.tells → KeepsStreams (L.streams link.old) (L.streams link.new) }
-    ensures served { IsTrue L.tells → Serves (L.content link.old) (info_of meta.now)
+    ensures work { IsTrue L.tells → TellsWork (info_of meta.now) (gained (L.state link.old).streams (L.state link.new).streams) result (L.faults link.old) (L.faults link.new) }
+    ensures streams { IsTrue L.tells → KeepsStreams (L.state link.old).streams (L.state link.new).streams }
+    ensures served { IsTrue L.tells → Serves (L.state link.old).content (info_of meta.now)
         → (result ≡ 0) ⊎ (result ≡ 40) ⊎ Rose (D.faults disk.old) (D.faults disk.new) ⊎ Rose (L.faults link.old) (L.faults link.new) ⊎ Rose (O.faults out.old) (O.faults out.new) }
     ensures done { result ≡ 0 → IsTrue D.tells → PayloadStands (info_of meta.now) (D.seen disk.new) (D.may_leave disk.new) }
     ensures folders { result ≡ 0 → IsTrue D.tells → HasFolders meta.now.layout (D.folders disk.new) }
@@ -56,7 +56,7 @@ fn fetch_and_report<D: Disk, L: Links, O: Sink>(
     ensures sink { result ≡ 41 → Rose (O.faults out.old) (O.faults out.new) }
     ensures summary { result ≢ 40 → result ≢ 41 → IsTrue D.tells → IsTrue O.tells
         → Summarized gids (info_of meta.now) result (D.seen disk.new)
-        (λ pieces. IsTrue L.tells → CountsRight (info_of meta.now) (gained (L.streams link.old) (L.streams link.new)) result pieces)
+        (λ pieces. IsTrue L.tells → CountsRight (info_of meta.now) (gained (L.state link.old).streams (L.state link.new).streams) result pieces)
         (O.taken out.old) (O.taken out.new) }
 {
     // The streams tell one thing.
@@ -79,9 +79,9 @@ fn run_named<D: Disk, L: Links, O: Sink>(
     ensures metainfo { IsTrue D.tells → TellsMetainfo (D.seen disk.old name.now) result (D.faults disk.old) (D.faults disk.new) }
     ensures says { IsEnd result → result ≢ 40 → result ≢ 17 → result ≢ 3 → IsTrue D.tells → (info : Info) × Says (D.seen disk.old name.now) info }
     ensures work { IsTrue D.tells → IsTrue L.tells → (info : Info) → Says (D.seen disk.old name.now) info
-        → TellsWork info (gained (L.streams link.old) (L.streams link.new)) result (L.faults link.old) (L.faults link.new) }
-    ensures streams { IsTrue L.tells → KeepsStreams (L.streams link.old) (L.streams link.new) }
-    ensures served { IsTrue D.tells → IsTrue L.tells → (info : Info) → Says (D.seen disk.old name.now) info → Serves (L.content link.old) info
+        → TellsWork info (gained (L.state link.old).streams (L.state link.new).streams) result (L.faults link.old) (L.faults link.new) }
+    ensures streams { IsTrue L.tells → KeepsStreams (L.state link.old).streams (L.state link.new).streams }
+    ensures served { IsTrue D.tells → IsTrue L.tells → (info : Info) → Says (D.seen disk.old name.now) info → Serves (L.state link.old).content info
         → (result ≡ 0) ⊎ (result ≡ 40) ⊎ Rose (D.faults disk.old) (D.faults disk.new) ⊎ Rose (L.faults link.old) (L.faults link.new) ⊎ Rose (O.faults out.old) (O.faults out.new) }
     ensures done { result ≡ 0 → IsTrue D.tells → (info : Info) → Says (D.seen disk.old name.now) info
         → PayloadStands info (D.seen disk.new) (D.may_leave disk.new) }
@@ -101,7 +101,7 @@ fn run_named<D: Disk, L: Links, O: Sink>(
         → Told (O.taken out.old) (O.taken out.new) (error_line 17) (O.faults out.old) (O.faults out.new) }
     ensures summary { result ≢ 40 → result ≢ 41 → IsTrue D.tells → IsTrue O.tells → (info : Info) → Says (D.seen disk.old name.now) info
         → Summarized gids info result (D.seen disk.new)
-        (λ pieces. IsTrue L.tells → CountsRight info (gained (L.streams link.old) (L.streams link.new)) result pieces)
+        (λ pieces. IsTrue L.tells → CountsRight info (gained (L.state link.old).streams (L.state link.new).streams) result pieces)
         (O.taken out.old) (O.taken out.new)
         ⊎ ((result ≡ 17) × Told (O.taken out.old) (O.taken out.new) (error_line 17) (O.faults out.old) (O.faults out.new)) }
 {
@@ -143,14 +143,14 @@ pub fn run<D: Disk, L: Links, O: Sink>(
     ensures says { IsEnd result.status → result.status ≢ 40 → result.status ≢ 17 → result.status ≢ 3 → IsTrue D.tells
         → (info : Info) × IsToFetch words.now (D.seen disk) info }
     ensures work { IsTrue D.tells → IsTrue L.tells → (info : Info) → IsToFetch words.now (D.seen disk) info
-        → TellsWork info (gained (at_first L.streams [] links.items) (at_first L.streams [] result.links.items)) result.status
+        → TellsWork info (gained (at_first (λ link. (L.state link).streams) [] links.items) (at_first (λ link. (L.state link).streams) [] result.links.items)) result.status
         (at_first L.faults 0 links.items) (at_first L.faults 0 result.links.items) }
-    ensures streams { IsTrue L.tells → KeepsStreams (at_first L.streams [] links.items) (at_first L.streams [] result.links.items) }
+    ensures streams { IsTrue L.tells → KeepsStreams (at_first (λ link. (L.state link).streams) [] links.items) (at_first (λ link. (L.state link).streams) [] result.links.items) }
     ensures other_links { drop 1 result.links.items ≡ drop 1 links.items }
 
     // What the mirrors serve comes, unless something outside fails.
     ensures served { IsTrue D.tells → IsTrue L.tells → (info : Info) → IsToFetch words.now (D.seen disk) info
-        → Serves (at_first L.content no_content links.items) info
+        → Serves (at_first (λ link. (L.state link).content) no_content links.items) info
         → (result.status ≡ 0) ⊎ (result.status ≡ 40) ⊎ Rose (D.faults disk) (D.faults result.disk)
         ⊎ Rose (at_first L.faults 0 links.items) (at_first L.faults 0 result.links.items) ⊎ Rose (O.faults out.old) (O.faults out.new) }
 
@@ -182,7 +182,7 @@ pub fn run<D: Disk, L: Links, O: Sink>(
         → (info : Info) → IsToFetch words.now (D.seen disk) info
         → Summarized gids info result.status (D.seen result.disk)
         (λ pieces. IsTrue L.tells
-        → CountsRight info (gained (at_first L.streams [] links.items) (at_first L.streams [] result.links.items)) result.status pieces)
+        → CountsRight info (gained (at_first (λ link. (L.state link).streams) [] links.items) (at_first (λ link. (L.state link).streams) [] result.links.items)) result.status pieces)
         (O.taken out.old) (O.taken out.new)
         ⊎ ((result.status ≡ 17) × Told (O.taken out.old) (O.taken out.new) (error_line 17) (O.faults out.old) (O.faults out.new)) }
 {

@@ -45,9 +45,9 @@ fn fetch_right<L: Links>(
     requires within { piece < meta.now.plan.pieces }
     ensures len { OnOk result (length into.new.items ≡ size_of (info_of meta.now) piece) }
     ensures right { OnOk result (sha1 into.new.items ≡ digest_of (info_of meta.now) piece) }
-    ensures ends { IsTrue L.tells → PieceEnds (info_of meta.now) piece (L.streams link.old) (L.streams link.new) result }
-    ensures served { IsTrue L.tells → GivesPiece (L.content link.old) (info_of meta.now) piece → IfErr result IsOfOutside }
-    ensures serving { IsTrue L.tells → KeepsContent (L.content link.old) (L.content link.new) }
+    ensures ends { IsTrue L.tells → PieceEnds (info_of meta.now) piece (L.state link.old).streams (L.state link.new).streams result }
+    ensures served { IsTrue L.tells → GivesPiece (L.state link.old).content (info_of meta.now) piece → IfErr result IsOfOutside }
+    ensures serving { IsTrue L.tells → KeepsContent (L.state link.old).content (L.state link.new).content }
     ensures disk { IsErrOf result Disk → ⊥ }
     ensures known { IfErr result IsKnownFailure }
     ensures link { IfErr result (λ failure. IsLinkFailure failure → Rose (L.faults link.old) (L.faults link.new)) }
@@ -73,9 +73,9 @@ fn complete_piece<D: Disk, L: Links>(
 ) -> Result<FetchRoom, Failure>
     requires fetchable { IsFetchable (info_of meta.now) }
     requires within { piece < meta.now.plan.pieces }
-    ensures ends { IsTrue L.tells → PieceEnds (info_of meta.now) piece (L.streams link.old) (L.streams link.new) result }
-    ensures served { IsTrue L.tells → GivesPiece (L.content link.old) (info_of meta.now) piece → IfErr result IsOfOutside }
-    ensures serving { IsTrue L.tells → KeepsContent (L.content link.old) (L.content link.new) }
+    ensures ends { IsTrue L.tells → PieceEnds (info_of meta.now) piece (L.state link.old).streams (L.state link.new).streams result }
+    ensures served { IsTrue L.tells → GivesPiece (L.state link.old).content (info_of meta.now) piece → IfErr result IsOfOutside }
+    ensures serving { IsTrue L.tells → KeepsContent (L.state link.old).content (L.state link.new).content }
     ensures known { IfErr result IsKnownFailure }
     ensures link { IfErr result (λ failure. IsLinkFailure failure → Rose (L.faults link.old) (L.faults link.new)) }
     ensures later { L.faults link.old ≤ L.faults link.new }
@@ -113,8 +113,8 @@ fn complete_pieces<D: Disk, L: Links>(
 ) -> Progress
     requires fetchable { IsFetchable (info_of meta.now) }
     requires lengths { IsTrue D.tells → HasFiles meta.now.layout (D.seen disk.old) }
-    ensures ends { IsTrue L.tells → WorkEnds (info_of meta.now) (L.streams link.old) (L.streams link.new) result.pieces result.failure }
-    ensures served { IsTrue L.tells → Serves (L.content link.old) (info_of meta.now) → IfSome result.failure IsOfOutside }
+    ensures ends { IsTrue L.tells → WorkEnds (info_of meta.now) (L.state link.old).streams (L.state link.new).streams result.pieces result.failure }
+    ensures served { IsTrue L.tells → Serves (L.state link.old).content (info_of meta.now) → IfSome result.failure IsOfOutside }
     ensures known { IfSome result.failure IsKnownFailure }
     ensures link { IfSome result.failure (λ failure. IsLinkFailure failure → Rose (L.faults link.old) (L.faults link.new)) }
     ensures stand { IsTrue D.tells → PiecesStand (info_of meta.now) (D.seen disk.new) result.pieces }
@@ -164,8 +164,8 @@ fn make_last<D: Disk>(alloc: Global, disk: &mut D, meta: &Meta) -> Progress
 fn complete<D: Disk, L: Links>(alloc: Global, disk: &mut D, link: &mut L, meta: &Meta) -> Progress
     requires fetchable { IsFetchable (info_of meta.now) }
     requires lengths { IsTrue D.tells → HasFiles meta.now.layout (D.seen disk.old) }
-    ensures ends { IsTrue L.tells → WorkEnds (info_of meta.now) (L.streams link.old) (L.streams link.new) result.pieces result.failure }
-    ensures served { IsTrue L.tells → Serves (L.content link.old) (info_of meta.now) → IfSome result.failure IsOfOutside }
+    ensures ends { IsTrue L.tells → WorkEnds (info_of meta.now) (L.state link.old).streams (L.state link.new).streams result.pieces result.failure }
+    ensures served { IsTrue L.tells → Serves (L.state link.old).content (info_of meta.now) → IfSome result.failure IsOfOutside }
     ensures known { IfSome result.failure IsKnownFailure }
     ensures link { IfSome result.failure (λ failure. IsLinkFailure failure → Rose (L.faults link.old) (L.faults link.new)) }
     ensures stand { IsTrue D.tells → PiecesStand (info_of meta.now) (D.seen disk.new) result.pieces }
@@ -199,8 +199,8 @@ pub fn fetch_payload<D: Disk, L: Links>(
     meta: &Meta,
 ) -> Progress
     requires { IsFetchable (info_of meta.now) }
-    ensures ends { IsTrue L.tells → WorkEnds (info_of meta.now) (L.streams link.old) (L.streams link.new) result.pieces result.failure }
-    ensures served { IsTrue L.tells → Serves (L.content link.old) (info_of meta.now) → IfSome result.failure IsOfOutside }
+    ensures ends { IsTrue L.tells → WorkEnds (info_of meta.now) (L.state link.old).streams (L.state link.new).streams result.pieces result.failure }
+    ensures served { IsTrue L.tells → Serves (L.state link.old).content (info_of meta.now) → IfSome result.failure IsOfOutside }
     ensures known { IfSome result.failure IsKnownFailure }
     ensures link { IfSome result.failure (λ failure. IsLinkFailure failure → Rose (L.faults link.old) (L.faults link.new)) }
     ensures written { IsTrue D.tells → AreWritten (info_of meta.now) (D.seen disk.new) result.pieces result.failure }

@@ -47,7 +47,7 @@ turns-preserved g c = record {
   later = omega (arith, c.turns.invariant.later, c.fetch_on.ensures.later);
   came = λ told job begun. c.in_ok-fetch_on.ensures.goes_on told job _ (c.turns.invariant.came told job begun);
   honest = λ told good job begun.
-      honest_on _ _ _ _ (g.L.Links.streams c.turns.link) (g.L.Links.streams c.fetch_on.new.link) (g.L.Links.due c.turns.link) (g.L.Links.due c.fetch_on.new.link) good
+      honest_on _ _ _ _ (g.L.Links.state c.turns.link).streams (g.L.Links.state c.fetch_on.new.link).streams (g.L.Links.state c.turns.link).due (g.L.Links.state c.fetch_on.new.link).due good
       (c.turns.invariant.honest told good job begun) (λ good_now were. c.fetch_on.ensures.honest told good_now job _ (c.turns.invariant.came told job begun) were);
 }
 
@@ -58,10 +58,10 @@ returns-clause-ends g c told job begun =
 
 pub returns-in_err-fetch_on-clause-honest : goal.returns-in_err-fetch_on-clause-honest
 returns-in_err-fetch_on-clause-honest g c told good job begun =
-    honest_on _ _ _ _ (g.L.Links.streams c.turns.link) (g.L.Links.streams c.fetch_on.new.link) (g.L.Links.due c.turns.link) (g.L.Links.due c.fetch_on.new.link) good
+    honest_on _ _ _ _ (g.L.Links.state c.turns.link).streams (g.L.Links.state c.fetch_on.new.link).streams (g.L.Links.state c.turns.link).due (g.L.Links.state c.fetch_on.new.link).due good
     (c.turns.invariant.honest told good job begun) (λ good_now were. c.fetch_on.ensures.honest told good_now job _ (c.turns.invariant.came told job begun) were)
 
 pub returns-then-branch-clause-honest : goal.returns-then-branch-clause-honest
 returns-then-branch-clause-honest g c told good job begun =
-    honest_on _ _ _ _ (g.L.Links.streams c.turns.link) (g.L.Links.streams c.fetch_on.new.link) (g.L.Links.due c.turns.link) (g.L.Links.due c.fetch_on.new.link) good
+    honest_on _ _ _ _ (g.L.Links.state c.turns.link).streams (g.L.Links.state c.fetch_on.new.link).streams (g.L.Links.state c.turns.link).due (g.L.Links.state c.fetch_on.new.link).due good
     (c.turns.invariant.honest told good job begun) (λ good_now were. c.fetch_on.ensures.honest told good_now job _ (c.turns.invariant.came told job begun) were)

@@ -11,8 +11,8 @@ use Rattle.aria_top.proofs.top.run.Goals as goal
 pub returns-clause-served : goal.returns-clause-served
 returns-clause-served g c tells told info to serves =
     let named : file_named c.args.words.now ≡ Some c.in-Some.name.now = sym c.metainfo_name.ensures ∙ ap option_copied c.in-Some.is in
-    let content : at_first g.L.Links.content no_content c.args.links.items ≡ g.L.Links.content c.index_mut.result.now =
-    first_is g.L.Links.content no_content c.args.links.items c.index_mut.result.now (omega arith) c.index_mut.ensures.value in
+    let content : at_first (λ link. (g.L.Links.state link).content) no_content c.args.links.items ≡ (g.L.Links.state c.index_mut.result.now).content =
+    first_is (λ link. (g.L.Links.state link).content) no_content c.args.links.items c.index_mut.result.now (omega arith) c.index_mut.ensures.value in
     let before : at_first g.L.Links.faults 0 c.args.links.items ≡ g.L.Links.faults c.index_mut.result.now =
     first_is g.L.Links.faults 0 c.args.links.items c.index_mut.result.now (omega arith) c.index_mut.ensures.value in
     let after = first_set g.L.Links.faults 0 c.args.links.items c.run_named-status.new.link (omega arith) in
@@ -39,9 +39,9 @@ returns-clause-no_control_file g c tells info to lacks =
 pub returns-clause-summary : goal.returns-clause-summary
 returns-clause-summary g c not_memory not_sink tells sink_tells info to =
     let named : file_named c.args.words.now ≡ Some c.in-Some.name.now = sym c.metainfo_name.ensures ∙ ap option_copied c.in-Some.is in
-    let before : at_first g.L.Links.streams [] c.args.links.items ≡ g.L.Links.streams c.index_mut.result.now =
-    first_is g.L.Links.streams [] c.args.links.items c.index_mut.result.now (omega arith) c.index_mut.ensures.value in
-    let after = first_set g.L.Links.streams [] c.args.links.items c.run_named-status.new.link (omega arith) in
+    let before : at_first (λ link. (g.L.Links.state link).streams) [] c.args.links.items ≡ (g.L.Links.state c.index_mut.result.now).streams =
+    first_is (λ link. (g.L.Links.state link).streams) [] c.args.links.items c.index_mut.result.now (omega arith) c.index_mut.ensures.value in
+    let after = first_set (λ link. (g.L.Links.state link).streams) [] c.args.links.items c.run_named-status.new.link (omega arith) in
     let summary = c.run_named-status.ensures.summary not_memory not_sink tells sink_tells info (to_says c.args.words.now (g.D.Disk.seen c.args.disk) c.in-Some.name.now info named to) in
     simp (before, after) summary
 
@@ -53,9 +53,9 @@ returns-clause-unread g c is tells sink_tells none =
 pub returns-clause-work : goal.returns-clause-work
 returns-clause-work g c tells told info to =
     let named : file_named c.args.words.now ≡ Some c.in-Some.name.now = sym c.metainfo_name.ensures ∙ ap option_copied c.in-Some.is in
-    let streams : at_first g.L.Links.streams [] c.args.links.items ≡ g.L.Links.streams c.index_mut.result.now =
-    first_is g.L.Links.streams [] c.args.links.items c.index_mut.result.now (omega arith) c.index_mut.ensures.value in
-    let streams_after = first_set g.L.Links.streams [] c.args.links.items c.run_named-status.new.link (omega arith) in
+    let streams : at_first (λ link. (g.L.Links.state link).streams) [] c.args.links.items ≡ (g.L.Links.state c.index_mut.result.now).streams =
+    first_is (λ link. (g.L.Links.state link).streams) [] c.args.links.items c.index_mut.result.now (omega arith) c.index_mut.ensures.value in
+    let streams_after = first_set (λ link. (g.L.Links.state link).streams) [] c.args.links.items c.run_named-status.new.link (omega arith) in
     let before : at_first g.L.Links.faults 0 c.args.links.items ≡ g.L.Links.faults c.index_mut.result.now =
     first_is g.L.Links.faults 0 c.args.links.items c.index_mut.result.now (omega arith) c.index_mut.ensures.value in
     let after = first_set g.L.Links.faults 0 c.args.links.items c.run_named-status.new.link (omega arith) in

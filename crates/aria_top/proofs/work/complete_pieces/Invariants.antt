@@ -11,9 +11,9 @@ use Rattle.aria_top.proofs.work.complete_pieces.Given as goal
 
 abbrev pub invariant-each : goal.invariant-each
 invariant-each g l = record {
-  serving : IsTrue g.L.Links.tells → KeepsContent (g.L.Links.content l.fn.link) (g.L.Links.content l.link);
+  serving : IsTrue g.L.Links.tells → KeepsContent (g.L.Links.state l.fn.link).content (g.L.Links.state l.link).content;
   link_later : g.L.Links.faults l.fn.link ≤ g.L.Links.faults l.link;
-  came : IsTrue g.L.Links.tells → (gained : List Stream) × Gains (g.L.Links.streams l.fn.link) (g.L.Links.streams l.link) gained
+  came : IsTrue g.L.Links.tells → (gained : List Stream) × Gains (g.L.Links.state l.fn.link).streams (g.L.Links.state l.link).streams gained
       × ((more : List Stream) (right : ℕ) (ending : WorkEnding) → WorkedFrom (info_of l.meta) l.piece (piece_count (info_of l.meta) - l.piece) more right ending
       → Worked (info_of l.meta) (gained ++ more) right ending);
   stand : IsTrue g.D.Disk.tells → PiecesStand (info_of l.meta) (g.D.Disk.seen l.disk) l.piece;
