@@ -2,7 +2,7 @@ use Rattle.std.proofs.Common.{◌∙◌, Option, sym, subst}
 use Rattle.metainfo.specs.Info.{info_of}
 use Rattle.aria_top.specs.Worked.{WorkEnds}
 use Rattle.aria_top.specs.declared.ends.Failure.{Failure}
-use Rattle.aria_top.proofs.Keeping.{kept_on}
+use Rattle.aria_top.proofs.Keeping.{others_on}
 use Rattle.aria_top.proofs.Working.{none_of, work_last}
 use Rattle.aria_top.proofs.work.complete.Goals as goal
 
@@ -15,4 +15,4 @@ returns-clause-ends g c told =
     none (c.complete_pieces-progress.ensures.ends told))
 
 pub returns-clause-others : goal.returns-clause-others
-returns-clause-others g c told = kept_on c.args.meta.now.layout _ _ _ _ _ _ (c.complete_pieces-progress.ensures.others told) (c.make_last.ensures.others told)
+returns-clause-others g c told = others_on c.args.meta.now.layout _ _ _ (c.complete_pieces-progress.ensures.others told) (c.make_last.ensures.others told)
