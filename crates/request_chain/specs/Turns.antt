@@ -22,7 +22,7 @@ pub record Steps (parts : List JobPart) (before used : List Stream) (bytes : Lis
   pub chain_is : IsChain parts later (bytes ++ added) chain
 
 -- the same, where a head may wait
-pub record Receives (parts : List JobPart) (before used : List Stream) (bytes : List ℕ) (now : List Stream) (was : ℕ) (chain : Chain) : Type 0 where
+pub record ReceivesMore (parts : List JobPart) (before used : List Stream) (bytes : List ℕ) (now : List Stream) (was : ℕ) (chain : Chain) : Type 0 where
   pub later : List Stream
   pub gains : Gains before now later
   pub taken_is : received_by later + was ≡ received_by used + chain.taken
