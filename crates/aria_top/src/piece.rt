@@ -191,7 +191,7 @@ pub fn fetch_piece<L: Links>(
     ensures link { IfErr result (λ loss. IsLinkLoss loss → Rose (L.faults link.old) (L.faults link.new)) }
     ensures later { L.faults link.old ≤ L.faults link.new }
 {
-    // Over streams of mirrors that serve the parts they come.
+    // Where the mirrors serve every part, its bytes arrive.
     served_comes();
     gains_are_honest();
     piece.clear();

@@ -14,7 +14,7 @@ use Rattle.request_chain.specs.Stages.{IsSent, IsReading, steps_of}
 use Rattle.request_chain.specs.declared.chain.Chain.{Chain}
 use Rattle.request_chain.specs.declared.course.Course.{Course}
 
--- what was gained since so many bytes of the call had come
+-- the state after a step that began with `was` bytes received
 pub record Steps (parts : List JobPart) (before used : List Stream) (bytes : List ℕ) (now : List Stream) (added : List ℕ) (was : ℕ) (chain : Chain) : Type 0 where
   pub later : List Stream
   pub gains : Gains before now later

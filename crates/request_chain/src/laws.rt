@@ -3,7 +3,7 @@ ghost use Rattle.request_chain.specs.Fetched.{FetchedIsOne};
 
 use reply_reader::streams_have_one_answer;
 
-/// Streams tell one thing of the parts that were asked for.
+/// The same streams determine one result of the parts that were asked for.
 pub fn fetched_is_one()
     ensures { FetchedIsOne }
 {
