@@ -75,7 +75,8 @@ impl HeadReader {
     // Keeps the next piece behind what came.
     fn keep(&mut self, piece: &[u8]) -> Result<(), NoMemory>
         ensures items { OnOk result (self.new.bytes.items ≡ self.old.bytes.items ++ piece.now) }
-        ensures behind { OnOk result ((received : List ℕ) → IsBehindInterims received self.old → IsBehindInterims (received ++ piece.now) self.new) }
+        ensures behind { OnOk result ((received : List ℕ) → IsBehindInterims received self.old
+            → IsBehindInterims (received ++ piece.now) self.new) }
     {
         heads_are_one_and_stay();
         self.bytes.extend_from_slice(piece)
@@ -83,11 +84,15 @@ impl HeadReader {
 
     // Passes over the interim heads at the front, and reads the one behind them.
     fn read_on(&mut self, alloc: Global) -> HeadRead
-        ensures behind { (received : List ℕ) → IsBehindInterims received self.old → IsBehindInterims received self.new }
-        ensures whole { IfWhole result (λ head used. IsHead self.new.bytes.items head used × (used ≤ length self.new.bytes.items)) }
+        ensures behind { (received : List ℕ) → IsBehindInterims received self.old
+            → IsBehindInterims received self.new }
+        ensures whole { IfWhole result
+            (λ head used. IsHead self.new.bytes.items head used
+            × (used ≤ length self.new.bytes.items)) }
         ensures last { IfWhole result (λ head _. is_interim head ≡ false) }
         ensures more { result ≡ Unfinished → IsUnfinished self.new.bytes.items }
-        ensures bad { result ≡ NoHead → (received : List ℕ) → IsBehindInterims received self.old → HasNoFinalHead received }
+        ensures bad { result ≡ NoHead → (received : List ℕ) → IsBehindInterims received self.old
+            → HasNoFinalHead received }
     {
         'turns: loop {
             match read_head(alloc, &self.bytes) {
@@ -109,11 +114,14 @@ impl HeadReader {
     /// Takes the next piece of the stream. After any answer but `More` the reader isn't used again.
     pub fn take(&mut self, alloc: Global, piece: &[u8]) -> HeadsRead
         requires { length piece.now ≤ MAX_HEAD_BYTES }
-        ensures whole { (received : List ℕ) → IsAtHead received self.old → IfFinal result (λ head used.
+        ensures whole { (received : List ℕ) → IsAtHead received self.old
+            → IfFinal result (λ head used.
             HasFinalHead (received ++ piece.now) head (length received + used)) }
         ensures within { IfFinal result (λ _ used. used ≤ length piece.now) }
-        ensures more { result ≡ More → (received : List ℕ) → IsAtHead received self.old → IsAtHead (received ++ piece.now) self.new }
-        ensures bad { result ≡ Bad → (received : List ℕ) → IsAtHead received self.old → HasNoFinalHead (received ++ piece.now) }
+        ensures more { result ≡ More → (received : List ℕ) → IsAtHead received self.old
+            → IsAtHead (received ++ piece.now) self.new }
+        ensures bad { result ≡ Bad → (received : List ℕ) → IsAtHead received self.old
+            → HasNoFinalHead (received ++ piece.now) }
     {
         heads_are_one_and_stay();
         let from = self.bytes.len();
@@ -138,8 +146,10 @@ impl HeadReader {
 
     /// Whether the final head can still come. It reads all bytes again: ask it once, where no more of the stream is read.
     pub fn is_due(&self, alloc: Global) -> Result<bool, NoMemory>
-        ensures due { result ≡ Ok true → (received : List ℕ) → IsAtHead received self.now → IsHeadDue received }
-        ensures none { result ≡ Ok false → (received : List ℕ) → IsAtHead received self.now → HasNoFinalHead received }
+        ensures due { result ≡ Ok true → (received : List ℕ) → IsAtHead received self.now
+            → IsHeadDue received }
+        ensures none { result ≡ Ok false → (received : List ℕ) → IsAtHead received self.now
+            → HasNoFinalHead received }
     {
         match read_head(alloc, &self.bytes) {
             HeadRead::More => Ok(true),
