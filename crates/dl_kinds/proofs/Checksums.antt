@@ -1,11 +1,8 @@
 -- Checksums have one reading.
-use Rattle.std.proofs.Common.{◌≡◌, ◌≢◌, ◌+◌, ◌*◌, ◌++◌, ℕ, List, Result, Ok, Err, MatchResult, is_ok, true, false, true≢false, length, refl, sym, ◌∙◌, ap, drop, get_or, arith}
+use Rattle.std.proofs.Common.{◌≡◌, ◌≢◌, ◌*◌, ℕ, List, Result, Ok, Err, MatchResult, is_ok, true, false, true≢false, length, refl, sym, ◌∙◌, ap, arith}
 use Rattle.hex.specs.Hex.{decode_of, decode_sized}
 use Rattle.hex.specs.declared.error.FromHexError.{FromHexError}
 use Rattle.hex.proofs.HexLemmas.{decode_of-ok, decode_sized-twice, decode_sized-ok}
-use Rattle.dl_kinds.specs.Checksum.{prefix_of}
-use Rattle.dl_kinds.specs.declared.checksum.HashType.{HashType}
-use Rattle.dl_kinds.specs.declared.checksum.HashType.TheVariants.{Sha1, Sha224, Sha256, Sha384, Sha512}
 
 Answers : Result (List ℕ) FromHexError → Result (Unit {0}) FromHexError → List ℕ → Type 0
 Answers decoded result room = MatchResult decoded (λ bytes. (result ≡ Ok tt) × (room ≡ bytes)) (λ e. result ≡ Err e)
