@@ -122,6 +122,16 @@ impl Checksum {
         Some(Checksum { hash, digest })
     }
 
+    /// Another of the same value. It takes no memory.
+    pub fn copy(&self) -> Checksum
+        ensures { result ≡ self.now }
+    {
+        Checksum {
+            hash: self.hash,
+            digest: self.digest,
+        }
+    }
+
     pub fn hash(&self) -> HashType
         ensures { result ≡ self.now.hash }
     {
