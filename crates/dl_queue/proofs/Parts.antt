@@ -1,5 +1,6 @@
 -- Places in lists that are two parts.
-use Rattle.std.proofs.Common.{◌≡◌, ◌<◌, ◌≤◌, ◌+◌, ℕ, suc, cond, Bool, true, false, not, List, [], ◌∷◌, ◌++◌, length, Option, None, Some, OnSome, refl, sym, ◌∙◌, ap, arith}
+use Rattle.std.proofs.Math.ListN.{set}
+use Rattle.std.proofs.Common.{◌≡◌, ◌<◌, ◌≤◌, ◌+◌, ℕ, zero, suc, cond, map, take, drop, get_or, Bool, true, false, not, List, [], ◌∷◌, ◌++◌, length, Option, None, Some, OnSome, refl, sym, ◌∙◌, ap, arith}
 use Rattle.std.specs.List.{position_or_len}
 
 -- a choice whose test is known
@@ -44,3 +45,11 @@ at_most p (x ∷ xs) = most_step (p x) (position_or_len p xs) (length xs) (at_mo
 pub on_some : {A P : Type 0} (o : Option A) (x : A) → o ≡ Some x → OnSome o P → P
 on_some None x is fact = cc
 on_some (Some y) x is fact = fact
+
+-- one element more of a list is changed
+pub changes_next : {A : Type 0} (f : A → A) (xs : List A) (i : ℕ) (d : A) → i < length xs
+    → set (map f (take i xs) ++ drop i xs) i (f (get_or (map f (take i xs) ++ drop i xs) i d))
+      ≡ map f (take (suc i) xs) ++ drop (suc i) xs
+changes_next f [] i d within = let none : ⊥ = omega (arith, within) in absurd none
+changes_next f (x ∷ xs) zero d within = refl
+changes_next f (x ∷ xs) (suc i) d within = ap (λ ys. f x ∷ ys) (changes_next f xs i d (omega (arith, within)))

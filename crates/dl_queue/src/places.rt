@@ -1,9 +1,10 @@
 // Where downloads stand in the lists.
-ghost use Rattle.std.specs.Prelude.{◌≡◌, ◌≤◌, length};
+ghost use Rattle.std.specs.Prelude.{◌≡◌, ◌≤◌, ◌<◌, ◌^◌, length};
 ghost use Rattle.std.specs.List.{position_or_len};
+ghost use Rattle.dl_queue.specs.Calls.{clamped, base_of};
 ghost use Rattle.dl_queue.specs.Places.{is_ready, active_place, queued_place, stopped_place};
 
-use crate::{Queued, Stopped};
+use crate::{How, Queued, Stopped};
 use dl_kinds::Gid;
 use std::collections::VecDeque;
 
@@ -77,4 +78,23 @@ pub fn ready_place(waiting: &VecDeque<Queued>) -> usize
         return place;
     }
     front.len() + ready_in(back)
+}
+
+/// The place so far from the base that `how` names, and neither before the first place nor behind the last.
+pub fn target(place: usize, last: usize, position: i64, how: How) -> usize
+    requires { last < 2 ^ 32 }
+    ensures value { result ≡ clamped (base_of how place last) position last }
+    ensures bound { result ≤ last }
+{
+    let base = match how {
+        How::Set => 0,
+        How::Cur => place,
+        How::End => last,
+    };
+    let distance = position.unsigned_abs() as usize;
+    if position < 0 {
+        base.saturating_sub(distance).min(last)
+    } else {
+        base.saturating_add(distance).min(last)
+    }
 }

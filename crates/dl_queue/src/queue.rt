@@ -8,8 +8,8 @@ ghost use Rattle.dl_queue.specs.Rising.{moved_up};
 ghost use Rattle.dl_queue.specs.Calls.{QueueCall, refusal, effect, after, answer_of, has_stopped, stopped_from, paused_from, with_pause, target_of, options_in};
 
 use crate::kinds::ending_of;
-use crate::places::{active_place, queued_place, stopped_place};
-use crate::rising::{move_up, set_all_paused, set_aside, set_paused};
+use crate::places::{active_place, queued_place, stopped_place, target};
+use crate::rising::{insert, move_up, set_all_paused, set_aside, set_paused};
 use crate::{Added, Ending, How, MAX_DOWNLOADS, QueueErr, Queued, Stopped};
 use dl_kinds::{Gid, GidKey, Status};
 use option_set::{Options, Setting};
@@ -242,5 +242,34 @@ impl Queue {
     {
         self.stopped.clear();
         move_up(self.limit, &mut self.active, &mut self.waiting);
+    }
+
+    fn move_queued(&mut self, gid: Gid, position: i64, how: How) -> u32
+        requires { queued_place gid self.old.waiting < length self.old.waiting }
+        ensures place { result ≡ target_of self.old.waiting gid position how }
+        ensures state { self.new ≡ moved_up (effect self.old (QueueCall.ChangePosition gid position how)) }
+    {
+        let place = queued_place(&self.waiting, gid);
+        let last = self.waiting.len() - 1;
+        let target = target(place, last, position, how);
+        let download = self.waiting[place];
+        self.waiting.remove(place);
+        insert(&mut self.waiting, target, download);
+        move_up(self.limit, &mut self.active, &mut self.waiting);
+        target as u32
+    }
+
+    /// Moves a waiting or paused download so far from the front, its own place or the last place, and answers its new place,
+    /// from 0. A place before the first is the first one, and one behind the last is the last one. WrongStatus comes in any
+    /// other status.
+    pub fn change_position(&mut self, gid: Gid, pos: i64, how: How) -> Result<u32, QueueErr>
+        ensures answer { result ≡ answer_of (refusal self.old (QueueCall.ChangePosition gid pos how))
+            (target_of self.old.waiting gid pos how) }
+        ensures state { self.new ≡ after self.old (QueueCall.ChangePosition gid pos how) }
+    {
+        match self.status(gid)? {
+            Status::Waiting | Status::Paused => Ok(self.move_queued(gid, pos, how)),
+            status => Err(QueueErr::WrongStatus(status)),
+        }
     }
 }

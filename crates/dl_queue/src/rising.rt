@@ -1,5 +1,5 @@
 // How waiting downloads become active, and how they are paused.
-ghost use Rattle.std.specs.Prelude.{◌≡◌, ◌+◌, ◌-◌, ◌≤◌, ◌<◌, ◌++◌, [], map, length, vec_capacity};
+ghost use Rattle.std.specs.Prelude.{◌≡◌, ◌+◌, ◌-◌, ◌≤◌, ◌<◌, ◌++◌, [], insert, map, length, vec_capacity};
 ghost use Rattle.std.specs.VecDeque.{deque_capacity};
 ghost use Rattle.dl_queue.specs.Places.{queued_place};
 ghost use Rattle.dl_queue.specs.Rising.{risen, left_waiting};
@@ -64,5 +64,18 @@ pub fn set_aside(active: &mut Vec<Gid>, waiting: &mut VecDeque<Queued>)
 {
     while let Some(gid) = active.pop() {
         waiting.push_front_reserved(Queued { gid, paused: true });
+    }
+}
+
+/// Puts a download before the place, in room that is there.
+pub fn insert(waiting: &mut VecDeque<Queued>, place: usize, download: Queued)
+    requires place { place ≤ length waiting.old.items }
+    requires room { length waiting.old.items < deque_capacity waiting.old }
+    ensures items { waiting.new.items ≡ insert waiting.old.items place download }
+    ensures len { length waiting.new.items ≡ length waiting.old.items + 1 }
+    ensures room { deque_capacity waiting.old ≤ deque_capacity waiting.new }
+{
+    if waiting.insert(place, download).is_err() {
+        unreachable!()
     }
 }
