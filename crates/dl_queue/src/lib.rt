@@ -5,6 +5,7 @@ mod kinds;
 mod places;
 mod queue;
 mod rising;
+mod room;
 
 pub use kinds::{Added, Ending, How, MAX_DOWNLOADS, QueueErr, Queued, Stopped};
 pub use queue::Queue;

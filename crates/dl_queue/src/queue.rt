@@ -9,6 +9,7 @@ ghost use Rattle.dl_queue.specs.Calls.{QueueCall, refusal, effect, after, answer
 
 use crate::kinds::ending_of;
 use crate::places::{active_place, queued_place, stopped_place, target};
+use crate::room::{give_number, reserve, reserve_deque};
 use crate::rising::{insert, move_up, set_all_paused, set_aside, set_paused};
 use crate::{Added, Ending, How, MAX_DOWNLOADS, QueueErr, Queued, Stopped};
 use dl_kinds::{Gid, GidKey, Status};
@@ -271,5 +272,39 @@ impl Queue {
             Status::Waiting | Status::Paused => Ok(self.move_queued(gid, pos, how)),
             status => Err(QueueErr::WrongStatus(status)),
         }
+    }
+
+    /// Adds a download to the waiting ones at the position, and at their end without one or beyond it. SameGid comes where the
+    /// gid was used before in this run, Full where as many downloads were added as may be.
+    pub fn add(
+        &mut self,
+        gid: Gid,
+        options: Options,
+        paused: bool,
+        position: Option<u32>,
+    ) -> Result<(), QueueErr>
+        ensures answer { MatchOption (refusal self.old (QueueCall.Add gid options paused position))
+            (IsOkUnless result NoMemory) (λ refused. result ≡ Err refused) }
+        ensures state { self.new ≡ (if is_ok result
+            then after self.old (QueueCall.Add gid options paused position) else self.old) }
+    {
+        if self.numbers.contains_key(&gid.0) {
+            return Err(QueueErr::SameGid);
+        }
+        let count = self.added.len();
+        if count >= MAX_DOWNLOADS {
+            return Err(QueueErr::Full { count: count as u32 });
+        }
+        reserve(&mut self.active, count)?;
+        reserve(&mut self.stopped, count)?;
+        reserve(&mut self.added, count)?;
+        reserve_deque(&mut self.waiting, count)?;
+        give_number(&mut self.numbers, gid, count)?;
+        self.added.push_reserved(Added { gid, options });
+        let last = self.waiting.len();
+        let place = position.map_or(last, |place| (place as usize).min(last));
+        insert(&mut self.waiting, place, Queued { gid, paused });
+        move_up(self.limit, &mut self.active, &mut self.waiting);
+        Ok(())
     }
 }
