@@ -1,0 +1,9 @@
+pub mod Closes
+pub mod Laws
+pub mod Marks
+pub mod Passes
+pub mod Rule
+pub mod Sights
+pub mod Solo
+pub mod States
+pub mod Turns

@@ -1,0 +1,38 @@
+// Where chairs sleep until their turns come.
+use std::sync::Wait;
+use std::sync::atomic::{AtomicU64, Ordering};
+
+/// A ticket's holder sleeps at the gate of its ticket, so that a turn that ends wakes few but the next one.
+#[derive(Drop)]
+pub struct Gates {
+    counts: [AtomicU64; 16],
+}
+
+impl Gates {
+    pub fn new() -> Gates {
+        Gates {
+            counts: [const { AtomicU64::new(0) }; 16],
+        }
+    }
+
+    fn gate(&self, ticket: u64) -> &AtomicU64 {
+        &self.counts[(ticket % 16) as usize]
+    }
+
+    /// How often the ticket's gate was opened.
+    pub fn count(&self, ticket: u64) -> u64 {
+        self.gate(ticket).load(Ordering::SeqCst)
+    }
+
+    /// Sleeps, unless the ticket's gate was opened since this count was taken.
+    pub fn sleep<R: Wait>(&self, rt: &R, ticket: u64, count: u64) {
+        self.gate(ticket).park(rt, (count % (1 << 32)) as u32);
+    }
+
+    /// Wakes those that sleep at the ticket's gate.
+    pub fn open(&self, ticket: u64) {
+        let gate = self.gate(ticket);
+        gate.fetch_add(1, Ordering::SeqCst);
+        gate.wake_all();
+    }
+}
