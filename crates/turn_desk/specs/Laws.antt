@@ -43,7 +43,7 @@ module _ {T O A E : Type 0} where
   -- of two own turns, one behind the other, the later one comes after the events of the earlier one
   abbrev pub OwnPlacesAscend : (T → List (Turn O A E) → Turn O A E → Type 0) → Type 0
   OwnPlacesAscend relates = (given : Given T E) (turns : List (Turn O A E)) (pass : ℕ) (front : List (Turn O A E)) (t : Turn O A E) (between : List (Turn O A E)) (u : Turn O A E) (back : List (Turn O A E))
-      → AreTurns relates given turns → turns_by pass turns ≡ front ++ t ∷ between ++ u ∷ back → t.place + length t.events ≤ u.place
+      → AreTurns relates given turns → turns_by pass turns ≡ front ++ t ∷ (between ++ u ∷ back) → t.place + length t.events ≤ u.place
 
   -- the turn is one of the pass's own
   abbrev pub IsOwnOf : Turn O A E → PassView T O A E → Type 0

@@ -14,7 +14,7 @@ use Rattle.turn_desk.specs.declared.rule.LastTurn.{LastTurn}
 use Rattle.turn_desk.specs.declared.rule.Share.{Share}
 use Rattle.turn_desk.specs.declared.rule.SeatView.{SeatView}
 use Rattle.turn_desk.specs.Sights.{DeskId, Took}
-use Rattle.turn_desk.specs.States.{IsAt}
+use Rattle.turn_desk.specs.States.{IsOwned, IsAt}
 use Rattle.turn_desk.specs.Passes.{TurnDeskView, PassView, IsPassOf, AreNumbered}
 use Rattle.turn_desk.specs.Turns.{turn_of, history, last_mark, turns_by, StartsWith, AreTurns}
 
@@ -243,6 +243,7 @@ module _ {S T O A E : Type 0} where
 
   -- the desk that goes on from this one, and the seat that has all its numbers
   pub record Opens (solo : Sight T O A E) (passes : ℕ) (desk : TurnDeskView T E) (seat_id : DeskId) (m : Me (Slot S O A) (SeatView T O A E)) : Type 0 where
+    pub owned : IsOwned solo
     pub given : desk.given ≡ solo.given
     pub passes_are : desk.passes ≡ passes
     pub table : seat_id ≡ desk.desk_id

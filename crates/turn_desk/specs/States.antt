@@ -4,12 +4,17 @@ use Rattle.turn_desk.specs.declared.served.Served.{Ghosts as ServedSays}
 use Rattle.turn_desk.specs.declared.turn.Turn.{Turn}
 use Rattle.turn_desk.specs.declared.turn.Given.{Given}
 use Rattle.turn_desk.specs.declared.turn.Sight.{Sight}
-use Rattle.turn_desk.specs.Turns.{history, last_mark}
-use Rattle.turn_desk.specs.Sights.{Knows}
+use Rattle.turn_desk.specs.Turns.{turns_by, history, last_mark, AreTurns}
 
 -- each of the turns is of this pass
 abbrev pub AreBy : {O A E : Type 0} → ℕ → List (Turn O A E) → Type 0
 AreBy {O} {A} {E} pass turns = (earlier : List (Turn O A E)) (t : Turn O A E) (later : List (Turn O A E)) → turns ≡ earlier ++ t ∷ later → t.pass ≡ pass
+
+-- all turns are the caller's, under the number 0
+pub record IsOwned {T O A E : Type 0} (s : Sight T O A E) : Type 0 where
+  pub number : s.number ≡ 0
+  pub alone : AreBy 0 s.seen
+  pub mine : turns_by s.number s.seen ≡ s.own
 
 module _ {S T O A E : Type 0} (says : ServedSays S T O A E) where
   -- what the state shows
@@ -26,6 +31,5 @@ module _ {S T O A E : Type 0} (says : ServedSays S T O A E) where
   -- the state is the one after all turns that its only caller has seen, and they are its own
   pub record IsSolo (s : Sight T O A E) (x : S) : Type 0 where
     pub at : IsAt s.given s.seen x
-    pub knows : Knows says.relates s
-    pub number : s.number ≡ 0
-    pub alone : AreBy 0 s.seen
+    pub whole : AreTurns says.relates s.given s.seen
+    pub owned : IsOwned s

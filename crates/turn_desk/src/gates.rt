@@ -1,4 +1,5 @@
 // Where chairs sleep until their turns come.
+use std::array;
 use std::sync::Wait;
 use std::sync::atomic::{AtomicU64, Ordering};
 
@@ -11,7 +12,7 @@ pub struct Gates {
 impl Gates {
     pub fn new() -> Gates {
         Gates {
-            counts: [const { AtomicU64::new(0) }; 16],
+            counts: array::from_fn(|_| AtomicU64::new(0)),
         }
     }
 

@@ -33,5 +33,5 @@ pub fn a_sole_owner_took_all<S: Served>(desk: &SoloDesk<S>)
     ensures own { desk.now.seen ≡ desk.now.own }
     ensures number { desk.now.number ≡ 0 }
 {
-    let _ = desk;
+    let _count = desk.taken;
 }
