@@ -1,3 +1,4 @@
+pub mod Crosses
 pub mod Ends
 pub mod Goes
 pub mod Grows

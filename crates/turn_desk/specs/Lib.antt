@@ -1,5 +1,6 @@
 pub mod Closes
 pub mod Laws
+pub mod MarkLaws
 pub mod Marks
 pub mod Passes
 pub mod Rule

@@ -1,5 +1,5 @@
 -- What is told of a thing outside at the marks of a list of turns, and what lasts from each of them.
-use Rattle.std.specs.Prelude.{◌≡◌, ◌≤◌, ℕ, List, ◌∷◌, ◌++◌}
+use Rattle.std.specs.Prelude.{◌≡◌, ◌≤◌, ℕ, List, [], ◌∷◌, ◌++◌}
 use Rattle.turn_desk.specs.declared.turn.Stamp.{Stamp}
 use Rattle.turn_desk.specs.declared.turn.Turn.{Turn}
 use Rattle.turn_desk.specs.Turns.{last_mark}
@@ -17,6 +17,7 @@ module _ {I : Type 0} where
     pub later : old.now ≤ new.now
     pub left : (moment : ℕ) (image : I) → moment ≤ old.now → old.may_leave moment image → new.may_leave moment image
     pub left_before : (moment : ℕ) (image : I) → moment ≤ old.now → new.may_leave moment image → old.may_leave moment image
+    pub agreed : (moment : ℕ) (image : I) → moment ≤ old.now → old.agrees moment image → new.agrees moment image
     pub agreed_before : (moment : ℕ) (image : I) → moment ≤ old.now → new.agrees moment image → old.agrees moment image
 
   -- each image of the moment is good, and agrees with what was read then
