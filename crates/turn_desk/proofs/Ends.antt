@@ -1,5 +1,6 @@
 -- How a desk of several threads begins and ends.
-use Rattle.std.proofs.Common.{◌≡◌, ◌⊎◌, ⊎_elim, ℕ, zero, suc, ◌+◌, ◌-◌, ◌<◌, ◌≤◌, ◌%◌, ◌^◌, Bool, true, false, List, [], ◌∷◌, ◌++◌, map, length, refl, ap, sym, ◌∙◌, subst, arith, Option, Some, None, slice_get}
+use Rattle.std.proofs.Common.{◌≡◌, ◌⊎◌, ⊎_elim, ℕ, zero, suc, ◌+◌, ◌-◌, ◌<◌, ◌≤◌, ◌%◌, ◌^◌, Bool, true, false, List, [], ◌∷◌, ◌++◌, map, length, refl, ap, sym, ◌∙◌, subst, arith, Option, Some, None, slice_get, slice_index_or}
+use Rattle.std.specs.List.{All}
 use Rattle.std.proofs.lemmas.List.{append-nil}
 use mathlib.Core.Option.{some, some-injective, some-ne-none}
 use lib.ListN.{get_elem?}
@@ -73,6 +74,15 @@ module _ {T O A E : Type 0} where
   dealt_more desk base k xs pass all len one j p e = ⊎_elim (λ t. all j p t)
       (λ (t : (j ≡ length xs) × (pass ≡ p)). subst (λ (y : ℕ × PassView T O A E). IsDealt desk base y.0 y.1) (λ i. (sym (t.0 ∙ len) i, t.1 i)) one)
       (snoc_get xs pass p j e)
+
+  index_is : (xs : List (PassView T O A E)) (k : ℕ) (d : PassView T O A E) → k < length xs → slice_get xs k ≡ Some (slice_index_or xs k d)
+  index_is [] k d lt = absurd (omega (arith, lt))
+  index_is (x ∷ xs) zero d lt = refl
+  index_is (x ∷ xs) (suc k) d lt = index_is xs k d (omega (arith, lt))
+
+  -- the passes that were dealt are of the desk
+  pub all_of_desk : (desk : TurnDeskView T E) (base : List (Turn O A E)) (passes : List (PassView T O A E)) → AreDealt desk base passes → All (IsPassOf desk) passes
+  all_of_desk desk base passes dealt k d lt = (dealt k (slice_index_or passes k d) (index_is passes k d lt)).of_desk
 
   -- the passes that were dealt of an owner's desk
   pub new_passes : (solo : Sight T O A E) (desk : TurnDeskView T E) (passes : List (PassView T O A E)) → IsOwned solo

@@ -100,6 +100,7 @@ impl<S: Served> Drop for TurnLog<S> {
 }
 
 /// A desk of one owner, who waits for nobody. Contracts see it as what its owner knows.
+#[derive(Drop)]
 pub struct SoloDesk<S: Served> {
     pub(crate) served: S,
     pub(crate) log: TurnLog<S>,

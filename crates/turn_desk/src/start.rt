@@ -1,6 +1,7 @@
 // How a desk of several threads is made from one of one owner.
 ghost use Rattle.std.specs.Prelude.{◌≡◌, ◌≤◌, [], ◌∷◌, None, Some, IfOk, IfErr, vec_len, vec_capacity};
-ghost use Rattle.turn_desk.specs.Passes.{AreNewPasses};
+ghost use Rattle.std.specs.List.{All};
+ghost use Rattle.turn_desk.specs.Passes.{IsPassOf, AreNewPasses};
 ghost use Rattle.turn_desk.specs.Rule.{IsOneState, Opens, MayDeal, Deals, IsDealingAll, DealsAll};
 
 use crate::gates::Gates;
@@ -125,6 +126,7 @@ impl<S: Served> TurnDesk<S> {
         ensures desk { IfOk result (λ r. (r.0.given ≡ solo.given) × (r.0.passes ≡ passes)) }
         ensures count { IfOk result (λ r. vec_len r.1 ≡ passes) }
         ensures passes { IfOk result (λ r. AreNewPasses solo r.0 r.1.items) }
+        ensures of_desk { IfOk result (λ r. All (IsPassOf r.0) r.1.items) }
         ensures err { IfErr result (λ refused. refused.0 ≡ solo) }
     {
         let Ok(room) = Vec::with_capacity(alloc, passes as usize) else {
