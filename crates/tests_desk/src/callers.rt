@@ -4,7 +4,8 @@ ghost use Rattle.tests_desk.specs.Callers.{TookEach};
 
 use turn_desk::{Desk, Served, own_turns_are_placed, turns_add_up};
 
-/// Takes so many turns of one operation, at any desk of any state. They are the caller's only turns, and each stands at its place.
+/// Takes so many turns of one operation, at any desk of any state. They are all turns that the caller took,
+/// and each stands at its place.
 pub fn repeat<S: Served<Op = u64>, T: Desk<S>>(desk: &mut T, op: u64, times: u32)
 where
     S::Answer: Drop,

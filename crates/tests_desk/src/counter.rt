@@ -30,7 +30,8 @@ impl Counter {
 
     // Adds a number, and says what the count is then. None leaves it as it was.
     fn add(&mut self, n: u64) -> Option<u64>
-        ensures { Adds self.old.first self.old.log.items n result self.new.first self.new.log.items }
+        ensures first { self.new.first ≡ self.old.first }
+        ensures added { Adds self.old.first self.old.log.items n result self.new.log.items }
     {
         let count = self.count.checked_add(n)?;
         if self.log.push(n).is_err() {

@@ -1,6 +1,6 @@
 // A state whose one entry never changes.
 ghost use Rattle.std.specs.Prelude.{◌≡◌, ℕ, [], ◌∷◌};
-ghost use Rattle.tests_desk.specs.Shelves.{Reads};
+ghost use Rattle.tests_desk.specs.Shelves.{ReadsLine};
 
 use std::snapshot::Snapshot;
 use turn_desk::Served;
@@ -57,7 +57,7 @@ impl<B: Book> Served for Shelf<B> {
 
     ghost mark = { λ _. record { time = 0; faults = 0 } };
 
-    ghost relates = { Reads B.line_at };
+    ghost relates = { ReadsLine B.line_at };
 
     ghost stands = { λ s turns. (n : ℕ) → B.line_at s.book n ≡ B.line_at s.first.value n };
 

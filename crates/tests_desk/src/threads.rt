@@ -1,7 +1,6 @@
 // Threads at one desk.
 ghost use Rattle.std.specs.Prelude.{◌≡◌, ◌<◌, [], IfSome};
-ghost use Rattle.turn_desk.specs.Passes.{IsPassOf};
-ghost use Rattle.tests_desk.specs.Shared.{WorkedOn, SharedOut};
+ghost use Rattle.tests_desk.specs.Shared.{MayWork, WorkedOn, SharedOut};
 
 use crate::callers::repeat;
 use crate::counter::Counter;
@@ -46,8 +45,7 @@ fn work<R: Wait>(
     op: u64,
     times: u32,
 ) -> Pass<Counter>
-    requires of_desk { IsPassOf desk.now pass }
-    requires lawful { op < 1000 }
+    requires { MayWork desk.now pass op }
     ensures { WorkedOn desk.now pass op times result }
 {
     let mut chair = desk.chair(rt, pass);
@@ -63,8 +61,8 @@ fn work_both<R: Threads + Wait + Sync>(
     ops: (u64, u64),
     times: u32,
 ) -> (Pass<Counter>, Pass<Counter>)
-    requires of_desk { IsPassOf desk.now passes.0 × IsPassOf desk.now passes.1 }
-    requires lawful { (ops.0 < 1000) × (ops.1 < 1000) }
+    requires one { MayWork desk.now passes.0 ops.0 }
+    requires two { MayWork desk.now passes.1 ops.1 }
     ensures one { WorkedOn desk.now passes.0 ops.0 times result.0 }
     ensures two { WorkedOn desk.now passes.1 ops.1 times result.1 }
 {
@@ -74,8 +72,10 @@ fn work_both<R: Threads + Wait + Sync>(
         thread::scope_env(),
         rt,
         |scope| -> (Pass<Counter>, Pass<Counter>)
-            requires { IsPassOf desk.now one × IsPassOf desk.now two × (first < 1000) × (second < 1000) }
-            ensures { WorkedOn desk.entry.now one first times result.0 × WorkedOn desk.entry.now two second times result.1 }
+            requires one { MayWork desk.now one first }
+            requires two { MayWork desk.now two second }
+            ensures one { WorkedOn desk.entry.now one first times result.0 }
+            ensures two { WorkedOn desk.entry.now two second times result.1 }
         {
             let promise = WorksOn {
                 desk: Snapshot::of(desk),
@@ -97,8 +97,8 @@ fn work_both<R: Threads + Wait + Sync>(
     )
 }
 
-/// One turn of its owner, and then so many turns of each of two passes, in two threads where one can be started. The counter comes back
-/// unless memory was wanting.
+/// One turn of its owner, and then so many turns of each of two passes, in two threads where one can be
+/// started. The counter comes back unless memory was wanting.
 pub fn count_together<R: Threads + Wait + Sync>(
     rt: &R,
     alloc: Global,
@@ -138,7 +138,7 @@ pub fn count_together<R: Threads + Wait + Sync>(
     }
 }
 
-/// Closes a desk of three passes with two of them, and then with all. The number is how many were out.
+/// Closes a desk of three passes with two of them, and then with all. The number is how many were missing.
 pub fn give_back_late(alloc: Global, counter: Counter) -> Option<(u32, Counter)>
     requires new { counter.log.items ≡ [] }
     ensures { IfSome result (λ r. r.0 ≡ 1) }

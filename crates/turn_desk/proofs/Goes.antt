@@ -28,7 +28,8 @@ module _ {A : Type 0} where
 
 module _ {T O A E : Type 0} (relates : T → List (Turn O A E) → Turn O A E → Type 0) where
   pub went_none : NoTurnsChangeNothing relates
-  went_none s = record { given = refl; number = refl; seen = ([], sym (append-nil s.seen)); own = sym (append-nil s.own); still = λ _. refl; knows = λ n. absurd (n refl) }
+  went_none s = record { given = refl; number = refl; seen = ([], sym (append-nil s.seen));
+        own = sym (append-nil s.own); still = λ _. refl; knows = λ n. absurd (n refl) }
 
   pub went_one : OneTurnGoes relates
   went_one s s' op answer k = record {
@@ -44,10 +45,12 @@ module _ {T O A E : Type 0} (relates : T → List (Turn O A E) → Turn O A E �
   went_more s s' s'' xs ys p q = record {
     given = q.given ∙ p.given;
     number = q.number ∙ p.number;
-    seen = (p.seen.0 ++ q.seen.0, q.seen.1 ∙ (ap (λ l. l ++ q.seen.0) p.seen.1 ∙ append_assoc s.seen p.seen.0 q.seen.0));
+    seen = (p.seen.0 ++ q.seen.0, q.seen.1
+          ∙ (ap (λ l. l ++ q.seen.0) p.seen.1 ∙ append_assoc s.seen p.seen.0 q.seen.0));
     own = q.own ∙ (ap (λ l. l ++ ys) p.own ∙ append_assoc s.own xs ys);
     still = λ e. q.still (right_nil xs ys e) ∙ p.still (left_nil xs ys e);
     knows = λ some. ⊎_elim
-        (λ (none : ys ≡ []). subst (Knows relates) (sym (q.still none)) (p.knows (λ e. some (ap (λ l. l ++ ys) e ∙ none))))
+        (λ (none : ys ≡ []). subst (Knows relates) (sym (q.still none))
+              (p.knows (λ e. some (ap (λ l. l ++ ys) e ∙ none))))
         (λ (more : ys ≢ []). q.knows more) (some_or_none ys);
   }

@@ -1,4 +1,4 @@
--- Each step keeps the rule of the table.
+-- Each step of a turn keeps the rule of the table: a ticket is drawn, the state is taken, and given back.
 use Rattle.std.proofs.Common.{◌≡◌, ◌≢◌, ◌⊎◌, inl, inr, ⊎_elim, ℕ, zero, suc, ◌+◌, ◌-◌, ◌<◌, ◌≤◌, ◌%◌, ◌^◌, Bool, true, false, cond, eqb, List, [], ◌∷◌, ◌++◌, set, get_or, length, refl, ap, sym, ◌∙◌, subst, arith, append_assoc, length-append, Option, Some, None, nat_le, MatchBool, eqb-true, eq-eqb}
 use Rattle.std.proofs.lemmas.List.{append-nil}
 use mathlib.Core.Logic.{dite}
@@ -25,6 +25,7 @@ use Rattle.turn_desk.specs.Passes.{AreNumbered}
 use Rattle.turn_desk.proofs.Grows.{not_nil, at_end, none_yet, one_more, fewer, by_own, by_other}
 use Rattle.turn_desk.proofs.Sums.{sum_set, sum_snoc, sum_at, sum_two, sum_le}
 use Rattle.turn_desk.proofs.Places.{put, put_here, put_else, is_false, true_not_false, at_lt, each_set, at_both, at_right, at_one, each_more, length_set, some_same, some_not_none}
+use Rattle.turn_desk.proofs.Views.{lies_still, had_still}
 
 module _ {S T O A E : Type 0} (says : ServedSays S T O A E) (given : Given T E) (passes : ℕ) where
   abbrev V : Type 0
@@ -45,24 +46,9 @@ module _ {S T O A E : Type 0} (says : ServedSays S T O A E) (given : Given T E) 
   abbrev L : Ts → List V → maybe.Option H → Type 0
   L = LiesHome says given
 
-  -- a view changes that has no turn before or after
-  lies_still : (turns : Ts) (vs : List V) (id : ℕ) (v w : V) (h : maybe.Option H) → get_elem? vs id ≡ some v → v.has_turn ≡ false → w.has_turn ≡ false → L turns vs h → L turns (set vs id w) h
-  lies_still turns vs id v w (some h) at f f' l = (l.0, each_set (λ _ d. d.has_turn ≡ false) vs id w f' (λ j d n e. l.1 j d e))
-  lies_still turns vs id v w none at f f' l =
-      dite (ℕ_discrete l.0 id)
-      (λ e. true_not_false v.has_turn (subst (λ (d : V). d.has_turn ≡ true) (some-injective l.1 v (sym l.2 ∙ (ap (get_elem? vs) e ∙ at))) l.3) f)
-      (λ n. (l.0, l.1, set_else vs id l.0 w n ∙ l.2, l.3))
-
-  -- a view changes and has what it had
-  had_still : (vs : List V) (id : ℕ) (v w : V) (owner : ℕ → ℕ) → get_elem? vs id ≡ some v → ((k : ℕ) → HasNumber k v → HasNumber k w)
-      → ((k : ℕ) → k < passes → (d : V) × (get_elem? vs (owner k) ≡ some d) × HasNumber k d) → (k : ℕ) → k < passes → (d : V) × (get_elem? (set vs id w) (owner k) ≡ some d) × HasNumber k d
-  had_still vs id v w owner at more had k lt =
-      let o = had k lt in
-      dite (ℕ_discrete (owner k) id)
-      (λ e. (w, ap (get_elem? (set vs id w)) e ∙ set_here vs id w (at_lt vs id v at), more k (subst (HasNumber k) (some-injective o.0 v (sym o.1 ∙ (ap (get_elem? vs) e ∙ at))) o.2)))
-      (λ n. (o.0, set_else vs id (owner k) w n ∙ o.1, o.2))
-
-  pub draws : (id number : ℕ) (seen own : Ts) → Allows R 1 id (one_number given number seen own None false, []) 0 (λ n. (n + 1) % 2 ^ 64) (Drew (step 1 0 1 0 none) (one_number given number seen own None false, []))
+  pub draws : (id number : ℕ) (seen own : Ts)
+        → Allows R 1 id (one_number given number seen own None false, []) 0 (λ n. (n + 1) % 2 ^ 64)
+        (Drew (step 1 0 1 0 none) (one_number given number seen own None false, []))
   draws id number seen own s r len at lt =
       let v : V = one_number given number seen own None false in
       let w : V = one_number given number seen own (Some r.drawn) false in
@@ -80,18 +66,20 @@ module _ {S T O A E : Type 0} (says : ServedSays S T O A E) (given : Given T E) 
           drawn = r.drawn + 1;
           owner = r.owner;
           holder = put r.holder r.drawn id;
-          words = ap (λ ws. set ws 0 ((get_or ws 0 0 + 1) % 2 ^ 64)) r.words ∙ ap (λ n. n ∷ length r.turns % 2 ^ 64 ∷ passes ∷ []) (mod-add-mod r.drawn (2 ^ 64) 1);
+          words = ap (λ ws. set ws 0 ((get_or ws 0 0 + 1) % 2 ^ 64)) r.words
+                ∙ ap (λ n. n ∷ length r.turns % 2 ^ 64 ∷ passes ∷ []) (mod-add-mod r.drawn (2 ^ 64) 1);
           few = r.few;
           shared_out = omega arith;
           queue = omega arith;
           whole = r.whole;
           numbered = r.numbered;
-          slot = (r.slot.0, r.slot.1, lies_still r.turns s.views id v w r.slot.0 at refl refl r.slot.2);
+          slot = (r.slot.0, r.slot.1, lies_still says given passes r.turns s.views id v w r.slot.0 at refl refl r.slot.2);
           each = each_set (Suits given passes (r.drawn + 1) r.turns r.owner (put r.holder r.drawn id)) s.views id w
               record {
                 given_is = λ _. refl;
                 seen = mine.seen;
-                ticket = λ n e. let is = some_same r.drawn n e in (omega arith, omega arith, put_here r.holder r.drawn id n (sym is));
+                ticket = λ n e. let is = some_same r.drawn n e in
+                      (omega arith, omega arith, put_here r.holder r.drawn id n (sym is));
                 turn = λ e. true_not_false false e refl;
                 waits_once = omega arith;
                 shares = mine.shares;
@@ -101,26 +89,30 @@ module _ {S T O A E : Type 0} (says : ServedSays S T O A E) (given : Given T E) 
               (λ j d n e. let u = r.each j d e in record {
                 given_is = u.given_is;
                 seen = u.seen;
-                ticket = λ k t. let z = u.ticket k t in let z0 = z.0 in let z1 = z.1 in (z0, omega arith, put_else r.holder r.drawn id k (λ c. omega arith) ∙ z.2);
+                ticket = λ k t. let z = u.ticket k t in let z0 = z.0 in let z1 =
+                      z.1 in (z0, omega arith, put_else r.holder r.drawn id k (λ c. omega arith) ∙ z.2);
                 turn = u.turn;
                 waits_once = u.waits_once;
                 shares = u.shares;
                 apart = u.apart;
                 left = u.left;
               });
-          had = had_still s.views id v w r.owner at (λ k h. h) r.had;
+          had = had_still says given passes s.views id v w r.owner at (λ k h. h) r.had;
         },
         (r.drawn, sym found, refl),
       )
 
   -- where a ticket is out, it is the serving one exactly where the words say so
-  serves_it : (s : St) (r : R s) (id number n : ℕ) (seen own : Ts) (b : Bool) → get_elem? s.views id ≡ some (one_number given number seen own (Some n) b) → length r.turns % 2 ^ 64 ≡ n % 2 ^ 64 → length r.turns ≡ n
+  serves_it : (s : St) (r : R s) (id number n : ℕ) (seen own : Ts) (b : Bool)
+        → get_elem? s.views id ≡ some (one_number given number seen own (Some n) b)
+        → length r.turns % 2 ^ 64 ≡ n % 2 ^ 64 → length r.turns ≡ n
   serves_it s r id number n seen own b at e =
       let mine = r.each id (one_number given number seen own (Some n) b) at in
       let t = mine.ticket n refl in
       let le = t.0 in
       let lt = t.1 in
-      let all : sum_over waits s.views ≤ sum_over numbers_of s.views = sum_le waits numbers_of s.views (λ i v h. (r.each i v h).waits_once) in
+      let all : sum_over waits s.views ≤ sum_over numbers_of s.views =
+            sum_le waits numbers_of s.views (λ i v h. (r.each i v h).waits_once) in
       let so = r.shared_out in
       let qu = r.queue in
       let few = r.few in
@@ -143,7 +135,8 @@ module _ {S T O A E : Type 0} (says : ServedSays S T O A E) (given : Given T E) 
   abbrev SameMade : Made → Made → Type 0
   SameMade x y = x ≡ y
 
-  same_player : (g g' : Given T E) (k k' n n' : ℕ) (s s' o o' : Ts) (b b' : Bool) (c c' : List (ℕ × H)) → Same (one_number g k s o (Some n) b, c) (one_number g' k' s' o' (Some n') b', c')
+  same_player : (g g' : Given T E) (k k' n n' : ℕ) (s s' o o' : Ts) (b b' : Bool) (c c' : List (ℕ × H))
+        → Same (one_number g k s o (Some n) b, c) (one_number g' k' s' o' (Some n') b', c')
       → SameMade (g, k, n, s, o) (g', k', n', s', o')
   same_player g g' k k' n n' s s' o o' b b' c c' e =
       let eg : g ≡ g' = some_same g g' (ap (λ (z : Mine). z.0.given) e) in
@@ -152,17 +145,24 @@ module _ {S T O A E : Type 0} (says : ServedSays S T O A E) (given : Given T E) 
       λ i. (eg i, (eh i).number, en i, (e i).0.seen, (eh i).own)
 
   abbrev Looks : St → ℕ → ℕ → ℕ → Ts → Ts → Type 0
-  Looks s id number n seen own = (w : V) × (a : Act H) × Valid s.homes [] a × R (stepped s 1 (get_or s.words 1 0) id [] w a)
-      × Looked says (step 1 1 0 0 none) (one_number given number seen own (Some n) false, []) (get_or s.words 1 0) (w, carried_after [] a)
+  Looks s id number n seen own = (w : V) × (a : Act H) × Valid s.homes [] a
+        × R (stepped s 1 (get_or s.words 1 0) id [] w a)
+      × Looked says (step 1 1 0 0 none) (one_number given number seen own (Some n) false, []) (get_or s.words 1 0)
+            (w, carried_after [] a)
 
-  takes_it : (s : St) (r : R s) (id number n : ℕ) (seen own : Ts) → get_elem? s.views id ≡ some (one_number given number seen own (Some n) false) → get_or s.words 1 0 ≡ n % 2 ^ 64 → length r.turns ≡ n
+  takes_it : (s : St) (r : R s) (id number n : ℕ) (seen own : Ts)
+        → get_elem? s.views id ≡ some (one_number given number seen own (Some n) false)
+        → get_or s.words 1 0 ≡ n % 2 ^ 64 → length r.turns ≡ n
       → (h : maybe.Option H) → s.homes ≡ h ∷ [] → L r.turns s.views h → Looks s id number n seen own
   takes_it s r id number n seen own at e is none homes l =
       let t = (r.each l.0 l.1 l.2).turn l.3 in
       let z = (r.each l.0 l.1 l.2).ticket (length r.turns) t.0 in
       let m = (r.each id (one_number given number seen own (Some n) false) at).ticket n refl in
       let same : l.0 ≡ id = sym z.2 ∙ (ap r.holder is ∙ m.2) in
-      true_not_false l.1.has_turn l.3 (ap (λ (d : V). d.has_turn) (some-injective l.1 (one_number given number seen own (Some n) false) (sym l.2 ∙ (ap (get_elem? s.views) same ∙ at))))
+      true_not_false l.1.has_turn l.3
+            (ap (λ (d : V). d.has_turn)
+            (some-injective l.1 (one_number given number seen own (Some n) false) (sym l.2
+            ∙ (ap (get_elem? s.views) same ∙ at))))
   takes_it s r id number n seen own at e is (some h) homes l =
       let v : V = one_number given number seen own (Some n) false in
       let w : V = one_number given number r.turns own (Some n) true in
@@ -198,7 +198,7 @@ module _ {S T O A E : Type 0} (says : ServedSays S T O A E) (given : Given T E) 
                 left = λ k a b. absurd (omega (arith, a, b));
               }
               (λ j d ne f. r.each j d f);
-          had = had_still s.views id v w r.owner at (λ k f. f) r.had;
+          had = had_still says given passes s.views id v w r.owner at (λ k f. f) r.had;
         },
         (λ g k m seen' own' same.
             let made = same_player given g number k n m seen seen' own own' false false [] [] same in (
@@ -219,35 +219,43 @@ module _ {S T O A E : Type 0} (says : ServedSays S T O A E) (given : Given T E) 
       )
 
   pub looks : (id number n : ℕ) (seen own : Ts)
-      → Allows R 1 id (one_number given number seen own (Some n) false, []) 1 (λ m. m) (Looked says (step 1 1 0 0 none) (one_number given number seen own (Some n) false, []))
+      → Allows R 1 id (one_number given number seen own (Some n) false, []) 1 (λ m. m)
+            (Looked says (step 1 1 0 0 none) (one_number given number seen own (Some n) false, []))
   looks id number n seen own s r len at lt =
       let v : V = one_number given number seen own (Some n) false in
       let found : get_or s.words 1 0 ≡ length r.turns % 2 ^ 64 = ap (λ ws. get_or ws 1 0) r.words in
       dite (ℕ_discrete (get_or s.words 1 0) (n % 2 ^ 64))
-      (λ e. takes_it s r id number n seen own at e (serves_it s r id number n seen own false at (sym found ∙ e)) r.slot.0 r.slot.1 r.slot.2)
+      (λ e. takes_it s r id number n seen own at e
+            (serves_it s r id number n seen own false at (sym found ∙ e)) r.slot.0 r.slot.1 r.slot.2)
       (λ ne. (
         v,
         keeps,
         tt,
-        subst (λ (z : List ℕ × List V). R record { words = z.0; homes = s.homes; views = z.1 }) (λ i. (sym (set-get_or s.words 1 0) i, sym (set_again s.views id v at) i)) r,
+        subst (λ (z : List ℕ × List V). R record { words = z.0; homes = s.homes; views = z.1 })
+              (λ i. (sym (set-get_or s.words 1 0) i, sym (set_again s.views id v at) i)) r,
         (λ g k m seen' own' same.
             let made = same_player given g number k n m seen seen' own own' false false [] [] same in
             (λ e. absurd (ne (e ∙ ap (λ (z : Made). z.2 % 2 ^ 64) (sym made))), λ not. refl)),
       ))
 
-  has_more : (number : ℕ) (seen seen' own own' : Ts) (t t' : Option ℕ) (b b' : Bool) (k : ℕ) → HasNumber k (one_number given number seen own t b) → HasNumber k (one_number given number seen' own' t' b')
+  has_more : (number : ℕ) (seen seen' own own' : Ts) (t t' : Option ℕ) (b b' : Bool) (k : ℕ)
+        → HasNumber k (one_number given number seen own t b) → HasNumber k (one_number given number seen' own' t' b')
   has_more number seen seen' own own' t t' b b' k f = ⊎_elim
-      (λ (p : (j : ℕ) × (h : Share O A E) × (get_elem? (share number own ∷ []) j ≡ some h) × (h.number ≡ k)). inl (0, share number own', refl, ap (λ (z : Share O A E). z.number) (at_one (share number own) p.1 p.0 p.2).1 ∙ p.3))
+      (λ (p : (j : ℕ) × (h : Share O A E) × (get_elem? (share number own ∷ []) j ≡ some h) × (h.number ≡ k)). inl
+            (0, share number own', refl, ap (λ (z : Share O A E). z.number) (at_one (share number own) p.1 p.0 p.2).1
+            ∙ p.3))
       (λ (p : (0 ≤ k) × (k < 0 + 0)). let z = p.1 in absurd (omega arith)) f
 
   abbrev held_or : H → List (ℕ × H) → H
   held_or h [] = h
   held_or h (x ∷ xs) = x.1
 
-  pub finishes : (id number n : ℕ) (seen own : Ts) (h : H) (y : S) (last : LastTurn O A) → h.served ≡ Some y → h.last ≡ Some last
+  pub finishes : (id number n : ℕ) (seen own : Ts) (h : H) (y : S) (last : LastTurn O A) → h.served ≡ Some y
+        → h.last ≡ Some last
       → IsAt says given (seen ++ turn_here says given number seen last.op.value last.answer.value y ∷ []) y
       → IsTurn says.relates given seen (turn_here says given number seen last.op.value last.answer.value y)
-      → Allows R 1 id (one_number given number seen own (Some n) true, (0, h) ∷ []) 1 (λ m. (m + 1) % 2 ^ 64) (GaveBack says (step 1 1 1 0 none) (one_number given number seen own (Some n) true, (0, h) ∷ []))
+      → Allows R 1 id (one_number given number seen own (Some n) true, (0, h) ∷ []) 1 (λ m. (m + 1) % 2 ^ 64)
+            (GaveBack says (step 1 1 1 0 none) (one_number given number seen own (Some n) true, (0, h) ∷ []))
   finishes id number n seen own h y last sy st isat one s r len at lt =
       let t : Turn O A E = turn_here says given number seen last.op.value last.answer.value y in
       let v : V = one_number given number seen own (Some n) true in
@@ -260,13 +268,17 @@ module _ {S T O A E : Type 0} (says : ServedSays S T O A E) (given : Given T E) 
       let q = sum_set waits s.views id v w at in
       let so = r.shared_out in
       let qu = r.queue in
-      let longer_of : length (seen ++ t ∷ []) ≡ length r.turns + 1 = length-append seen (t ∷ []) ∙ ap (λ (z : Ts). length z + 1) all in
+      let longer_of : length (seen ++ t ∷ []) ≡ length r.turns + 1 = length-append seen (t ∷ [])
+            ∙ ap (λ (z : Ts). length z + 1) all in
       let holds : r.holder (length r.turns) ≡ id = (mine.ticket (length r.turns) turn.0).2 in
       let goes : (d : Ts) → StartsWith r.turns d → StartsWith (seen ++ t ∷ []) d =
       λ d f. (f.0 ++ t ∷ [], ap (λ (z : Ts). z ++ t ∷ []) (all ∙ f.1) ∙ append_assoc d f.0 (t ∷ [])) in
-      let others : (k : ℕ) → k ≢ number → turns_by k (seen ++ t ∷ []) ≡ turns_by k r.turns = λ k ne. by_other k seen t (λ e. ne (sym e)) ∙ ap (turns_by k) all in
+      let others : (k : ℕ) → k ≢ number
+            → turns_by k (seen ++ t ∷ []) ≡ turns_by k r.turns = λ k ne. by_other k seen t (λ e. ne (sym e))
+            ∙ ap (turns_by k) all in
       let idle : (j : ℕ) (d : V) → j ≢ id → get_elem? s.views j ≡ some d → d.has_turn ≡ false =
-      λ j d ne f. is_false d.has_turn (λ e. ne (sym ((r.each j d f).ticket (length r.turns) ((r.each j d f).turn e).0).2 ∙ holds)) in (
+      λ j d ne f. is_false d.has_turn
+            (λ e. ne (sym ((r.each j d f).ticket (length r.turns) ((r.each j d f).turn e).0).2 ∙ holds)) in (
         w,
         gives,
         tt,
@@ -275,14 +287,19 @@ module _ {S T O A E : Type 0} (says : ServedSays S T O A E) (given : Given T E) 
           drawn = r.drawn;
           owner = r.owner;
           holder = r.holder;
-          words = ap (λ ws. set ws 1 ((get_or ws 1 0 + 1) % 2 ^ 64)) r.words ∙ ap (λ k. r.drawn % 2 ^ 64 ∷ k ∷ passes ∷ []) (mod-add-mod (length r.turns) (2 ^ 64) 1 ∙ ap (λ k. k % 2 ^ 64) (sym longer_of));
+          words = ap (λ ws. set ws 1 ((get_or ws 1 0 + 1) % 2 ^ 64)) r.words
+                ∙ ap (λ k. r.drawn % 2 ^ 64 ∷ k ∷ passes ∷ []) (mod-add-mod (length r.turns) (2 ^ 64) 1
+                ∙ ap (λ k. k % 2 ^ 64) (sym longer_of));
           few = r.few;
           shared_out = omega arith;
           queue = omega arith;
           whole = one_more says.relates given seen t (subst (AreTurns says.relates given) (sym all) r.whole) one;
-          numbered = λ earlier u later e. ⊎_elim (λ (z : (seen ≡ earlier) × (t ≡ u)). subst (λ (x : Turn O A E). x.pass < passes) z.1 share_is.0)
-              (λ (z : (l : Ts) × (seen ≡ earlier ++ u ∷ l)). r.numbered earlier u z.0 (sym all ∙ z.1)) (at_end seen t u earlier later e);
-          slot = (some h, ap (λ hs. set hs 0 (some h)) r.slot.1, ((y, sy, isat), each_set (λ _ d. d.has_turn ≡ false) s.views id w refl idle));
+          numbered = λ earlier u later e.
+                ⊎_elim (λ (z : (seen ≡ earlier) × (t ≡ u)). subst (λ (x : Turn O A E). x.pass < passes) z.1 share_is.0)
+              (λ (z : (l : Ts) × (seen ≡ earlier ++ u ∷ l)). r.numbered earlier u z.0 (sym all ∙ z.1))
+                    (at_end seen t u earlier later e);
+          slot = (some h, ap (λ hs. set hs 0 (some h)) r.slot.1,
+                ((y, sy, isat), each_set (λ _ d. d.has_turn ≡ false) s.views id w refl idle));
           each = each_set (Suits given passes r.drawn (seen ++ t ∷ []) r.owner r.holder) s.views id w
               record {
                 given_is = λ _. refl;
@@ -291,285 +308,59 @@ module _ {S T O A E : Type 0} (says : ServedSays S T O A E) (given : Given T E) 
                 turn = λ e. true_not_false false e refl;
                 waits_once = omega arith;
                 shares = λ j g e. let o = at_one (share number (own ++ t ∷ [])) g j e in
-                    subst (λ (z : Share O A E). (z.number < passes) × (r.owner z.number ≡ id) × (turns_by z.number (seen ++ t ∷ []) ≡ z.own)) o.1
-                    (share_is.0, share_is.1, by_own number seen t refl ∙ ap (λ (z : Ts). z ++ t ∷ []) (ap (turns_by number) all ∙ share_is.2));
-                apart = λ j k f g e e' _. (at_one (share number (own ++ t ∷ [])) f j e).0 ∙ sym (at_one (share number (own ++ t ∷ [])) g k e').0;
+                    subst (λ (z : Share O A E). (z.number < passes) × (r.owner z.number ≡ id)
+                          × (turns_by z.number (seen ++ t ∷ []) ≡ z.own)) o.1
+                    (share_is.0, share_is.1, by_own number seen t refl
+                          ∙ ap (λ (z : Ts). z ++ t ∷ []) (ap (turns_by number) all ∙ share_is.2));
+                apart = λ j k f g e e' _. (at_one (share number (own ++ t ∷ [])) f j e).0
+                      ∙ sym (at_one (share number (own ++ t ∷ [])) g k e').0;
                 left = λ k a b. absurd (omega arith);
               }
               (λ j d ne f. let u = r.each j d f in record {
                 given_is = u.given_is;
                 seen = goes d.seen u.seen;
                 ticket = λ k e. let z = u.ticket k e in let z0 = z.0 in
-                    let far : length r.turns ≢ k = λ same. ne (sym z.2 ∙ (ap r.holder (sym same) ∙ holds)) in (omega (arith, far), z.1, z.2);
+                    let far : length r.turns ≢ k = λ same. ne (sym z.2 ∙ (ap r.holder (sym same) ∙ holds)) in
+                          (omega (arith, far), z.1, z.2);
                 turn = λ e. true_not_false d.has_turn e (idle j d ne f);
                 waits_once = u.waits_once;
-                shares = λ i g e. let z = u.shares i g e in (z.0, z.1, others g.number (λ same. ne (sym z.1 ∙ (ap r.owner same ∙ share_is.1))) ∙ z.2);
+                shares = λ i g e. let z = u.shares i g e in
+                      (z.0, z.1, others g.number (λ same. ne (sym z.1 ∙ (ap r.owner same ∙ share_is.1))) ∙ z.2);
                 apart = u.apart;
-                left = λ k a b. let z = u.left k a b in (z.0, z.1, others k (λ same. ne (sym z.1 ∙ (ap r.owner same ∙ share_is.1))) ∙ z.2);
+                left = λ k a b. let z = u.left k a b in
+                      (z.0, z.1, others k (λ same. ne (sym z.1 ∙ (ap r.owner same ∙ share_is.1))) ∙ z.2);
               });
-          had = had_still s.views id v w r.owner at (λ k f. has_more number seen (seen ++ t ∷ []) own (own ++ t ∷ []) (Some n) None true false k f) r.had;
+          had = had_still says given passes s.views id v w r.owner at
+                (λ k f. has_more number seen (seen ++ t ∷ []) own (own ++ t ∷ []) (Some n) None true false k f) r.had;
         },
         (λ g k m seen' own' h' y' last' same sy' st'.
-            let made = same_player given g number k n m seen seen' own own' true true ((0, h) ∷ []) ((0, h') ∷ []) same in
+            let made = same_player given g number k n m seen seen' own own' true true ((0, h) ∷ [])
+                  ((0, h') ∷ []) same in
             let hs : h ≡ h' = ap (λ (z : Mine). held_or h z.1) same in
             let ys : y ≡ y' = some_same y y' (sym sy ∙ (ap (λ (z : H). z.served) hs ∙ sy')) in
             let ts : last ≡ last' = some_same last last' (sym st ∙ (ap (λ (z : H). z.last) hs ∙ st')) in
-            λ i. let u : Turn O A E = turn_here says (made i).0 (made i).1 (made i).3 (ts i).op.value (ts i).answer.value (ys i) in
+            λ i. let u : Turn O A E = turn_here says (made i).0 (made i).1 (made i).3 (ts i).op.value
+                  (ts i).answer.value (ys i) in
             (one_number (made i).0 (made i).1 ((made i).3 ++ u ∷ []) ((made i).4 ++ u ∷ []) None false, [])),
       )
 
-  -- a seat that has numbers to hand on
-  abbrev at_first : Ts → ℕ → ℕ → V
-  at_first base next left = dealing given base next left
-
-  pub opens : (x : S) (base : Ts) → IsAt says given base x → AreTurns says.relates given base → AreNumbered passes base → passes < 2 ^ 32
-      → R (opening (length base % 2 ^ 64 ∷ length base % 2 ^ 64 ∷ passes ∷ []) (record { served = Some x; last = None } ∷ []) (at_first base 0 passes))
-  opens x base isat all numbered few = record {
-    turns = base;
-    drawn = length base;
-    owner = λ _. 0;
-    holder = λ _. 0;
-    words = refl;
-    few = few;
-    shared_out = omega arith;
-    queue = omega arith;
-    whole = all;
-    numbered = numbered;
-    slot = (some record { served = Some x; last = None }, refl, ((x, refl, isat), λ i v e. ap (λ (d : V). d.has_turn) (sym (at_one (at_first base 0 passes) v i e).1)));
-    each = λ i v e. let o = at_one (at_first base 0 passes) v i e in
-        subst (λ (z : ℕ × V). Suits given passes (length base) base (λ _. 0) (λ _. 0) z.0 z.1) (λ c. (sym o.0 c, o.1 c)) record {
-      given_is = λ _. refl;
-      seen = ([], sym (append-nil base));
-      ticket = λ k f. some_not_none k (sym f);
-      turn = λ f. true_not_false false f refl;
-      waits_once = omega arith;
-      shares = λ j g f. absurd (some-ne-none g (sym f));
-      apart = λ j k f g a b _. absurd (some-ne-none f (sym a));
-      left = λ k a b. (omega arith, refl, refl);
-    };
-    had = λ k lt. (at_first base 0 passes, refl, inr (omega arith, omega arith));
-  }
-
-  -- another view comes that has no turn
-  lies_more : (turns : Ts) (vs : List V) (w : V) (h : maybe.Option H) → w.has_turn ≡ false → L turns vs h → L turns (vs ++ w ∷ []) h
-  lies_more turns vs w (some h) f l = (l.0, each_more (λ _ d. d.has_turn ≡ false) vs w f l.1)
-  lies_more turns vs w none f l = (l.0, l.1, at_longer vs (w ∷ []) l.0 l.1 l.2, l.3)
-
-  at_last_one : (vs : List V) (w : V) → get_elem? (vs ++ w ∷ []) (length vs) ≡ some w
-  at_last_one vs w = at_last vs w (length vs) refl
-
-  left_on : (base : Ts) (next left k : ℕ) → k ≢ next → HasNumber k (at_first base next left) → HasNumber k (dealer (at_first base next left))
-  left_on base next left k ne f = ⊎_elim (λ (p : (j : ℕ) × (h : Share O A E) × (get_elem? [] j ≡ some h) × (h.number ≡ k)). absurd (some-ne-none p.1 (sym p.2)))
-      (λ (p : (next ≤ k) × (k < next + left)). let a = p.0 in let b = p.1 in inr (omega arith, omega arith)) f
-
-  pub deals : (base : Ts) (id next left : ℕ) → 0 < left → Splits R id (at_first base next left) (dealer (at_first base next left)) (dealt (at_first base next left))
-  deals base id next left some_left s r at =
-      let v : V = at_first base next left in
-      let l : V = dealer v in
-      let w : V = dealt v in
-      let vs : List V = set s.views id l in
-      let new : ℕ = length s.views in
-      let same_length : length vs ≡ new = length_set s.views id l in
-      let mine = r.each id v at in
-      let here = mine.left next (omega arith) (omega arith) in
-      let p = sum_set numbers_of s.views id v l at in
-      let q = sum_set waits s.views id v l at in
-      let p' = sum_snoc numbers_of vs w in
-      let q' = sum_snoc waits vs w in
-      let so = r.shared_out in
-      let qu = r.queue in
-      let lt : id < new = at_lt s.views id v at in
-      let owner : ℕ → ℕ = put r.owner next new in record {
-        turns = r.turns;
-        drawn = r.drawn;
-        owner = owner;
-        holder = r.holder;
-        words = r.words;
-        few = r.few;
-        shared_out = omega arith;
-        queue = omega arith;
-        whole = r.whole;
-        numbered = r.numbered;
-        slot = (r.slot.0, r.slot.1, lies_more r.turns vs w r.slot.0 refl (lies_still r.turns s.views id v l r.slot.0 at refl refl r.slot.2));
-        each = each_more (Suits given passes r.drawn r.turns owner r.holder) vs w
-            record {
-              given_is = λ _. refl;
-              seen = mine.seen;
-              ticket = λ k f. some_not_none k (sym f);
-              turn = λ f. true_not_false false f refl;
-              waits_once = omega arith;
-              shares = λ j g f. subst (λ (z : Share O A E). (z.number < passes) × (owner z.number ≡ length vs) × (turns_by z.number r.turns ≡ z.own)) (at_one (share next (turns_by next base)) g j f).1
-                  (here.0, put_here r.owner next new next refl ∙ sym same_length, here.2);
-              apart = λ j k f g a b _. (at_one (share next (turns_by next base)) f j a).0 ∙ sym (at_one (share next (turns_by next base)) g k b).0;
-              left = λ k a b. absurd (omega arith);
-            }
-            (each_set (Suits given passes r.drawn r.turns owner r.holder) s.views id l
-            record {
-              given_is = λ _. refl;
-              seen = mine.seen;
-              ticket = mine.ticket;
-              turn = mine.turn;
-              waits_once = omega arith;
-              shares = λ j g f. absurd (some-ne-none g (sym f));
-              apart = λ j k f g a b _. absurd (some-ne-none f (sym a));
-              left = λ k a b. let z = mine.left k (omega arith) (omega arith) in (z.0, put_else r.owner next new k (λ c. omega arith) ∙ z.1, z.2);
-            }
-            (λ j d ne f. let u = r.each j d f in record {
-              given_is = u.given_is;
-              seen = u.seen;
-              ticket = u.ticket;
-              turn = u.turn;
-              waits_once = u.waits_once;
-              shares = λ i g e. let z = u.shares i g e in (z.0, put_else r.owner next new g.number (λ c. ne (sym z.1 ∙ (ap r.owner c ∙ here.1))) ∙ z.1, z.2);
-              apart = u.apart;
-              left = λ k a b. let z = u.left k a b in (z.0, put_else r.owner next new k (λ c. ne (sym z.1 ∙ (ap r.owner c ∙ here.1))) ∙ z.1, z.2);
-            }));
-        had = λ k small. dite (ℕ_discrete k next)
-            (λ e. (w, ap (get_elem? (vs ++ w ∷ [])) (put_here r.owner next new k e ∙ sym same_length) ∙ at_last_one vs w, inl (0, share next (turns_by next base), refl, sym e)))
-            (λ ne. let o = r.had k small in let places = put_else r.owner next new k ne in
-            dite (ℕ_discrete (r.owner k) id)
-            (λ e. (
-              l,
-              at_longer vs (w ∷ []) (owner k) l (ap (get_elem? vs) (places ∙ e) ∙ set_here s.views id l lt),
-              left_on base next left k ne (subst (HasNumber k) (some-injective o.0 v (sym o.1 ∙ (ap (get_elem? s.views) e ∙ at))) o.2),
-            ))
-            (λ other. (o.0, at_longer vs (w ∷ []) (owner k) o.0 (ap (get_elem? vs) places ∙ (set_else s.views id (r.owner k) l other ∙ o.1)), o.2)));
-      }
-
-  starts_longer : (turns xs ys : Ts) (b : Bool) → StartsWith turns xs → StartsWith turns ys → StartsWith turns (cond b ys xs)
-  starts_longer turns xs ys true p q = q
-  starts_longer turns xs ys false p q = p
-
-  has_left : (seen seen' : Ts) (gs hs : List (Share O A E)) (k : ℕ) → HasNumber k (gathering given seen gs) → HasNumber k (gathering given seen' (gs ++ hs))
-  has_left seen seen' gs hs k f = ⊎_elim (λ (p : (j : ℕ) × (h : Share O A E) × (get_elem? gs j ≡ some h) × (h.number ≡ k)). inl (p.0, p.1, at_longer gs hs p.0 p.1 p.2, p.3))
-      (λ (p : (0 ≤ k) × (k < 0 + 0)). let z = p.1 in absurd (omega arith)) f
-
-  has_right : (seen seen' : Ts) (gs hs : List (Share O A E)) (k : ℕ) → HasNumber k (gathering given seen hs) → HasNumber k (gathering given seen' (gs ++ hs))
-  has_right seen seen' gs hs k f = ⊎_elim (λ (p : (j : ℕ) × (h : Share O A E) × (get_elem? hs j ≡ some h) × (h.number ≡ k)). inl (length gs + p.0, p.1, at_right gs hs p.0 p.1 p.2, p.3))
-      (λ (p : (0 ≤ k) × (k < 0 + 0)). let z = p.1 in absurd (omega arith)) f
-
-  pub joins : (id other : ℕ) (seen seen' : Ts) (gs hs : List (Share O A E)) → Joins R id (gathering given seen gs) other (gathering given seen' hs) (gathered (gathering given seen gs) (gathering given seen' hs)) spent_view
-  joins id other seen seen' gs hs s r at apart at' =
-      let v : V = gathering given seen gs in
-      let w : V = gathering given seen' hs in
-      let u : V = gathered v w in
-      let vs : List V = set s.views id u in
-      let at'' : get_elem? s.views other ≡ some w = sym (set_else s.views id other u apart) ∙ at' in
-      let mine = r.each id v at in
-      let theirs = r.each other w at'' in
-      let p = sum_set numbers_of s.views id v u at in
-      let q = sum_set waits s.views id v u at in
-      let p' = sum_set numbers_of vs other w spent_view at' in
-      let q' = sum_set waits vs other w spent_view at' in
-      let so = r.shared_out in
-      let qu = r.queue in
-      let n = length-append gs hs in
-      let owner : ℕ → ℕ = λ k. put (λ x. x) other id (r.owner k) in
-      let moves : (k : ℕ) → r.owner k ≡ other → owner k ≡ id = λ k e. put_here (λ x. x) other id (r.owner k) e in
-      let stays : (k : ℕ) → r.owner k ≢ other → owner k ≡ r.owner k = λ k e. put_else (λ x. x) other id (r.owner k) e in record {
-        turns = r.turns;
-        drawn = r.drawn;
-        owner = owner;
-        holder = r.holder;
-        words = r.words;
-        few = r.few;
-        shared_out = omega arith;
-        queue = omega arith;
-        whole = r.whole;
-        numbered = r.numbered;
-        slot = (r.slot.0, r.slot.1, lies_still r.turns vs other w spent_view r.slot.0 at' refl refl (lies_still r.turns s.views id v u r.slot.0 at refl refl r.slot.2));
-        each = each_set (Suits given passes r.drawn r.turns owner r.holder) vs other spent_view
-            record {
-              given_is = λ f. absurd (omega arith);
-              seen = (r.turns, refl);
-              ticket = λ k f. some_not_none k (sym f);
-              turn = λ f. true_not_false false f refl;
-              waits_once = omega arith;
-              shares = λ j g f. absurd (some-ne-none g (sym f));
-              apart = λ j k f g a b _. absurd (some-ne-none f (sym a));
-              left = λ k a b. absurd (omega arith);
-            }
-            (λ j d ne e. ⊎_elim
-            (λ (t : (j ≡ id) × (u ≡ d)). subst (λ (x : ℕ × V). Suits given passes r.drawn r.turns owner r.holder x.0 x.1) (λ i. (sym t.0 i, t.1 i)) record {
-              given_is = λ _. refl;
-              seen = starts_longer r.turns seen seen' (nat_le (length seen) (length seen')) mine.seen theirs.seen;
-              ticket = λ k f. some_not_none k (sym f);
-              turn = λ f. true_not_false false f refl;
-              waits_once = omega arith;
-              shares = λ k g f. ⊎_elim (λ a. let z = mine.shares k g a in (z.0, stays g.number (λ c. apart (sym c ∙ z.1)) ∙ z.1, z.2))
-                  (λ (a : (i : ℕ) × (k ≡ length gs + i) × (get_elem? hs i ≡ some g)). let z = theirs.shares a.0 g a.2 in (z.0, moves g.number z.1, z.2)) (at_both gs hs k g f);
-              apart = λ k l f g a b same. ⊎_elim
-                  (λ x. ⊎_elim (λ y. mine.apart k l f g x y same)
-                  (λ (y : (i : ℕ) × (l ≡ length gs + i) × (get_elem? hs i ≡ some g)). absurd (apart (sym (theirs.shares y.0 g y.2).1 ∙ (ap r.owner (sym same) ∙ (mine.shares k f x).1)))) (at_both gs hs l g b))
-                  (λ (x : (i : ℕ) × (k ≡ length gs + i) × (get_elem? hs i ≡ some f)). ⊎_elim
-                  (λ y. absurd (apart (sym (theirs.shares x.0 f x.2).1 ∙ (ap r.owner same ∙ (mine.shares l g y).1))))
-                  (λ (y : (i : ℕ) × (l ≡ length gs + i) × (get_elem? hs i ≡ some g)). x.1 ∙ (ap (λ i. length gs + i) (theirs.apart x.0 y.0 f g x.2 y.2 same) ∙ sym y.1)) (at_both gs hs l g b))
-                  (at_both gs hs k f a);
-              left = λ k a b. absurd (omega arith);
-            })
-            (λ (t : (j ≢ id) × (get_elem? s.views j ≡ some d)). let z = r.each j d t.1 in record {
-              given_is = z.given_is;
-              seen = z.seen;
-              ticket = z.ticket;
-              turn = z.turn;
-              waits_once = z.waits_once;
-              shares = λ i g f. let y = z.shares i g f in (y.0, stays g.number (λ c. ne (sym y.1 ∙ c)) ∙ y.1, y.2);
-              apart = z.apart;
-              left = λ k a b. let y = z.left k a b in (y.0, stays k (λ c. ne (sym y.1 ∙ c)) ∙ y.1, y.2);
-            })
-            (at_set s.views id j u d e));
-        had = λ k small. let o = r.had k small in
-            let here : get_elem? (set vs other spent_view) id ≡ some u = set_else vs other id spent_view (λ c. apart (sym c)) ∙ set_here s.views id u (at_lt s.views id v at) in
-            dite (ℕ_discrete (r.owner k) other)
-            (λ e. (u, ap (get_elem? (set vs other spent_view)) (moves k e) ∙ here, has_right seen' (longer_of seen seen') gs hs k (subst (HasNumber k) (some-injective o.0 w (sym o.1 ∙ (ap (get_elem? s.views) e ∙ at''))) o.2)))
-            (λ ne. dite (ℕ_discrete (r.owner k) id)
-            (λ e. (u, ap (get_elem? (set vs other spent_view)) (stays k ne ∙ e) ∙ here, has_left seen (longer_of seen seen') gs hs k (subst (HasNumber k) (some-injective o.0 v (sym o.1 ∙ (ap (get_elem? s.views) e ∙ at))) o.2)))
-            (λ ne'. (o.0, ap (get_elem? (set vs other spent_view)) (stays k ne) ∙ (set_else vs other (r.owner k) spent_view ne ∙ (set_else s.views id (r.owner k) u ne' ∙ o.1)), o.2)));
-      }
-
-  -- what is so once a seat has every number
-  pub ends : (s : St) → R s → (id : ℕ) (seen : Ts) (shares : List (Share O A E)) → get_elem? s.views id ≡ some (gathering given seen shares) → passes ≤ length shares
-      → (turns : Ts) × (h : H) × (x : S) × (s.homes ≡ some h ∷ []) × (h.served ≡ Some x) × IsAt says given turns x × HaveAll says.relates given passes turns shares
-  ends s r id seen shares at enough = ended r.slot.0 r.slot.1 r.slot.2
-    where
-      alone : (j : ℕ) (d : V) → get_elem? s.views j ≡ some d → 0 < numbers_of d → j ≡ id
-      alone j d e some_part = dite (ℕ_discrete j id) (λ y. y) (λ ne. absurd (let t = sum_two numbers_of s.views j id d (gathering given seen shares) ne e at in let so = r.shared_out in omega arith))
-
-      has_part : (k : ℕ) (d : V) → HasNumber k d → 0 < numbers_of d
-      has_part k d f = ⊎_elim (λ (p : (j : ℕ) × (h : Share O A E) × (get_elem? d.shares j ≡ some h) × (h.number ≡ k)). let z = at_lt d.shares p.0 p.1 p.2 in omega arith)
-          (λ (p : (d.next ≤ k) × (k < d.next + d.left)). let a = p.0 in let b = p.1 in omega arith) f
-
-      known : HaveAll says.relates given passes r.turns shares
-      known = record {
-        whole = r.whole;
-        numbered = r.numbered;
-        count = let most = sum_at numbers_of s.views id (gathering given seen shares) at in let so = r.shared_out in omega arith;
-        share_is = λ j g e. let z = (r.each id (gathering given seen shares) at).shares j g e in (z.0, z.2);
-        apart = (r.each id (gathering given seen shares) at).apart;
-        all = λ k small. let o = r.had k small in
-            let here : r.owner k ≡ id = alone (r.owner k) o.0 o.1 (has_part k o.0 o.2) in
-            ⊎_elim (λ (p : (j : ℕ) × (h : Share O A E) × (get_elem? shares j ≡ some h) × (h.number ≡ k)). p) (λ (p : (0 ≤ k) × (k < 0 + 0)). let z = p.1 in absurd (omega arith))
-            (subst (HasNumber k) (some-injective o.0 (gathering given seen shares) (sym o.1 ∙ (ap (get_elem? s.views) here ∙ at))) o.2);
-      }
-
-      ended : (h : maybe.Option H) → s.homes ≡ h ∷ [] → L r.turns s.views h
-          → (turns : Ts) × (h : H) × (x : S) × (s.homes ≡ some h ∷ []) × (h.served ≡ Some x) × IsAt says given turns x × HaveAll says.relates given passes turns shares
-      ended (some h) homes l = (r.turns, h, l.0.0, homes, l.0.1, l.0.2, known)
-      ended none homes l =
-          let u = r.each l.0 l.1 l.2 in
-          let w = u.waits_once in
-          let one : waits l.1 ≡ 1 = ap (λ t. tickets t) (u.turn l.3).0 in
-          let same = alone l.0 l.1 l.2 (omega arith) in
-          true_not_false l.1.has_turn l.3 (ap (λ (d : V). d.has_turn) (some-injective l.1 (gathering given seen shares) (sym l.2 ∙ (ap (get_elem? s.views) same ∙ at))))
-
   -- the same, as a call of the table asks it
-  pub draws_idle : (slots id : ℕ) (m : Mine) → slots ≡ 1 → IsIdle given m → Allows R slots id m 0 (λ n. (n + 1) % 2 ^ 64) (Drew (step slots 0 1 0 none) m)
-  draws_idle slots id m one idle = subst (λ (z : ℕ × Mine). Allows R z.0 id z.1 0 (λ n. (n + 1) % 2 ^ 64) (Drew (step z.0 0 1 0 none) z.1)) (λ i. (sym one i, sym idle.3 i)) (draws id idle.0 idle.1 idle.2)
+  pub draws_idle : (slots id : ℕ) (m : Mine) → slots ≡ 1 → IsIdle given m
+        → Allows R slots id m 0 (λ n. (n + 1) % 2 ^ 64) (Drew (step slots 0 1 0 none) m)
+  draws_idle slots id m one idle =
+        subst (λ (z : ℕ × Mine). Allows R z.0 id z.1 0 (λ n. (n + 1) % 2 ^ 64) (Drew (step z.0 0 1 0 none) z.1))
+        (λ i. (sym one i, sym idle.3 i)) (draws id idle.0 idle.1 idle.2)
 
-  pub looks_waiting : (slots id ticket : ℕ) (m : Mine) → slots ≡ 1 → IsWaiting given ticket m → Allows R slots id m 1 (λ n. n) (Looked says (step slots 1 0 0 none) m)
-  looks_waiting slots id ticket m one wait = subst (λ (z : ℕ × Mine). Allows R z.0 id z.1 1 (λ n. n) (Looked says (step z.0 1 0 0 none) z.1)) (λ i. (sym one i, sym wait.5 i)) (looks id wait.0 wait.3 wait.1 wait.2)
+  pub looks_waiting : (slots id ticket : ℕ) (m : Mine) → slots ≡ 1 → IsWaiting given ticket m
+        → Allows R slots id m 1 (λ n. n) (Looked says (step slots 1 0 0 none) m)
+  looks_waiting slots id ticket m one wait =
+        subst (λ (z : ℕ × Mine). Allows R z.0 id z.1 1 (λ n. n) (Looked says (step z.0 1 0 0 none) z.1))
+        (λ i. (sym one i, sym wait.5 i)) (looks id wait.0 wait.3 wait.1 wait.2)
 
-  pub look_tells : (st : Step H) (found ticket : ℕ) (m m' : Mine) (b : Bool) → eqb found ticket ≡ b → IsWaiting given ticket m → Looked says st m found m'
+  pub look_tells : (st : Step H) (found ticket : ℕ) (m m' : Mine) (b : Bool) → eqb found ticket ≡ b
+        → IsWaiting given ticket m → Looked says st m found m'
       → MatchBool b (HasTurn says given ticket m m') (m' ≡ m)
-  look_tells st found ticket m m' true is wait tells = λ number n seen own low same. (tells given number n seen own same).0 (eqb-true found ticket is ∙ sym low)
-  look_tells st found ticket m m' false is wait tells = (tells given wait.0 wait.3 wait.1 wait.2 wait.5).1 (λ e. true_not_false (eqb found ticket) (eq-eqb found ticket (e ∙ wait.4)) is)
+  look_tells st found ticket m m' true is wait tells =
+        λ number n seen own low same. (tells given number n seen own same).0 (eqb-true found ticket is ∙ sym low)
+  look_tells st found ticket m m' false is wait tells = (tells given wait.0 wait.3 wait.1 wait.2 wait.5).1
+        (λ e. true_not_false (eqb found ticket) (eq-eqb found ticket (e ∙ wait.4)) is)

@@ -4,7 +4,8 @@ use Rattle.turn_desk.specs.declared.turn.Stamp.{Stamp}
 use Rattle.turn_desk.specs.declared.turn.Turn.{Turn}
 use Rattle.turn_desk.specs.Turns.{last_mark}
 
--- What is told at some moment, `now`, of it and of the moments before: which images a crash at a moment might leave, and whether an image
+-- What is told at some moment, `now`, of it and of the moments before: which images a crash at a moment might leave,
+-- and whether an image
 -- agrees with what was read then.
 pub record Telling (I : Type 0) : Type 1 where
   pub now : ℕ
@@ -16,7 +17,8 @@ module _ {I : Type 0} where
   pub record TellsOn (old new : Telling I) : Type 0 where
     pub later : old.now ≤ new.now
     pub left : (moment : ℕ) (image : I) → moment ≤ old.now → old.may_leave moment image → new.may_leave moment image
-    pub left_before : (moment : ℕ) (image : I) → moment ≤ old.now → new.may_leave moment image → old.may_leave moment image
+    pub left_before : (moment : ℕ) (image : I) → moment ≤ old.now → new.may_leave moment image
+          → old.may_leave moment image
     pub agreed : (moment : ℕ) (image : I) → moment ≤ old.now → old.agrees moment image → new.agrees moment image
     pub agreed_before : (moment : ℕ) (image : I) → moment ≤ old.now → new.agrees moment image → old.agrees moment image
 
@@ -36,4 +38,5 @@ module _ {I : Type 0} where
   -- so from each mark of the turns
   abbrev pub FromEachMark : {O A E : Type 0} → (I → Type 0) → Telling I → Stamp → List (Turn O A E) → Type 0
   FromEachMark {O} {A} {E} good telling mark turns =
-      (front back : List (Turn O A E)) → turns ≡ front ++ back → ((last_mark mark front).time ≤ telling.now) × Lasts good telling (last_mark mark front).time
+      (front back : List (Turn O A E)) → turns ≡ front ++ back → ((last_mark mark front).time ≤ telling.now)
+            × Lasts good telling (last_mark mark front).time

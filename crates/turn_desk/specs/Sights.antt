@@ -16,7 +16,8 @@ module _ {T O A E : Type 0} where
     pub mine : turns_by s.number s.seen ≡ s.own
 
   -- the caller took one turn, of this operation and answer, and has seen all turns up to it
-  pub record Took (relates : T → List (Turn O A E) → Turn O A E → Type 0) (s : Sight T O A E) (op : O) (answer : A) (s' : Sight T O A E) : Type 0 where
+  pub record Took (relates : T → List (Turn O A E) → Turn O A E → Type 0) (s : Sight T O A E) (op : O) (answer : A)
+        (s' : Sight T O A E) : Type 0 where
     pub turn : Turn O A E
     pub between : List (Turn O A E)
     pub given : s'.given ≡ s.given
@@ -29,7 +30,8 @@ module _ {T O A E : Type 0} where
     pub knows : Knows relates s'
 
   -- the caller took just these turns, in this order
-  pub record Went (relates : T → List (Turn O A E) → Turn O A E → Type 0) (s : Sight T O A E) (mine : List (Turn O A E)) (s' : Sight T O A E) : Type 0 where
+  pub record Went (relates : T → List (Turn O A E) → Turn O A E → Type 0) (s : Sight T O A E)
+        (mine : List (Turn O A E)) (s' : Sight T O A E) : Type 0 where
     pub given : s'.given ≡ s.given
     pub number : s'.number ≡ s.number
     pub seen : StartsWith s'.seen s.seen

@@ -74,7 +74,7 @@ impl<S: Served> TurnDesk<S> {
         served
     }
 
-    /// The state, where all passes came. StillOut comes exactly where fewer did, and gives all back.
+    /// The state, where all passes came. StillOut comes exactly where fewer did, and gives them back.
     pub fn close(self, passes: Vec<Pass<S>>) -> Closed<S>
         requires of_desk { All (IsPassOf self) passes.items }
         ensures { Closes S.Served self passes result }

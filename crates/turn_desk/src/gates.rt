@@ -3,7 +3,7 @@ use std::array;
 use std::sync::Wait;
 use std::sync::atomic::{AtomicU64, Ordering};
 
-/// A ticket's holder sleeps at the gate of its ticket, so that a turn that ends wakes few but the next one.
+/// The holder of a ticket sleeps at its gate, so that the end of a turn wakes few beside the next one.
 #[derive(Drop)]
 pub struct Gates {
     counts: [AtomicU64; 16],

@@ -12,12 +12,13 @@ pub fn turns_add_up<S: Served>()
     ensures more { TurnsAddUp S.relates }
 {}
 
-/// Each turn of a caller meets the turn relation at its place among all turns, with the caller's earlier ones before it.
+/// Each turn of a caller meets the turn relation at its place among all turns, behind the caller's
+/// earlier ones.
 pub fn own_turns_are_placed<S: Served>()
     ensures { OwnTurnsArePlaced S.relates }
 {}
 
-/// An own turn of rank 0 is the first of all turns, and a caller's own turns have ascending places in the history.
+/// An own turn of rank 0 is the first of all turns, and the places of a caller's own turns ascend.
 pub fn own_turns_keep_their_order<S: Served>()
     ensures first { RankZeroIsFirst S.relates }
     ensures ascend { OwnPlacesAscend S.relates }

@@ -26,7 +26,8 @@ pub trait Served {
     ghost mark: { Self → Stamp };
 
     /// What the turn behind these turns may be, from this start.
-    ghost relates: { Self.Start → List (Turn Self.Op Self.Answer Self.Entry) → Turn Self.Op Self.Answer Self.Entry → Type 0 };
+    ghost relates: { Self.Start → List (Turn Self.Op Self.Answer Self.Entry)
+        → Turn Self.Op Self.Answer Self.Entry → Type 0 };
 
     /// The state after these turns, as far as they tell it.
     ghost stands: { Self → List (Turn Self.Op Self.Answer Self.Entry) → Type 0 };

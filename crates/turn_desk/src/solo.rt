@@ -72,7 +72,8 @@ impl<S: Served> Model for TurnLog<S> {
 
     ghost view = { λ d. d.seat.me.0 };
 
-    ghost invariant = { λ d. (d.seat.table_id ≡ d.table.shared.table_id) × (d.table.shared.table_id.words ≡ 1) };
+    ghost invariant = { λ d. (d.seat.table_id ≡ d.table.shared.table_id)
+        × (d.table.shared.table_id.words ≡ 1) };
 }
 
 impl<S: Served> TurnLog<S> {
@@ -113,7 +114,8 @@ impl<S: Served> Model for SoloDesk<S> {
 
     ghost view = { λ d. d.log };
 
-    ghost invariant = { λ d. IsSolo S.Served d.log d.served × (d.taken ≡ length d.log.seen % 2 ^ 64) };
+    ghost invariant = { λ d. IsSolo S.Served d.log d.served
+        × (d.taken ≡ length d.log.seen % 2 ^ 64) };
 }
 
 impl<S: Served> SoloDesk<S> {

@@ -115,8 +115,9 @@ impl<S: Served> TurnDesk<S> {
         all
     }
 
-    /// A desk for several threads that goes on from one of one owner, and its passes, numbered by their places. Each pass has seen the
-    /// owner's turns, and they are the first one's own. Where memory is wanting the owner's desk comes back as it was.
+    /// A desk for several threads that goes on from one of one owner, and its passes, numbered by their
+    /// places. Each pass has seen the owner's turns, which are the first one's own. Where memory is wanting
+    /// the owner's desk comes back as it was.
     pub fn start(
         alloc: Global,
         solo: SoloDesk<S>,

@@ -23,7 +23,7 @@ pub struct Turn<O, A, E> {
     pub after: Stamp,
 }
 
-/// What a desk's turns begin from: what its state showed when the desk was made. No value of it is made.
+/// What the turns begin from: what the state showed when the desk was made. No value of it is made.
 pub struct Given<T, E> {
     pub start: T,
     pub entries: LinkedList<E>,

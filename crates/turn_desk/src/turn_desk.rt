@@ -34,8 +34,8 @@ impl<S: Served> Model for TurnDesk<S> {
 
     ghost view = { λ d. desk_of d.table.shared.table_id d.table.shared.key.solo.value d.passes };
 
-    ghost invariant = { λ d. (d.table.shared.table_id.words ≡ 3) × (d.table.shared.table_id.slots ≡ 1)
-        × (d.table.shared.key.passes ≡ d.passes) × (0 < d.passes) };
+    ghost invariant = { λ d. (d.table.shared.table_id.words ≡ 3)
+        × (d.table.shared.table_id.slots ≡ 1) × (d.table.shared.key.passes ≡ d.passes) × (0 < d.passes) };
 }
 
 impl<S: Served> TurnDesk<S> {

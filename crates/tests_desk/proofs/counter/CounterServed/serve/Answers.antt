@@ -3,4 +3,5 @@ use Rattle.tests_desk.proofs.counter.CounterServed.serve.Goals as goal
 
 pub returns-clause-turn : goal.returns-clause-turn
 returns-clause-turn c turns pass is =
-    counted turns pass c.args.self.now.first c.add.new.self.first c.args.op c.add.result c.args.self.now.log.items c.add.new.self.log.items _ _ c.add.ensures is
+    counted turns pass c.args.self.now.first c.args.op c.add.result c.args.self.now.log.items c.add.new.self.log.items _ _
+    c.add.ensures.added is

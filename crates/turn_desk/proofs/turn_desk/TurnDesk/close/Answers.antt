@@ -9,5 +9,6 @@ returns g c =
     let enough = c.if-len-self.false in
     let view = ap (λ d. d.passes) c.self.view_is in
     let len : c.len.result ≡ length c.args.passes.items = search (c, rules) in
-    let e = c.finish.ensures (map share_of c.args.passes.items) (omega (arith, n, enough, view, len)) c.gather-seat.ensures.gathered in
+    let e = c.finish.ensures (map share_of c.args.passes.items)
+          (omega (arith, n, enough, view, len)) c.gather-seat.ensures.gathered in
     (e.0, e.1, closed_by g.S.Served.relates c.args.self c.args.passes.items e.0 e.2)

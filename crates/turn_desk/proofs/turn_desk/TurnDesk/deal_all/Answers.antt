@@ -17,10 +17,12 @@ loop-k-preserved g c =
     let len = c.push_reserved.ensures.len in
     let cap = c.push_reserved.ensures.capacity in
     let more = length-append c.loop-k.all.items (pass ∷ []) in
-    let items : length c.push_reserved.new.self.items ≡ k + 1 = ap length c.push_reserved.ensures.items ∙ omega arith in (
+    let items : length c.push_reserved.new.self.items ≡ k + 1 = ap length c.push_reserved.ensures.items
+          ∙ omega arith in (
       c.deal-pass.ensures.table ∙ inv.0,
       (base, inv.1.1, subst (λ n. IsDealing c.args.self.now.given base (k + 1) n c.deal-pass.new.seat.me) less h.0,
-        subst (AreDealt c.args.self.now base) (sym c.push_reserved.ensures.items) (dealt_more c.args.self.now base k c.loop-k.all.items pass inv.1.3 i3 h.1)),
+        subst (AreDealt c.args.self.now base) (sym c.push_reserved.ensures.items)
+              (dealt_more c.args.self.now base k c.loop-k.all.items pass inv.1.3 i3 h.1)),
       omega arith,
       items,
       omega arith,

@@ -11,5 +11,6 @@ fetch_add-requires g c =
       subst (λ d. c.args.seat.now.table_id ≡ d.desk_id) (sym c.self.view_is) c.requires.table,
       omega arith,
       draws_idle sv k.solo.value.given k.passes
-          c.self.inside.table.shared.table_id.slots c.args.seat.now.id c.args.seat.now.me c.self.invariant.1 (subst (λ d. IsIdle d.given c.args.seat.now.me) (sym c.self.view_is) c.requires.idle),
+          c.self.inside.table.shared.table_id.slots c.args.seat.now.id c.args.seat.now.me c.self.invariant.1
+                (subst (λ d. IsIdle d.given c.args.seat.now.me) (sym c.self.view_is) c.requires.idle),
     )

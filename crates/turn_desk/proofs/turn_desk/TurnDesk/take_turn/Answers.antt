@@ -24,5 +24,6 @@ pub returns-clause-took : goal.returns-clause-took
 returns-clause-took g c =
     let k = c.requires.idle in
     let w = c.draw-ticket.ensures.drew k.0 k.1 k.2 k.3 in
-    subst (λ m. TakesTurn g.S.Served.relates c.args.self.now.given m c.args.op c.serve_at-answer.result c.serve_at-answer.new.seat.me) (sym k.3)
+    subst (λ m. TakesTurn g.S.Served.relates c.args.self.now.given m c.args.op c.serve_at-answer.result
+          c.serve_at-answer.new.seat.me) (sym k.3)
     (c.serve_at-answer.ensures.served k.0 w.0 k.1 k.2 (c.wait.ensures.took k.0 w.0 k.1 k.2 w.1 w.2)).1
