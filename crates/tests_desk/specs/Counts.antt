@@ -6,7 +6,7 @@ use Rattle.turn_desk.specs.Turns.{events_of}
 -- An answer is the count after the turn, which added its number. Without one nothing was added.
 abbrev pub Counts : ℕ → List (Turn ℕ (Option ℕ) ℕ) → Turn ℕ (Option ℕ) ℕ → Type 0
 Counts start turns t = MatchOption t.answer (t.events ≡ []) (λ count. (t.events ≡ t.op ∷ [])
-      × (count ≡ start + sum (events_of turns) + t.op))
+    × (count ≡ start + sum (events_of turns) + t.op))
 
 -- the log of a counter before and after a number was to be added
 abbrev pub Adds : ℕ → List ℕ → ℕ → Option ℕ → List ℕ → Type 0

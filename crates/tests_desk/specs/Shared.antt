@@ -1,5 +1,5 @@
 -- What threads at one desk did.
-use Rattle.std.specs.Prelude.{◌≡◌, ◌<◌, ℕ, List, [], ◌∷◌, ◌++◌, Option}
+use Rattle.std.specs.Prelude.{◌≡◌, ◌<◌, ℕ, List, ◌∷◌, ◌++◌, Option}
 use Rattle.turn_desk.specs.declared.turn.Turn.{Turn}
 use Rattle.turn_desk.specs.Turns.{events_of, turns_by}
 use Rattle.turn_desk.specs.Passes.{TurnDeskView, PassView, IsPassOf}
@@ -15,7 +15,7 @@ MayWork desk pass op = IsPassOf desk pass × (op < 1000)
 
 -- the pass took so many turns of this operation, and no others
 pub record WorkedOn (desk : TurnDeskView ℕ ℕ) (before : PassView ℕ ℕ (Option ℕ) ℕ) (op times : ℕ)
-      (after : PassView ℕ ℕ (Option ℕ) ℕ) : Type 0 where
+    (after : PassView ℕ ℕ (Option ℕ) ℕ) : Type 0 where
   pub of_desk : IsPassOf desk after
   pub number : after.number ≡ before.number
   pub mine : List CounterTurn

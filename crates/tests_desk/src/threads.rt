@@ -88,10 +88,7 @@ fn work_both<R: Threads + Wait + Sync>(
                     let other = work(rt, desk, two, second, times);
                     (child.join(rt), other)
                 }
-                Err(refused) => (
-                    (refused.value)(),
-                    work(rt, desk, two, second, times),
-                ),
+                Err(refused) => ((refused.value)(), work(rt, desk, two, second, times)),
             }
         },
     )

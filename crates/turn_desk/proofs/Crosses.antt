@@ -29,13 +29,13 @@ module _ (S Op Answer : RattleType) (s : IsSend S) where
 
 module _ (S Op Answer : RattleType) (s : IsSend S) where
   pub table_sync : (V K P : RattleType) (g : law.Ghosts P.Denot (slot.the_row S Op Answer).Denot V.Denot K.Denot)
-        (a : alloc.Ghosts heap.the_row.Denot) → Frees a a.dealloc_token
-        → IsSync (tab.the_row (slot.the_row S Op Answer) V K P heap.the_row g a)
+      (a : alloc.Ghosts heap.the_row.Denot) → Frees a a.dealloc_token
+      → IsSync (tab.the_row (slot.the_row S Op Answer) V K P heap.the_row g a)
   table_sync V K P g a f = table.the_sync (slot.the_row S Op Answer) V K P heap.the_row g a
-        (slot_send S Op Answer s) std.send std.sync f
+      (slot_send S Op Answer s) std.send std.sync f
 
 module _ (S Start Op Answer Entry : RattleType) (g : Ghosts S.Denot Start.Denot Op.Denot Answer.Denot Entry.Denot)
-      (s : IsSend S) where
+    (s : IsSend S) where
   pub pass_send : IsSend (pass.the_row S Start Op Answer Entry g)
   unfolding types.Keyed.entry denote.Memory.part_of
   pass_send = search rules
@@ -43,19 +43,32 @@ module _ (S Start Op Answer Entry : RattleType) (g : Ghosts S.Denot Start.Denot 
   pub inside_sync : IsSync (desk.TheInside.the_row S Start Op Answer Entry g)
   inside_sync =
       let d = desk.TheInside.the_type S Start Op Answer Entry g in
-      let all : AllSync (shape d).fields =
-            (struct_sync (shape (tab.the_type (slot.the_row S Op Answer) (view.the_row Start Op Answer Entry)
+      let all : AllSync (shape d).fields = (
+        struct_sync (shape (tab.the_type (slot.the_row S Op Answer) (view.the_row Start Op Answer Entry)
             (key.the_row S Start Op Answer Entry g) (law_row.the_row S) heap.the_row
-            (law_impl.ghosts S Start Op Answer Entry g law_impl.no_dict) impls.ghosts))
-            (shared.the_sync (slot.the_row S Op Answer) (view.the_row Start Op Answer Entry)
-            (key.the_row S Start Op Answer Entry g) (law_row.the_row S)
-            (law_impl.ghosts S Start Op Answer Entry g law_impl.no_dict) (slot_send S Op Answer s),
-            (search sendable depth 9,
-            (search sendable depth 9,
-            (lease.the_sync _ heap.the_row impls.ghosts std.send std.frees,
-            (lease.the_sync (slot.the_row S Op Answer) heap.the_row impls.ghosts std.send std.frees,
-            (std.sync, tt)))))), (search (sendable, rules) depth 20,
-            (search (crosses, sendable, rules) depth 20, tt))) in
+            (law_impl.ghosts S Start Op Answer Entry g law_impl.no_dict) impls.ghosts)) (
+              shared.the_sync (slot.the_row S Op Answer) (view.the_row Start Op Answer Entry)
+                  (key.the_row S Start Op Answer Entry g) (law_row.the_row S)
+                  (law_impl.ghosts S Start Op Answer Entry g law_impl.no_dict) (slot_send S Op Answer s),
+              (
+                search sendable depth 9,
+                (
+                  search sendable depth 9,
+                  (
+                    lease.the_sync _ heap.the_row impls.ghosts std.send std.frees,
+                    (
+                      lease.the_sync (slot.the_row S Op Answer) heap.the_row impls.ghosts std.send std.frees,
+                      (std.sync, tt),
+                    ),
+                  ),
+                ),
+              ),
+            ),
+        (
+          search (sendable, rules) depth 20,
+          (search (crosses, sendable, rules) depth 20, tt),
+        ),
+      ) in
       recorded_sync (Struct (shape d)) d.D d.to d.to_one (struct_sync (shape d) all)
 
   pub desk_sync : IsSync (desk.the_row S Start Op Answer Entry g)

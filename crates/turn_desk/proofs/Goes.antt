@@ -1,13 +1,10 @@
 -- Turns that were taken one after another.
-use Rattle.std.proofs.Common.{◌≡◌, ◌≢◌, ◌⊎◌, inl, inr, ⊎_elim, ℕ, zero, suc, List, [], ◌∷◌, ◌++◌, length, refl, ap, sym, ◌∙◌, subst, arith, append_assoc, length-append}
+use Rattle.std.proofs.Common.{◌≡◌, ◌≢◌, ◌⊎◌, inl, inr, ⊎_elim, List, [], ◌∷◌, ◌++◌, refl, ap, sym, ◌∙◌, subst, append_assoc}
 use Rattle.std.proofs.lemmas.List.{append-nil}
 use Rattle.turn_desk.specs.declared.turn.Turn.{Turn}
-use Rattle.turn_desk.specs.declared.turn.Given.{Given}
-use Rattle.turn_desk.specs.declared.turn.Sight.{Sight}
-use Rattle.turn_desk.specs.Turns.{StartsWith, IsTurn, AreTurns, turns_by}
-use Rattle.turn_desk.specs.Sights.{Knows, Took, Went}
+use Rattle.turn_desk.specs.Sights.{Knows}
 use Rattle.turn_desk.specs.Laws.{NoTurnsChangeNothing, OneTurnGoes, TurnsAddUp}
-use Rattle.turn_desk.proofs.Grows.{same_head, not_nil}
+use Rattle.turn_desk.proofs.Grows.{not_nil}
 
 module _ {A : Type 0} where
   pub cons_not_nil : {P : Type 0} (x : A) (xs : List A) → x ∷ xs ≡ [] → P
@@ -28,8 +25,14 @@ module _ {A : Type 0} where
 
 module _ {T O A E : Type 0} (relates : T → List (Turn O A E) → Turn O A E → Type 0) where
   pub went_none : NoTurnsChangeNothing relates
-  went_none s = record { given = refl; number = refl; seen = ([], sym (append-nil s.seen));
-        own = sym (append-nil s.own); still = λ _. refl; knows = λ n. absurd (n refl) }
+  went_none s = record {
+    given = refl;
+    number = refl;
+    seen = ([], sym (append-nil s.seen));
+    own = sym (append-nil s.own);
+    still = λ _. refl;
+    knows = λ n. absurd (n refl);
+  }
 
   pub went_one : OneTurnGoes relates
   went_one s s' op answer k = record {
@@ -45,12 +48,15 @@ module _ {T O A E : Type 0} (relates : T → List (Turn O A E) → Turn O A E �
   went_more s s' s'' xs ys p q = record {
     given = q.given ∙ p.given;
     number = q.number ∙ p.number;
-    seen = (p.seen.0 ++ q.seen.0, q.seen.1
-          ∙ (ap (λ l. l ++ q.seen.0) p.seen.1 ∙ append_assoc s.seen p.seen.0 q.seen.0));
+    seen = (
+      p.seen.0 ++ q.seen.0,
+      q.seen.1
+          ∙ (ap (λ l. l ++ q.seen.0) p.seen.1 ∙ append_assoc s.seen p.seen.0 q.seen.0),
+    );
     own = q.own ∙ (ap (λ l. l ++ ys) p.own ∙ append_assoc s.own xs ys);
     still = λ e. q.still (right_nil xs ys e) ∙ p.still (left_nil xs ys e);
     knows = λ some. ⊎_elim
         (λ (none : ys ≡ []). subst (Knows relates) (sym (q.still none))
-              (p.knows (λ e. some (ap (λ l. l ++ ys) e ∙ none))))
+        (p.knows (λ e. some (ap (λ l. l ++ ys) e ∙ none))))
         (λ (more : ys ≢ []). q.knows more) (some_or_none ys);
   }

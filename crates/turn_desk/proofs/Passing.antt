@@ -1,31 +1,26 @@
 -- Each step of a pass keeps the rule of the table: a desk is opened, a number is handed on, seats are joined; and how it ends.
-use Rattle.std.proofs.Common.{◌≡◌, ◌≢◌, ◌⊎◌, inl, inr, ⊎_elim, ℕ, zero, suc, ◌+◌, ◌-◌, ◌<◌, ◌≤◌, ◌%◌, ◌^◌, Bool, true, false, cond, eqb, List, [], ◌∷◌, ◌++◌, set, get_or, length, refl, ap, sym, ◌∙◌, subst, arith, append_assoc, length-append, Option, Some, None, nat_le, MatchBool, eqb-true, eq-eqb}
+use Rattle.std.proofs.Common.{◌≡◌, ◌≢◌, inl, inr, ⊎_elim, ℕ, ◌+◌, ◌<◌, ◌≤◌, ◌%◌, ◌^◌, Bool, true, false, cond, List, [], ◌∷◌, ◌++◌, set, length, refl, ap, sym, ◌∙◌, subst, arith, length-append, Some, None, nat_le}
 use Rattle.std.proofs.lemmas.List.{append-nil}
 use mathlib.Core.Logic.{dite}
 use mathlib.Core.Option.{some, none, some-injective, some-ne-none}
 use mathlib.Core.Option as maybe
 use native.Mathlib.Decide.{ℕ_discrete}
-use native.Mathlib.Nat.{mod-add-mod}
 use lib.ListN.{get_elem?}
-use lib.Seq.{set-get_or}
-use Rattle.atomic_table.specs.Table.{State, Me, Step, step, Act, keeps, takes, gives, stepped, homes_after, carried_after, Valid, Allows, Splits, Joins, opening}
-use Rattle.atomic_table.proofs.Lists.{at_set, set_here, set_else, set_again, at_longer, at_last, one_turn}
+use Rattle.atomic_table.specs.Table.{State, Splits, Joins, opening}
+use Rattle.atomic_table.proofs.Lists.{at_set, set_here, set_else, at_longer, at_last}
 use Rattle.turn_desk.specs.declared.served.Served.{Ghosts as ServedSays}
-use Rattle.turn_desk.specs.declared.turn.Stamp.{Stamp}
 use Rattle.turn_desk.specs.declared.turn.Turn.{Turn}
 use Rattle.turn_desk.specs.declared.turn.Given.{Given}
 use Rattle.turn_desk.specs.declared.rule.Slot.{Slot}
-use Rattle.turn_desk.specs.declared.rule.LastTurn.{LastTurn}
 use Rattle.turn_desk.specs.declared.rule.Share.{Share}
 use Rattle.turn_desk.specs.declared.rule.SeatView.{SeatView}
-use Rattle.turn_desk.specs.Turns.{turns_by, StartsWith, AreTurns, IsTurn}
-use Rattle.turn_desk.specs.Rule.{numbers_of, waits, sum_over, share, one_number, spent_view, dealing, dealer, dealt, gathering, longer_of, gathered, Suits, HasNumber, LiesHome, IsRuled, Drew, HasState, Looked, turn_here, GaveBack, tickets, HaveAll, first_share, IsIdle, IsWaiting, HasTurn}
+use Rattle.turn_desk.specs.Turns.{turns_by, StartsWith, AreTurns}
+use Rattle.turn_desk.specs.Rule.{numbers_of, waits, share, spent_view, dealing, dealer, dealt, gathering, longer_of, gathered, Suits, HasNumber, LiesHome, IsRuled, tickets, HaveAll}
 use Rattle.turn_desk.specs.States.{IsAt}
 use Rattle.turn_desk.specs.Passes.{AreNumbered}
-use Rattle.turn_desk.proofs.Grows.{not_nil, at_end, none_yet, one_more, fewer, by_own, by_other}
-use Rattle.turn_desk.proofs.Sums.{sum_set, sum_snoc, sum_at, sum_two, sum_le}
-use Rattle.turn_desk.proofs.Places.{put, put_here, put_else, is_false, true_not_false, at_lt, each_set, at_both, at_right, at_one, each_more, length_set, some_same, some_not_none}
-use Rattle.turn_desk.proofs.Views.{lies_still, had_still}
+use Rattle.turn_desk.proofs.Sums.{sum_set, sum_snoc, sum_at, sum_two}
+use Rattle.turn_desk.proofs.Places.{put, put_here, put_else, true_not_false, at_lt, each_set, at_both, at_right, at_one, each_more, length_set, some_not_none}
+use Rattle.turn_desk.proofs.Views.{lies_still}
 
 module _ {S T O A E : Type 0} (says : ServedSays S T O A E) (given : Given T E) (passes : ℕ) where
   abbrev V : Type 0
@@ -51,9 +46,9 @@ module _ {S T O A E : Type 0} (says : ServedSays S T O A E) (given : Given T E) 
   at_first base next left = dealing given base next left
 
   pub opens : (x : S) (base : Ts) → IsAt says given base x → AreTurns says.relates given base
-        → AreNumbered passes base → passes < 2 ^ 32
+      → AreNumbered passes base → passes < 2 ^ 32
       → R (opening (length base % 2 ^ 64 ∷ length base % 2 ^ 64 ∷ passes ∷ [])
-            (record { served = Some x; last = None } ∷ []) (at_first base 0 passes))
+      (record { served = Some x; last = None } ∷ []) (at_first base 0 passes))
   opens x base isat all numbered few = record {
     turns = base;
     drawn = length base;
@@ -65,26 +60,29 @@ module _ {S T O A E : Type 0} (says : ServedSays S T O A E) (given : Given T E) 
     queue = omega arith;
     whole = all;
     numbered = numbered;
-    slot = (some record { served = Some x; last = None }, refl,
-          ((x, refl, isat), λ i v e. ap (λ (d : V). d.has_turn) (sym (at_one (at_first base 0 passes) v i e).1)));
+    slot = (
+      some record { served = Some x; last = None },
+      refl,
+      ((x, refl, isat), λ i v e. ap (λ (d : V). d.has_turn) (sym (at_one (at_first base 0 passes) v i e).1)),
+    );
     each = λ i v e. let o = at_one (at_first base 0 passes) v i e in
         subst (λ (z : ℕ × V). Suits given passes (length base) base (λ _. 0) (λ _. 0) z.0 z.1)
-              (λ c. (sym o.0 c, o.1 c)) record {
-      given_is = λ _. refl;
-      seen = ([], sym (append-nil base));
-      ticket = λ k f. some_not_none k (sym f);
-      turn = λ f. true_not_false false f refl;
-      waits_once = omega arith;
-      shares = λ j g f. absurd (some-ne-none g (sym f));
-      apart = λ j k f g a b _. absurd (some-ne-none f (sym a));
-      left = λ k a b. (omega arith, refl, refl);
-    };
+        (λ c. (sym o.0 c, o.1 c)) record {
+          given_is = λ _. refl;
+          seen = ([], sym (append-nil base));
+          ticket = λ k f. some_not_none k (sym f);
+          turn = λ f. true_not_false false f refl;
+          waits_once = omega arith;
+          shares = λ j g f. absurd (some-ne-none g (sym f));
+          apart = λ j k f g a b _. absurd (some-ne-none f (sym a));
+          left = λ k a b. (omega arith, refl, refl);
+        };
     had = λ k lt. (at_first base 0 passes, refl, inr (omega arith, omega arith));
   }
 
   -- another view comes that has no turn
   lies_more : (turns : Ts) (vs : List V) (w : V) (h : maybe.Option H) → w.has_turn ≡ false → L turns vs h
-        → L turns (vs ++ w ∷ []) h
+      → L turns (vs ++ w ∷ []) h
   lies_more turns vs w (some h) f l = (l.0, each_more (λ _ d. d.has_turn ≡ false) vs w f l.1)
   lies_more turns vs w none f l = (l.0, l.1, at_longer vs (w ∷ []) l.0 l.1 l.2, l.3)
 
@@ -92,14 +90,14 @@ module _ {S T O A E : Type 0} (says : ServedSays S T O A E) (given : Given T E) 
   at_last_one vs w = at_last vs w (length vs) refl
 
   left_on : (base : Ts) (next left k : ℕ) → k ≢ next → HasNumber k (at_first base next left)
-        → HasNumber k (dealer (at_first base next left))
+      → HasNumber k (dealer (at_first base next left))
   left_on base next left k ne f =
-        ⊎_elim (λ (p : (j : ℕ) × (h : Share O A E) × (get_elem? [] j ≡ some h) × (h.number ≡ k)). absurd
-        (some-ne-none p.1 (sym p.2)))
+      ⊎_elim (λ (p : (j : ℕ) × (h : Share O A E) × (get_elem? [] j ≡ some h) × (h.number ≡ k)). absurd
+      (some-ne-none p.1 (sym p.2)))
       (λ (p : (next ≤ k) × (k < next + left)). let a = p.0 in let b = p.1 in inr (omega arith, omega arith)) f
 
   pub deals : (base : Ts) (id next left : ℕ) → 0 < left
-        → Splits R id (at_first base next left) (dealer (at_first base next left)) (dealt (at_first base next left))
+      → Splits R id (at_first base next left) (dealer (at_first base next left)) (dealt (at_first base next left))
   deals base id next left some_left s r at =
       let v : V = at_first base next left in
       let l : V = dealer v in
@@ -127,8 +125,12 @@ module _ {S T O A E : Type 0} (says : ServedSays S T O A E) (given : Given T E) 
         queue = omega arith;
         whole = r.whole;
         numbered = r.numbered;
-        slot = (r.slot.0, r.slot.1, lies_more r.turns vs w r.slot.0 refl
-              (lies_still says given passes r.turns s.views id v l r.slot.0 at refl refl r.slot.2));
+        slot = (
+          r.slot.0,
+          r.slot.1,
+          lies_more r.turns vs w r.slot.0 refl
+              (lies_still says given passes r.turns s.views id v l r.slot.0 at refl refl r.slot.2),
+        );
         each = each_more (Suits given passes r.drawn r.turns owner r.holder) vs w
             record {
               given_is = λ _. refl;
@@ -137,10 +139,10 @@ module _ {S T O A E : Type 0} (says : ServedSays S T O A E) (given : Given T E) 
               turn = λ f. true_not_false false f refl;
               waits_once = omega arith;
               shares = λ j g f. subst (λ (z : Share O A E). (z.number < passes) × (owner z.number ≡ length vs)
-                    × (turns_by z.number r.turns ≡ z.own)) (at_one (share next (turns_by next base)) g j f).1
+                  × (turns_by z.number r.turns ≡ z.own)) (at_one (share next (turns_by next base)) g j f).1
                   (here.0, put_here r.owner next new next refl ∙ sym same_length, here.2);
               apart = λ j k f g a b _. (at_one (share next (turns_by next base)) f j a).0
-                    ∙ sym (at_one (share next (turns_by next base)) g k b).0;
+                  ∙ sym (at_one (share next (turns_by next base)) g k b).0;
               left = λ k a b. absurd (omega arith);
             }
             (each_set (Suits given passes r.drawn r.turns owner r.holder) s.views id l
@@ -153,7 +155,7 @@ module _ {S T O A E : Type 0} (says : ServedSays S T O A E) (given : Given T E) 
               shares = λ j g f. absurd (some-ne-none g (sym f));
               apart = λ j k f g a b _. absurd (some-ne-none f (sym a));
               left = λ k a b. let z = mine.left k (omega arith) (omega arith) in
-                    (z.0, put_else r.owner next new k (λ c. omega arith) ∙ z.1, z.2);
+                  (z.0, put_else r.owner next new k (λ c. omega arith) ∙ z.1, z.2);
             }
             (λ j d ne f. let u = r.each j d f in record {
               given_is = u.given_is;
@@ -162,48 +164,56 @@ module _ {S T O A E : Type 0} (says : ServedSays S T O A E) (given : Given T E) 
               turn = u.turn;
               waits_once = u.waits_once;
               shares = λ i g e. let z = u.shares i g e in
-                    (z.0, put_else r.owner next new g.number (λ c. ne (sym z.1 ∙ (ap r.owner c ∙ here.1))) ∙ z.1, z.2);
+                  (z.0, put_else r.owner next new g.number (λ c. ne (sym z.1 ∙ (ap r.owner c ∙ here.1))) ∙ z.1, z.2);
               apart = u.apart;
               left = λ k a b. let z = u.left k a b in
-                    (z.0, put_else r.owner next new k (λ c. ne (sym z.1 ∙ (ap r.owner c ∙ here.1))) ∙ z.1, z.2);
+                  (z.0, put_else r.owner next new k (λ c. ne (sym z.1 ∙ (ap r.owner c ∙ here.1))) ∙ z.1, z.2);
             }));
         had = λ k small. dite (ℕ_discrete k next)
-            (λ e. (w, ap (get_elem? (vs ++ w ∷ [])) (put_here r.owner next new k e ∙ sym same_length)
-                  ∙ at_last_one vs w, inl (0, share next (turns_by next base), refl, sym e)))
+            (λ e. (
+              w,
+              ap (get_elem? (vs ++ w ∷ [])) (put_here r.owner next new k e ∙ sym same_length)
+                  ∙ at_last_one vs w,
+              inl (0, share next (turns_by next base), refl, sym e),
+            ))
             (λ ne. let o = r.had k small in let places = put_else r.owner next new k ne in
             dite (ℕ_discrete (r.owner k) id)
             (λ e. (
               l,
               at_longer vs (w ∷ []) (owner k) l (ap (get_elem? vs) (places ∙ e) ∙ set_here s.views id l lt),
               left_on base next left k ne (subst (HasNumber k)
-                    (some-injective o.0 v (sym o.1 ∙ (ap (get_elem? s.views) e ∙ at))) o.2),
+                  (some-injective o.0 v (sym o.1 ∙ (ap (get_elem? s.views) e ∙ at))) o.2),
             ))
-            (λ other. (o.0, at_longer vs (w ∷ []) (owner k) o.0 (ap (get_elem? vs) places
-                  ∙ (set_else s.views id (r.owner k) l other ∙ o.1)), o.2)));
+            (λ other. (
+              o.0,
+              at_longer vs (w ∷ []) (owner k) o.0 (ap (get_elem? vs) places
+                  ∙ (set_else s.views id (r.owner k) l other ∙ o.1)),
+              o.2,
+            )));
       }
 
   starts_longer : (turns xs ys : Ts) (b : Bool) → StartsWith turns xs → StartsWith turns ys
-        → StartsWith turns (cond b ys xs)
+      → StartsWith turns (cond b ys xs)
   starts_longer turns xs ys true p q = q
   starts_longer turns xs ys false p q = p
 
   has_left : (seen seen' : Ts) (gs hs : List (Share O A E)) (k : ℕ) → HasNumber k (gathering given seen gs)
-        → HasNumber k (gathering given seen' (gs ++ hs))
+      → HasNumber k (gathering given seen' (gs ++ hs))
   has_left seen seen' gs hs k f =
-        ⊎_elim (λ (p : (j : ℕ) × (h : Share O A E) × (get_elem? gs j ≡ some h) × (h.number ≡ k)). inl
-        (p.0, p.1, at_longer gs hs p.0 p.1 p.2, p.3))
+      ⊎_elim (λ (p : (j : ℕ) × (h : Share O A E) × (get_elem? gs j ≡ some h) × (h.number ≡ k)). inl
+      (p.0, p.1, at_longer gs hs p.0 p.1 p.2, p.3))
       (λ (p : (0 ≤ k) × (k < 0 + 0)). let z = p.1 in absurd (omega arith)) f
 
   has_right : (seen seen' : Ts) (gs hs : List (Share O A E)) (k : ℕ) → HasNumber k (gathering given seen hs)
-        → HasNumber k (gathering given seen' (gs ++ hs))
+      → HasNumber k (gathering given seen' (gs ++ hs))
   has_right seen seen' gs hs k f =
-        ⊎_elim (λ (p : (j : ℕ) × (h : Share O A E) × (get_elem? hs j ≡ some h) × (h.number ≡ k)). inl
-        (length gs + p.0, p.1, at_right gs hs p.0 p.1 p.2, p.3))
+      ⊎_elim (λ (p : (j : ℕ) × (h : Share O A E) × (get_elem? hs j ≡ some h) × (h.number ≡ k)). inl
+      (length gs + p.0, p.1, at_right gs hs p.0 p.1 p.2, p.3))
       (λ (p : (0 ≤ k) × (k < 0 + 0)). let z = p.1 in absurd (omega arith)) f
 
   pub joins : (id other : ℕ) (seen seen' : Ts) (gs hs : List (Share O A E))
-        → Joins R id (gathering given seen gs) other (gathering given seen' hs)
-        (gathered (gathering given seen gs) (gathering given seen' hs)) spent_view
+      → Joins R id (gathering given seen gs) other (gathering given seen' hs)
+      (gathered (gathering given seen gs) (gathering given seen' hs)) spent_view
   joins id other seen seen' gs hs s r at apart at' =
       let v : V = gathering given seen gs in
       let w : V = gathering given seen' hs in
@@ -222,7 +232,7 @@ module _ {S T O A E : Type 0} (says : ServedSays S T O A E) (given : Given T E) 
       let owner : ℕ → ℕ = λ k. put (λ x. x) other id (r.owner k) in
       let moves : (k : ℕ) → r.owner k ≡ other → owner k ≡ id = λ k e. put_here (λ x. x) other id (r.owner k) e in
       let stays : (k : ℕ) → r.owner k ≢ other
-            → owner k ≡ r.owner k = λ k e. put_else (λ x. x) other id (r.owner k) e in record {
+      → owner k ≡ r.owner k = λ k e. put_else (λ x. x) other id (r.owner k) e in record {
         turns = r.turns;
         drawn = r.drawn;
         owner = owner;
@@ -233,8 +243,12 @@ module _ {S T O A E : Type 0} (says : ServedSays S T O A E) (given : Given T E) 
         queue = omega arith;
         whole = r.whole;
         numbered = r.numbered;
-        slot = (r.slot.0, r.slot.1, lies_still says given passes r.turns vs other w spent_view r.slot.0 at' refl refl
-              (lies_still says given passes r.turns s.views id v u r.slot.0 at refl refl r.slot.2));
+        slot = (
+          r.slot.0,
+          r.slot.1,
+          lies_still says given passes r.turns vs other w spent_view r.slot.0 at' refl refl
+              (lies_still says given passes r.turns s.views id v u r.slot.0 at refl refl r.slot.2),
+        );
         each = each_set (Suits given passes r.drawn r.turns owner r.holder) vs other spent_view
             record {
               given_is = λ f. absurd (omega arith);
@@ -248,27 +262,27 @@ module _ {S T O A E : Type 0} (says : ServedSays S T O A E) (given : Given T E) 
             }
             (λ j d ne e. ⊎_elim
             (λ (t : (j ≡ id) × (u ≡ d)). subst
-                  (λ (x : ℕ × V). Suits given passes r.drawn r.turns owner r.holder x.0 x.1)
-                  (λ i. (sym t.0 i, t.1 i)) record {
+            (λ (x : ℕ × V). Suits given passes r.drawn r.turns owner r.holder x.0 x.1)
+            (λ i. (sym t.0 i, t.1 i)) record {
               given_is = λ _. refl;
               seen = starts_longer r.turns seen seen' (nat_le (length seen) (length seen')) mine.seen theirs.seen;
               ticket = λ k f. some_not_none k (sym f);
               turn = λ f. true_not_false false f refl;
               waits_once = omega arith;
               shares = λ k g f. ⊎_elim (λ a. let z =
-                    mine.shares k g a in (z.0, stays g.number (λ c. apart (sym c ∙ z.1)) ∙ z.1, z.2))
+                  mine.shares k g a in (z.0, stays g.number (λ c. apart (sym c ∙ z.1)) ∙ z.1, z.2))
                   (λ (a : (i : ℕ) × (k ≡ length gs + i) × (get_elem? hs i ≡ some g)). let z =
-                        theirs.shares a.0 g a.2 in (z.0, moves g.number z.1, z.2)) (at_both gs hs k g f);
+                  theirs.shares a.0 g a.2 in (z.0, moves g.number z.1, z.2)) (at_both gs hs k g f);
               apart = λ k l f g a b same. ⊎_elim
                   (λ x. ⊎_elim (λ y. mine.apart k l f g x y same)
                   (λ (y : (i : ℕ) × (l ≡ length gs + i) × (get_elem? hs i ≡ some g)). absurd
-                        (apart (sym (theirs.shares y.0 g y.2).1 ∙ (ap r.owner (sym same) ∙ (mine.shares k f x).1))))
-                        (at_both gs hs l g b))
+                  (apart (sym (theirs.shares y.0 g y.2).1 ∙ (ap r.owner (sym same) ∙ (mine.shares k f x).1))))
+                  (at_both gs hs l g b))
                   (λ (x : (i : ℕ) × (k ≡ length gs + i) × (get_elem? hs i ≡ some f)). ⊎_elim
                   (λ y. absurd (apart (sym (theirs.shares x.0 f x.2).1 ∙ (ap r.owner same ∙ (mine.shares l g y).1))))
                   (λ (y : (i : ℕ) × (l ≡ length gs + i) × (get_elem? hs i ≡ some g)). x.1
-                        ∙ (ap (λ i. length gs + i) (theirs.apart x.0 y.0 f g x.2 y.2 same) ∙ sym y.1))
-                        (at_both gs hs l g b))
+                  ∙ (ap (λ i. length gs + i) (theirs.apart x.0 y.0 f g x.2 y.2 same) ∙ sym y.1))
+                  (at_both gs hs l g b))
                   (at_both gs hs k f a);
               left = λ k a b. absurd (omega arith);
             })
@@ -285,36 +299,47 @@ module _ {S T O A E : Type 0} (says : ServedSays S T O A E) (given : Given T E) 
             (at_set s.views id j u d e));
         had = λ k small. let o = r.had k small in
             let here : get_elem? (set vs other spent_view) id ≡ some u =
-                  set_else vs other id spent_view (λ c. apart (sym c))
-                  ∙ set_here s.views id u (at_lt s.views id v at) in
+            set_else vs other id spent_view (λ c. apart (sym c))
+            ∙ set_here s.views id u (at_lt s.views id v at) in
             dite (ℕ_discrete (r.owner k) other)
-            (λ e. (u, ap (get_elem? (set vs other spent_view)) (moves k e)
-                  ∙ here, has_right seen' (longer_of seen seen') gs hs k
-                  (subst (HasNumber k) (some-injective o.0 w (sym o.1 ∙ (ap (get_elem? s.views) e ∙ at''))) o.2)))
+            (λ e. (
+              u,
+              ap (get_elem? (set vs other spent_view)) (moves k e)
+                  ∙ here,
+              has_right seen' (longer_of seen seen') gs hs k
+                  (subst (HasNumber k) (some-injective o.0 w (sym o.1 ∙ (ap (get_elem? s.views) e ∙ at''))) o.2),
+            ))
             (λ ne. dite (ℕ_discrete (r.owner k) id)
-            (λ e. (u, ap (get_elem? (set vs other spent_view)) (stays k ne ∙ e)
-                  ∙ here, has_left seen (longer_of seen seen') gs hs k
-                  (subst (HasNumber k) (some-injective o.0 v (sym o.1 ∙ (ap (get_elem? s.views) e ∙ at))) o.2)))
-            (λ ne'. (o.0, ap (get_elem? (set vs other spent_view)) (stays k ne)
+            (λ e. (
+              u,
+              ap (get_elem? (set vs other spent_view)) (stays k ne ∙ e)
+                  ∙ here,
+              has_left seen (longer_of seen seen') gs hs k
+                  (subst (HasNumber k) (some-injective o.0 v (sym o.1 ∙ (ap (get_elem? s.views) e ∙ at))) o.2),
+            ))
+            (λ ne'. (
+              o.0,
+              ap (get_elem? (set vs other spent_view)) (stays k ne)
                   ∙ (set_else vs other (r.owner k) spent_view ne ∙ (set_else s.views id (r.owner k) u ne' ∙ o.1)),
-                  o.2)));
+              o.2,
+            )));
       }
 
   -- what is so once a seat has every number
   pub ends : (s : St) → R s → (id : ℕ) (seen : Ts) (shares : List (Share O A E))
-        → get_elem? s.views id ≡ some (gathering given seen shares) → passes ≤ length shares
+      → get_elem? s.views id ≡ some (gathering given seen shares) → passes ≤ length shares
       → (turns : Ts) × (h : H) × (x : S) × (s.homes ≡ some h ∷ []) × (h.served ≡ Some x) × IsAt says given turns x
-            × HaveAll says.relates given passes turns shares
+      × HaveAll says.relates given passes turns shares
   ends s r id seen shares at enough = ended r.slot.0 r.slot.1 r.slot.2
     where
       alone : (j : ℕ) (d : V) → get_elem? s.views j ≡ some d → 0 < numbers_of d → j ≡ id
       alone j d e some_part = dite (ℕ_discrete j id) (λ y. y)
-            (λ ne. absurd (let t = sum_two numbers_of s.views j id d (gathering given seen shares) ne e at in let so =
-            r.shared_out in omega arith))
+          (λ ne. absurd (let t = sum_two numbers_of s.views j id d (gathering given seen shares) ne e at in let so =
+          r.shared_out in omega arith))
 
       has_part : (k : ℕ) (d : V) → HasNumber k d → 0 < numbers_of d
       has_part k d f = ⊎_elim (λ (p : (j : ℕ) × (h : Share O A E) × (get_elem? d.shares j ≡ some h)
-            × (h.number ≡ k)). let z = at_lt d.shares p.0 p.1 p.2 in omega arith)
+          × (h.number ≡ k)). let z = at_lt d.shares p.0 p.1 p.2 in omega arith)
           (λ (p : (d.next ≤ k) × (k < d.next + d.left)). let a = p.0 in let b = p.1 in omega arith) f
 
       known : HaveAll says.relates given passes r.turns shares
@@ -322,20 +347,20 @@ module _ {S T O A E : Type 0} (says : ServedSays S T O A E) (given : Given T E) 
         whole = r.whole;
         numbered = r.numbered;
         count = let most = sum_at numbers_of s.views id (gathering given seen shares) at in let so =
-              r.shared_out in omega arith;
+            r.shared_out in omega arith;
         share_is = λ j g e. let z = (r.each id (gathering given seen shares) at).shares j g e in (z.0, z.2);
         apart = (r.each id (gathering given seen shares) at).apart;
         all = λ k small. let o = r.had k small in
             let here : r.owner k ≡ id = alone (r.owner k) o.0 o.1 (has_part k o.0 o.2) in
             ⊎_elim (λ (p : (j : ℕ) × (h : Share O A E) × (get_elem? shares j ≡ some h) × (h.number ≡ k)). p)
-                  (λ (p : (0 ≤ k) × (k < 0 + 0)). let z = p.1 in absurd (omega arith))
+            (λ (p : (0 ≤ k) × (k < 0 + 0)). let z = p.1 in absurd (omega arith))
             (subst (HasNumber k) (some-injective o.0 (gathering given seen shares) (sym o.1
-                  ∙ (ap (get_elem? s.views) here ∙ at))) o.2);
+            ∙ (ap (get_elem? s.views) here ∙ at))) o.2);
       }
 
       ended : (h : maybe.Option H) → s.homes ≡ h ∷ [] → L r.turns s.views h
           → (turns : Ts) × (h : H) × (x : S) × (s.homes ≡ some h ∷ []) × (h.served ≡ Some x) × IsAt says given turns x
-                × HaveAll says.relates given passes turns shares
+          × HaveAll says.relates given passes turns shares
       ended (some h) homes l = (r.turns, h, l.0.0, homes, l.0.1, l.0.2, known)
       ended none homes l =
           let u = r.each l.0 l.1 l.2 in
@@ -343,5 +368,5 @@ module _ {S T O A E : Type 0} (says : ServedSays S T O A E) (given : Given T E) 
           let one : waits l.1 ≡ 1 = ap (λ t. tickets t) (u.turn l.3).0 in
           let same = alone l.0 l.1 l.2 (omega arith) in
           true_not_false l.1.has_turn l.3
-                (ap (λ (d : V). d.has_turn)
-                (some-injective l.1 (gathering given seen shares) (sym l.2 ∙ (ap (get_elem? s.views) same ∙ at))))
+          (ap (λ (d : V). d.has_turn)
+          (some-injective l.1 (gathering given seen shares) (sym l.2 ∙ (ap (get_elem? s.views) same ∙ at))))

@@ -1,5 +1,5 @@
 -- What is told of a thing outside at the marks of a list of turns, and what lasts from each of them.
-use Rattle.std.specs.Prelude.{◌≡◌, ◌≤◌, ℕ, List, [], ◌∷◌, ◌++◌}
+use Rattle.std.specs.Prelude.{◌≡◌, ◌≤◌, ℕ, List, ◌++◌}
 use Rattle.turn_desk.specs.declared.turn.Stamp.{Stamp}
 use Rattle.turn_desk.specs.declared.turn.Turn.{Turn}
 use Rattle.turn_desk.specs.Turns.{last_mark}
@@ -18,7 +18,7 @@ module _ {I : Type 0} where
     pub later : old.now ≤ new.now
     pub left : (moment : ℕ) (image : I) → moment ≤ old.now → old.may_leave moment image → new.may_leave moment image
     pub left_before : (moment : ℕ) (image : I) → moment ≤ old.now → new.may_leave moment image
-          → old.may_leave moment image
+        → old.may_leave moment image
     pub agreed : (moment : ℕ) (image : I) → moment ≤ old.now → old.agrees moment image → new.agrees moment image
     pub agreed_before : (moment : ℕ) (image : I) → moment ≤ old.now → new.agrees moment image → old.agrees moment image
 
@@ -39,4 +39,4 @@ module _ {I : Type 0} where
   abbrev pub FromEachMark : {O A E : Type 0} → (I → Type 0) → Telling I → Stamp → List (Turn O A E) → Type 0
   FromEachMark {O} {A} {E} good telling mark turns =
       (front back : List (Turn O A E)) → turns ≡ front ++ back → ((last_mark mark front).time ≤ telling.now)
-            × Lasts good telling (last_mark mark front).time
+      × Lasts good telling (last_mark mark front).time

@@ -39,13 +39,13 @@ IsPassOf desk pass = (pass.desk_id ≡ desk.desk_id) × (pass.given ≡ Some des
 abbrev pub AreNumbered : {O A E : Type 0} → ℕ → List (Turn O A E) → Type 0
 AreNumbered {O} {A} {E} passes turns =
     (earlier : List (Turn O A E)) (t : Turn O A E) (later : List (Turn O A E)) → turns ≡ earlier ++ t ∷ later
-          → t.pass < passes
+    → t.pass < passes
 
 module _ {T O A E : Type 0} where
   -- the pass with this number of a desk that was just started: it has seen all turns of the one owner, which are the
   -- first pass's own
   pub record IsNewPass (solo : Sight T O A E) (desk : TurnDeskView T E) (number : ℕ)
-        (pass : PassView T O A E) : Type 0 where
+      (pass : PassView T O A E) : Type 0 where
     pub of_desk : IsPassOf desk pass
     pub number_is : pass.number ≡ number
     pub seen : pass.seen ≡ solo.seen
@@ -55,23 +55,23 @@ module _ {T O A E : Type 0} where
   -- each pass is new, numbered by its place
   abbrev pub AreNewPasses : Sight T O A E → TurnDeskView T E → List (PassView T O A E) → Type 0
   AreNewPasses solo desk passes = (number : ℕ) (pass : PassView T O A E) → slice_get passes number ≡ Some pass
-        → IsNewPass solo desk number pass
+      → IsNewPass solo desk number pass
 
   -- these are all turns of the desk, and all of its passes, which have them: each number is that of just one pass
   pub record IsClosed (relates : T → List (Turn O A E) → Turn O A E → Type 0) (desk : TurnDeskView T E)
-        (passes : List (PassView T O A E)) (turns : List (Turn O A E)) : Type 0 where
+      (passes : List (PassView T O A E)) (turns : List (Turn O A E)) : Type 0 where
     pub whole : AreTurns relates desk.given turns
     pub numbered : AreNumbered desk.passes turns
     pub count : length passes ≡ desk.passes
     pub own : (place : ℕ) (pass : PassView T O A E) → slice_get passes place ≡ Some pass → (pass.number < desk.passes)
-          × (turns_by pass.number turns ≡ pass.own)
+        × (turns_by pass.number turns ≡ pass.own)
     pub apart : (i j : ℕ) (p q : PassView T O A E) → slice_get passes i ≡ Some p → slice_get passes j ≡ Some q
-          → p.number ≡ q.number → i ≡ j
+        → p.number ≡ q.number → i ≡ j
     pub all : (number : ℕ) → number < desk.passes → (place : ℕ) × (pass : PassView T O A E)
-          × (slice_get passes place ≡ Some pass) × (pass.number ≡ number)
+        × (slice_get passes place ≡ Some pass) × (pass.number ≡ number)
 
 module _ {S T O A E : Type 0} (says : ServedSays S T O A E) where
   -- the state is the one after all turns of the desk, and these passes have them all
   abbrev pub ClosesWith : TurnDeskView T E → List (PassView T O A E) → S → Type 0
   ClosesWith desk passes x = (turns : List (Turn O A E)) × IsAt says desk.given turns x
-        × IsClosed says.relates desk passes turns
+      × IsClosed says.relates desk passes turns

@@ -1,5 +1,5 @@
 -- What a caller of a desk knows, and what turns add to it.
-use Rattle.std.specs.Prelude.{◌≡◌, ◌≢◌, ℕ, List, [], ◌∷◌, ◌++◌}
+use Rattle.std.specs.Prelude.{◌≡◌, ◌≢◌, List, [], ◌∷◌, ◌++◌}
 use Rattle.atomic_table.specs.Seated.{TableId}
 use Rattle.turn_desk.specs.declared.turn.Turn.{Turn}
 use Rattle.turn_desk.specs.declared.turn.Sight.{Sight}
@@ -17,7 +17,7 @@ module _ {T O A E : Type 0} where
 
   -- the caller took one turn, of this operation and answer, and has seen all turns up to it
   pub record Took (relates : T → List (Turn O A E) → Turn O A E → Type 0) (s : Sight T O A E) (op : O) (answer : A)
-        (s' : Sight T O A E) : Type 0 where
+      (s' : Sight T O A E) : Type 0 where
     pub turn : Turn O A E
     pub between : List (Turn O A E)
     pub given : s'.given ≡ s.given
@@ -31,7 +31,7 @@ module _ {T O A E : Type 0} where
 
   -- the caller took just these turns, in this order
   pub record Went (relates : T → List (Turn O A E) → Turn O A E → Type 0) (s : Sight T O A E)
-        (mine : List (Turn O A E)) (s' : Sight T O A E) : Type 0 where
+      (mine : List (Turn O A E)) (s' : Sight T O A E) : Type 0 where
     pub given : s'.given ≡ s.given
     pub number : s'.number ≡ s.number
     pub seen : StartsWith s'.seen s.seen

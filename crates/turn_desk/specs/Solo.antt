@@ -1,5 +1,5 @@
 -- What the one seat of a desk of one owner knows.
-use Rattle.std.specs.Prelude.{◌≡◌, ℕ, List, [], ◌∷◌, ◌++◌}
+use Rattle.std.specs.Prelude.{◌≡◌, ℕ, [], ◌∷◌, ◌++◌}
 use mathlib.Core.Option.{some}
 use Rattle.atomic_table.specs.Table.{Me, Step}
 use Rattle.turn_desk.specs.declared.served.Served.{Ghosts as ServedSays}
@@ -27,8 +27,8 @@ module _ {S T O A E : Type 0} (says : ServedSays S T O A E) where
   -- the turn that was recorded, behind those that were seen
   abbrev pub turn_told : Sight T O A E → OneTurn S O A → Turn O A E
   turn_told s x = turn_of s.number s.seen x.op.value x.answer.value (says.entries x.before.value)
-        (says.mark x.before.value) (says.entries x.after.value) (says.mark x.after.value)
+      (says.mark x.before.value) (says.entries x.after.value) (says.mark x.after.value)
 
   abbrev pub Recorded : Step (OneTurn S O A) → Me (OneTurn S O A) (Sight T O A E) → ℕ
-        → Me (OneTurn S O A) (Sight T O A E) → Type 0
+      → Me (OneTurn S O A) (Sight T O A E) → Type 0
   Recorded st me found me' = (x : OneTurn S O A) → st.said ≡ some x → me'.0 ≡ with_turn me.0 (turn_told me.0 x)

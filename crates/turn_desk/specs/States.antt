@@ -9,7 +9,7 @@ use Rattle.turn_desk.specs.Turns.{turns_by, history, last_mark, AreTurns}
 -- each of the turns is of this pass
 abbrev pub AreBy : {O A E : Type 0} → ℕ → List (Turn O A E) → Type 0
 AreBy {O} {A} {E} pass turns = (earlier : List (Turn O A E)) (t : Turn O A E) (later : List (Turn O A E))
-      → turns ≡ earlier ++ t ∷ later → t.pass ≡ pass
+    → turns ≡ earlier ++ t ∷ later → t.pass ≡ pass
 
 -- all turns are the caller's, under the number 0
 pub record IsOwned {T O A E : Type 0} (s : Sight T O A E) : Type 0 where

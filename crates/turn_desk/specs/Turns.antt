@@ -16,8 +16,16 @@ module _ {O A E : Type 0} where
   -- the turn of this pass behind these turns, in which a state went from entries and mark to other ones
   abbrev pub turn_of : ℕ → List (Turn O A E) → O → A → List E → Stamp → List E → Stamp → Turn O A E
   turn_of pass turns op answer es m fs n =
-      record { pass = pass; rank = length turns; place = length es; before = m; op = op; answer = answer;
-            events = drop (length es) fs; after = n }
+      record {
+        pass = pass;
+        rank = length turns;
+        place = length es;
+        before = m;
+        op = op;
+        answer = answer;
+        events = drop (length es) fs;
+        after = n;
+      }
 
   -- what the turns appended, in order
   abbrev pub events_of : List (Turn O A E) → List E
@@ -41,7 +49,7 @@ module _ {T O A E : Type 0} where
 
   -- the turn may come behind these
   pub record IsTurn (relates : T → List (Turn O A E) → Turn O A E → Type 0) (given : Given T E)
-        (earlier : List (Turn O A E)) (t : Turn O A E) : Type 0 where
+      (earlier : List (Turn O A E)) (t : Turn O A E) : Type 0 where
     pub rank : t.rank ≡ length earlier
     pub place : t.place ≡ length (history given earlier)
     pub mark : t.before ≡ last_mark given.mark earlier
@@ -52,13 +60,13 @@ module _ {T O A E : Type 0} where
   abbrev pub AreTurns : (T → List (Turn O A E) → Turn O A E → Type 0) → Given T E → List (Turn O A E) → Type 0
   AreTurns relates given turns =
       (earlier : List (Turn O A E)) (t : Turn O A E) (later : List (Turn O A E)) → turns ≡ earlier ++ t ∷ later
-            → IsTurn relates given earlier t
+      → IsTurn relates given earlier t
 
 module _ {S T O A E : Type 0} where
   -- where the old state stands for turns, one more by any pass is as its relation says, and the new state stands for
   -- them with it
   abbrev pub ServesTurn : (T → List (Turn O A E) → Turn O A E → Type 0) → (S → List (Turn O A E) → Type 0) → (S → T)
-        → (S → List E) → (S → Stamp) → S → O → A → S → Type 0
+      → (S → List E) → (S → Stamp) → S → O → A → S → Type 0
   ServesTurn relates stands start entries mark old op answer new =
       (turns : List (Turn O A E)) (pass : ℕ) → stands old turns
       → let turn = turn_of pass turns op answer (entries old) (mark old) (entries new) (mark new) in

@@ -124,20 +124,12 @@ impl<O, A> Drop for LastTurn<O, A> {
 
 impl<S: Served> Drop for DeskKey<S> {
     fn drop(self) {
-        let DeskKey {
-            solo: _,
-            passes: _,
-        } = self;
+        let DeskKey { solo: _, passes: _ } = self;
     }
 }
 
 /// A seat at the table of a desk.
 pub type DeskSeat<S> = Seat<
     Slot<S, <S as Served>::Op, <S as Served>::Answer>,
-    SeatView<
-        <S as Served>::Start,
-        <S as Served>::Op,
-        <S as Served>::Answer,
-        <S as Served>::Entry,
-    >,
+    SeatView<<S as Served>::Start, <S as Served>::Op, <S as Served>::Answer, <S as Served>::Entry>,
 >;

@@ -1,4 +1,4 @@
-use Rattle.std.proofs.Common.{◌≡◌, subst}
+use Rattle.std.proofs.Common.{subst}
 use Rattle.turn_desk.specs.States.{IsOwned}
 use Rattle.turn_desk.proofs.Orders.{owns_all}
 use Rattle.turn_desk.proofs.laws.a_sole_owner_took_all.Goals as goal

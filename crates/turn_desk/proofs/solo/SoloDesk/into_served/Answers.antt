@@ -1,4 +1,4 @@
-use Rattle.std.proofs.Common.{◌≡◌, subst}
+use Rattle.std.proofs.Common.{subst}
 use Rattle.turn_desk.specs.States.{IsSolo}
 use Rattle.turn_desk.proofs.Orders.{owns_all}
 use Rattle.turn_desk.proofs.solo.SoloDesk.into_served.Goals as goal

@@ -1,4 +1,4 @@
-use Rattle.std.proofs.Common.{◌≡◌, ◌<◌, ap, arith}
+use Rattle.std.proofs.Common.{ap, arith}
 use mathlib.Core.Option.{some-injective}
 use Rattle.atomic_table.specs.Table.{keeps}
 use Rattle.turn_desk.specs.Solo.{with_turn, turn_told}
@@ -10,6 +10,11 @@ compare_exchange_with-requires g c =
     let s = c.self.inside.seat.me.0 in (
       c.self.invariant.0,
       omega arith,
-      λ st h l at lt. (with_turn s (turn_told g.S.Served s c.args.turn.now), keeps, tt, tt,
-            λ x e. ap (λ y. with_turn s (turn_told g.S.Served s y)) (some-injective c.args.turn.now x e)),
+      λ st h l at lt. (
+        with_turn s (turn_told g.S.Served s c.args.turn.now),
+        keeps,
+        tt,
+        tt,
+        λ x e. ap (λ y. with_turn s (turn_told g.S.Served s y)) (some-injective c.args.turn.now x e),
+      ),
     )

@@ -1,4 +1,4 @@
-use Rattle.std.proofs.Common.{◌≡◌, ◌≤◌, map, length, vec_len, rules, arith, ap, sym}
+use Rattle.std.proofs.Common.{◌≡◌, map, length, rules, arith, ap}
 use Rattle.turn_desk.specs.Rule.{share_of}
 use Rattle.turn_desk.proofs.Ends.{closed_by, shares_length}
 use Rattle.turn_desk.proofs.turn_desk.TurnDesk.close.Goals as goal
@@ -10,5 +10,5 @@ returns g c =
     let view = ap (λ d. d.passes) c.self.view_is in
     let len : c.len.result ≡ length c.args.passes.items = search (c, rules) in
     let e = c.finish.ensures (map share_of c.args.passes.items)
-          (omega (arith, n, enough, view, len)) c.gather-seat.ensures.gathered in
+    (omega (arith, n, enough, view, len)) c.gather-seat.ensures.gathered in
     (e.0, e.1, closed_by g.S.Served.relates c.args.self c.args.passes.items e.0 e.2)

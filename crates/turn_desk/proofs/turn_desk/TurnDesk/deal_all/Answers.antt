@@ -1,4 +1,4 @@
-use Rattle.std.proofs.Common.{◌≡◌, ℕ, ◌+◌, ◌-◌, ◌≤◌, [], ◌∷◌, ◌++◌, length, sym, ap, ◌∙◌, subst, arith, length-append}
+use Rattle.std.proofs.Common.{◌≡◌, ◌+◌, ◌-◌, [], ◌∷◌, length, sym, ap, ◌∙◌, subst, arith, length-append}
 use Rattle.turn_desk.specs.Rule.{IsDealing, AreDealt}
 use Rattle.turn_desk.proofs.Ends.{dealt_more}
 use Rattle.turn_desk.proofs.turn_desk.TurnDesk.deal_all.Goals as goal
@@ -18,11 +18,15 @@ loop-k-preserved g c =
     let cap = c.push_reserved.ensures.capacity in
     let more = length-append c.loop-k.all.items (pass ∷ []) in
     let items : length c.push_reserved.new.self.items ≡ k + 1 = ap length c.push_reserved.ensures.items
-          ∙ omega arith in (
+    ∙ omega arith in (
       c.deal-pass.ensures.table ∙ inv.0,
-      (base, inv.1.1, subst (λ n. IsDealing c.args.self.now.given base (k + 1) n c.deal-pass.new.seat.me) less h.0,
+      (
+        base,
+        inv.1.1,
+        subst (λ n. IsDealing c.args.self.now.given base (k + 1) n c.deal-pass.new.seat.me) less h.0,
         subst (AreDealt c.args.self.now base) (sym c.push_reserved.ensures.items)
-              (dealt_more c.args.self.now base k c.loop-k.all.items pass inv.1.3 i3 h.1)),
+            (dealt_more c.args.self.now base k c.loop-k.all.items pass inv.1.3 i3 h.1),
+      ),
       omega arith,
       items,
       omega arith,

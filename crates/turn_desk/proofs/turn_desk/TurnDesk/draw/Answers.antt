@@ -1,4 +1,4 @@
-use Rattle.std.proofs.Common.{◌≡◌, sym, subst, arith, ◌∙◌}
+use Rattle.std.proofs.Common.{◌≡◌, sym, subst, arith}
 use Rattle.turn_desk.specs.Rule.{IsIdle}
 use Rattle.turn_desk.proofs.Steps.{draws_idle}
 use Rattle.turn_desk.proofs.turn_desk.TurnDesk.draw.Goals as goal
@@ -12,5 +12,5 @@ fetch_add-requires g c =
       omega arith,
       draws_idle sv k.solo.value.given k.passes
           c.self.inside.table.shared.table_id.slots c.args.seat.now.id c.args.seat.now.me c.self.invariant.1
-                (subst (λ d. IsIdle d.given c.args.seat.now.me) (sym c.self.view_is) c.requires.idle),
+          (subst (λ d. IsIdle d.given c.args.seat.now.me) (sym c.self.view_is) c.requires.idle),
     )

@@ -1,4 +1,4 @@
-use Rattle.std.proofs.Common.{◌≡◌, List, [], ◌∷◌, ◌++◌, map, sym, ap, ◌∙◌, append_assoc}
+use Rattle.std.proofs.Common.{[], ◌∷◌, ◌++◌, map, sym, ap, ◌∙◌, append_assoc}
 use Rattle.std.proofs.lemmas.List.Elements.{All-pop}
 use Rattle.std.specs.Option.{option_to_list}
 use Rattle.turn_desk.specs.Passes.{IsPassOf}
@@ -15,6 +15,10 @@ loop-pass-preserved g c =
     let rest = inv.2.0 in (
       c.take_in-all.ensures.table,
       (All-pop (IsPassOf c.args.self.now) c.loop-pass.passes.items new c.pop-in-loop-pass.result e inv.1).0,
-      (pass ∷ rest, sym (append_assoc new (pass ∷ []) rest)
-            ∙ (ap (λ l. l ++ rest) (sym it) ∙ inv.2.1), c.take_in-all.ensures.gathered (map share_of rest) inv.2.2),
+      (
+        pass ∷ rest,
+        sym (append_assoc new (pass ∷ []) rest)
+            ∙ (ap (λ l. l ++ rest) (sym it) ∙ inv.2.1),
+        c.take_in-all.ensures.gathered (map share_of rest) inv.2.2,
+      ),
     )

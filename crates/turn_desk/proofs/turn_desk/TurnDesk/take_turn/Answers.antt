@@ -1,5 +1,5 @@
 use Rattle.std.proofs.Common.{sym, subst}
-use Rattle.turn_desk.specs.Rule.{IsWaiting, IsServing, TakesTurn}
+use Rattle.turn_desk.specs.Rule.{TakesTurn}
 use Rattle.turn_desk.proofs.turn_desk.TurnDesk.take_turn.Goals as goal
 
 pub wait-requires-clause-waiting : goal.wait-requires-clause-waiting
@@ -25,5 +25,5 @@ returns-clause-took g c =
     let k = c.requires.idle in
     let w = c.draw-ticket.ensures.drew k.0 k.1 k.2 k.3 in
     subst (λ m. TakesTurn g.S.Served.relates c.args.self.now.given m c.args.op c.serve_at-answer.result
-          c.serve_at-answer.new.seat.me) (sym k.3)
+    c.serve_at-answer.new.seat.me) (sym k.3)
     (c.serve_at-answer.ensures.served k.0 w.0 k.1 k.2 (c.wait.ensures.took k.0 w.0 k.1 k.2 w.1 w.2)).1

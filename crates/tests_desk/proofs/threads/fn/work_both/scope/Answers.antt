@@ -1,5 +1,5 @@
 use Rattle.std.proofs.Common.{rules}
-use denote.Param.Send.{IsSend, sendable, param_send, struct_send}
+use denote.Param.Send.{IsSend, sendable}
 use Rattle.std.proofs.Crossing.{crosses}
 use Rattle.turn_desk.proofs.Crosses.{pass_send, desk_sync}
 use Rattle.tests_desk.specs.contracts.counter.Counter as counter
