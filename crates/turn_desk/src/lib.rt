@@ -17,17 +17,12 @@ mod turn_desk;
 pub use chair::Chair;
 pub use close::Closed;
 pub use desk::Desk;
-pub use gates::Gates;
 pub use laws::{
     a_sole_owner_took_all, each_turn_has_one_pass, own_turns_are_placed,
     own_turns_keep_their_order, turns_add_up,
 };
 pub use pass::Pass;
-pub use rule::{
-    Deal, DeskKey, DeskRule, DeskSeat, Draw, Gather, GiveBack, LastTurn, Look, SeatView, Share,
-    Slot,
-};
 pub use served::Served;
-pub use solo::{NoRule, OneTurn, Records, SoloDesk, TurnLog};
+pub use solo::SoloDesk;
 pub use turn::{Given, Sight, Stamp, Turn};
 pub use turn_desk::TurnDesk;
