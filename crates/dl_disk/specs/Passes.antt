@@ -4,9 +4,9 @@ use Rattle.std.proofs.Common.{◌∙◌, subst, arith, ⊎_elim, inl, inr}
 use Rattle.std.proofs.lemmas.Bool.{cases_lt}
 use Rattle.dl_kinds.specs.declared.outside.IoErr.{IoErr}
 use Rattle.dl_kinds.specs.declared.outside.IoErr.TheVariants.{Fault, NoMemory}
-use Rattle.dl_disk.specs.Files.{Files, Follows}
+use Rattle.dl_disk.specs.Files.{Files, Follows, IsSame}
 use Rattle.dl_disk.specs.State.{DiskState, LeftSince}
-use Rattle.dl_disk.specs.Calls.{Stays, Elapses, Looks, LooksInto, Alters, MakesFolder}
+use Rattle.dl_disk.specs.Calls.{Stays, Elapses, Looks, LooksInto, Alters, MakesFolder, ReadsNothing}
 
 -- From old to new time goes on, and what was told of earlier moments is told still. Whatever a crash at any moment
 -- between them leaves, it comes of an image at old by the step.
@@ -121,3 +121,57 @@ since_split step start mid new passes image left = ⊎_elim
     (λ late. inr (left.0, omega (arith, late), left.2, left.3))
     (λ early. inl (left.0, left.1, early, (passes.left left.0 image early).0 left.3))
     (cases_lt mid.moment left.0)
+
+-- ---- calls that read no file
+
+-- The calls from old to new took this step, in what is read and at each moment in what a crash might leave; they read no
+-- file.
+pub record Performs (step : Files → Files → Type 0) (old new : DiskState) : Type 0 where
+  pub seen : step old.seen new.seen
+  pub passes : Passes step old new
+  pub reads : ReadsNothing old new
+
+pub performs_none : (step : Files → Files → Type 0) (disk : DiskState) → ((files : Files) → step files files) → Performs step disk disk
+performs_none step disk none = record { seen = none disk.seen; passes = passes_none step disk none; reads = λ name. refl }
+
+pub performs_on : (first second whole : Files → Files → Type 0) (a b c : DiskState)
+    → ((x y : Files) → first x y → whole x y) → ((x y z : Files) → first x y → second y z → whole x z)
+    → Performs first a b → Performs second b c → Performs whole a c
+performs_on first second whole a b c one both front back = record {
+  seen = both a.seen b.seen c.seen front.seen back.seen;
+  passes = passes_on first second whole a b c one (λ x y z left. both x y z) front.passes back.passes;
+  reads = λ name. back.reads name ∙ front.reads name;
+}
+
+pub performs_more : (step : Files → Files → Type 0) (a b c : DiskState) → ((x y z : Files) → step x y → step y z → step x z)
+    → Performs step a b → Performs step b c → Performs step a c
+performs_more step a b c on = performs_on step step step a b c (λ x y is. is) on
+
+pub performs_wider : (step whole : Files → Files → Type 0) (a b : DiskState) → ((x y : Files) → step x y → whole x y) → Performs step a b → Performs whole a b
+performs_wider step whole a b wider performs = record {
+  seen = wider a.seen b.seen performs.seen;
+  passes = passes_wider step whole a b wider performs.passes;
+  reads = performs.reads;
+}
+
+pub performs_look : {T : Type 0} (old new : DiskState) (result : Result T IoErr) → Looks old new result → Performs IsSame old new
+performs_look old new result looks = record {
+  seen = looks.stays.seen;
+  passes = passes_look IsSame old new result (λ image name. refl) looks;
+  reads = looks.reads;
+}
+
+pub performs_folder : (name : List ℕ) (old new : DiskState) (result : Result (Unit {0}) IoErr) → MakesFolder name old new result → Performs IsSame old new
+performs_folder name old new result makes = record {
+  seen = makes.stays.seen;
+  passes = passes_folder IsSame name old new result (λ image other. refl) makes;
+  reads = makes.reads;
+}
+
+pub performs_alters : (step : Files → Files → Type 0) (old new : DiskState) (result : Result (Unit {0}) IoErr) → ((files : Files) → step files files)
+    → Alters step old new result → Performs step old new
+performs_alters step old new result none alters = record {
+  seen = alters.seen;
+  passes = passes_alters step old new result none alters;
+  reads = alters.reads;
+}
