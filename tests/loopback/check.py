@@ -8,15 +8,9 @@ import subprocess
 import sys
 import tempfile
 
-import cases  # each lists its cases
-import layouts
-import metainfos
-import moves
-import peers
-import replies
-import rests
-from mirrors import free_port
-from rooms import CASES, PROGRAM, Room, Skipped, Wrong
+from cases import layouts, metainfos, moves, one_request, peers, replies, rests  # each lists its cases
+from lib.mirrors import free_port
+from lib.rooms import CASES, PROGRAM, Room, Skipped, Wrong
 
 
 def has_ipv6():

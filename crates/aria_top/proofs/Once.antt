@@ -4,18 +4,18 @@ use Rattle.sha1.specs.Sha1.{sha1}
 use Rattle.link_source.specs.Streams.{Stream}
 use Rattle.metainfo.specs.Info.{Info}
 use Rattle.request_chain.specs.Fetched.{Fetched, FetchedIsOne}
-use Rattle.request_chain.specs.Plans.{Ending as FetchEnding, Done as AllCame, Open as MoreIsDue, Lost as LossCame}
+use Rattle.request_chain.specs.Plans.{WorkEnding as FetchEnding, Done as AllCame, Open as MoreIsDue, Lost as LossCame}
 use Rattle.aria_top.specs.Askings.{piece_parts}
-use Rattle.aria_top.specs.Worked.{Ending, Done, Open, Lost, Digest, IsRight, Breaks, WorkedFrom}
+use Rattle.aria_top.specs.Worked.{WorkEnding, Done, Open, Lost, Digest, IsRight, Breaks, WorkedFrom}
 
 -- how a piece that breaks was fetched
-how_of : Ending → FetchEnding
+how_of : WorkEnding → FetchEnding
 how_of Done = AllCame
 how_of Digest = AllCame
 how_of Open = MoreIsDue
 how_of (Lost loss) = LossCame loss
 
-breaks_how : (info : Info) (piece : ℕ) (streams : List Stream) (ending : Ending) → Breaks info piece streams ending
+breaks_how : (info : Info) (piece : ℕ) (streams : List Stream) (ending : WorkEnding) → Breaks info piece streams ending
     → (bytes : List ℕ) × Fetched (piece_parts info piece) streams bytes (how_of ending) [] × (ending ≢ Done)
 unfolding how_of
 breaks_how info piece streams Done breaks = absurd breaks
@@ -24,7 +24,7 @@ breaks_how info piece streams Open (bytes, fetched) = (bytes, fetched, λ e. cc)
 breaks_how info piece streams (Lost loss) (bytes, fetched) = (bytes, fetched, λ e. cc)
 
 -- and which endings that tells
-same_how : (ending other : Ending) → how_of ending ≡ how_of other → ending ≢ Done → other ≢ Done → ending ≡ other
+same_how : (ending other : WorkEnding) → how_of ending ≡ how_of other → ending ≢ Done → other ≢ Done → ending ≡ other
 unfolding how_of
 same_how Done other same not_done not_done_too = absurd (not_done refl)
 same_how Digest Done same not_done not_done_too = absurd (not_done_too refl)
@@ -46,7 +46,7 @@ module _ (law : FetchedIsOne) where
       (law (piece_parts info piece) streams rest more right.bytes also.bytes AllCame AllCame right.fetched also.fetched).2
 
   -- a piece that is right doesn't break
-  right_breaks : (info : Info) (piece : ℕ) (streams rest : List Stream) (ending : Ending) → IsRight info piece streams rest → Breaks info piece streams ending → ⊥
+  right_breaks : (info : Info) (piece : ℕ) (streams rest : List Stream) (ending : WorkEnding) → IsRight info piece streams rest → Breaks info piece streams ending → ⊥
   right_breaks info piece streams rest Done right breaks = breaks
   right_breaks info piece streams rest Digest right (bytes, fetched, wrong) =
       wrong (ap sha1 (sym (law (piece_parts info piece) streams rest [] right.bytes bytes AllCame AllCame right.fetched fetched).0) ∙ right.digest)
@@ -55,14 +55,14 @@ module _ (law : FetchedIsOne) where
   right_breaks info piece streams rest (Lost loss) right (bytes, fetched) =
       let same : AllCame ≡ LossCame loss = (law (piece_parts info piece) streams rest [] right.bytes bytes AllCame (LossCame loss) right.fetched fetched).1 in cc
 
-  breaks_once : (info : Info) (piece : ℕ) (streams : List Stream) (ending other : Ending) → Breaks info piece streams ending → Breaks info piece streams other → ending ≡ other
+  breaks_once : (info : Info) (piece : ℕ) (streams : List Stream) (ending other : WorkEnding) → Breaks info piece streams ending → Breaks info piece streams other → ending ≡ other
   breaks_once info piece streams ending other breaks also =
       let first = breaks_how info piece streams ending breaks in
       let second = breaks_how info piece streams other also in
       same_how ending other (law (piece_parts info piece) streams [] [] first.0 second.0 (how_of ending) (how_of other) first.1 second.1).1 first.2 second.2
 
   -- so the work ended in one way
-  pub worked_once : (info : Info) (piece left : ℕ) (streams : List Stream) (right other : ℕ) (ending end : Ending)
+  pub worked_once : (info : Info) (piece left : ℕ) (streams : List Stream) (right other : ℕ) (ending end : WorkEnding)
       → WorkedFrom info piece left streams right ending → WorkedFrom info piece left streams other end → (right ≡ other) × (ending ≡ end)
   worked_once info piece zero streams right other ending end (none, count, done) (none_too, count_too, done_too) = (count ∙ sym count_too, done ∙ sym done_too)
   worked_once info piece (suc left) streams right other ending end worked also = ⊎_elim

@@ -21,7 +21,7 @@ use Rattle.request_chain.specs.Fetched.{Fetched}
 use Rattle.request_chain.specs.Plans.{unusable}
 use Rattle.request_chain.specs.Plans.{Open as MoreIsDue, Lost as LossCame}
 use Rattle.aria_top.specs.Askings.{asked_part, piece_parts, piece_count, start_of, size_of}
-use Rattle.aria_top.specs.Worked.{Ending, Done, Open, Lost, WorkedFrom, IsQuiet}
+use Rattle.aria_top.specs.Worked.{WorkEnding, Done, Open, Lost, WorkedFrom, IsQuiet}
 
 -- a URL is usable or not
 true_or_false : (b : Bool) → (b ≡ true) ⊎ (b ≡ false)
@@ -91,7 +91,7 @@ parts_asked info piece sound within =
     (parts_some 0 0 info.files start (start + size_of info piece) (omega arith) (omega (arith, some, len)) (omega (arith, some, all)))
 
 -- where no stream is left, nothing that came was wrong
-pub worked_quiet : (info : Info) (piece left : ℕ) → IsSound info → piece + left ≡ piece_count info → (ending : Ending) × WorkedFrom info piece left [] piece ending × IsQuiet ending
+pub worked_quiet : (info : Info) (piece left : ℕ) → IsSound info → piece + left ≡ piece_count info → (ending : WorkEnding) × WorkedFrom info piece left [] piece ending × IsQuiet ending
 worked_quiet info piece zero sound all = (Done, (refl, refl, refl), tt)
 worked_quiet info piece (suc left) sound all =
     let asked = parts_asked info piece sound (omega arith) in

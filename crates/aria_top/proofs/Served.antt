@@ -10,8 +10,8 @@ use Rattle.request_chain.specs.Chains.{IsPart}
 use Rattle.request_chain.specs.Fetched.{Fetched}
 use Rattle.request_chain.specs.Honest.{IsHonest, AreHonest}
 use Rattle.request_chain.specs.Plans.{Done, Open, Lost}
-use Rattle.serving_laws.specs.Laws.{ServedComes}
-use Rattle.serving_laws.specs.Serving.{GivesAll}
+use Rattle.memory_serving_laws.specs.Laws.{ServedComes}
+use Rattle.memory_serving_laws.specs.Serving.{GivesAll}
 use Rattle.span_map.specs.declared.jobs.JobPart.{JobPart}
 use Rattle.aria_top.specs.Fetched.{EndsIn, ending_of}
 use Rattle.aria_top.specs.Serving.{GivesPiece, KeepsContent, ServesFetch, IsFromOutside}

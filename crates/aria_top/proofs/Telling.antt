@@ -9,11 +9,11 @@ use Rattle.reply_reader.specs.declared.loss.Loss.TheVariants as losses
 use Rattle.request_chain.specs.Fetched.{FetchedIsOne}
 use Rattle.request_chain.specs.Plans.{unusable}
 use Rattle.aria_top.specs.Askings.{piece_count}
-use Rattle.aria_top.specs.Ends.{work_status, loss_status, IsLossStatus, IsOfDisk, IsKnown, IsLinkFailure}
+use Rattle.aria_top.specs.Ends.{work_status, loss_status, IsLossStatus, IsOfDisk, IsKnownFailure, IsLinkFailure}
 use Rattle.aria_top.specs.Payload.{AreWritten, PiecesStand}
 use Rattle.aria_top.specs.Run.{Reported, TellsWork, CountsRight, IsEnd}
 use Rattle.aria_top.specs.Serving.{IsOfOutside}
-use Rattle.aria_top.specs.Worked.{Ending, Done, Open, Lost, Digest, Worked, IsQuiet, WorkLost, work_ending}
+use Rattle.aria_top.specs.Worked.{WorkEnding, Done, Open, Lost, Digest, Worked, IsQuiet, WorkLost, work_ending}
 use Rattle.aria_top.specs.declared.ends.Failure.{Failure}
 use Rattle.aria_top.specs.declared.ends.Failure.TheVariants.{Disk, NoMemory}
 use Rattle.aria_top.specs.declared.ends.Failure.TheVariants.{Lost as LostFailure, Digest as DigestFailure}
@@ -27,7 +27,7 @@ reported_is status reported m told is low =
     ⊎_elim (λ same. sym same ∙ is) (λ other. ⊎_elim (λ e. absurd (omega arith)) (λ e. absurd (omega arith)) other) told
 
 -- the statuses of each ending: its own, or that of a disk that failed where nothing that came was wrong
-Fits : Ending → ℕ → Type 0
+Fits : WorkEnding → ℕ → Type 0
 Fits Done status = (status ≡ 0) ⊎ (status ≡ 17)
 Fits Open status = (status ≡ 6) ⊎ (status ≡ 17)
 Fits (Lost loss) status = ((status ≡ loss_status loss) × IsLossStatus status) ⊎ ((status ≡ 17) × (loss ≡ unusable 0))
@@ -36,14 +36,14 @@ Fits Digest status = status ≡ 32
 -- the work ended, and this is its status; Cause is that the link failed
 pub record Ended (info : Info) (streams : List Stream) (pieces status : ℕ) (Cause : Type 0) : Type 0 where
   pub right : ℕ
-  pub ending : Ending
+  pub ending : WorkEnding
   pub worked : Worked info streams right ending
   fits : Fits ending status
   pub no_more : pieces ≤ right
   pub all : status ≢ 17 → pieces ≡ right
   link : status ≡ 6 → ending ≡ Open → Cause
 
-quiet_fits : (ending : Ending) → IsQuiet ending → Fits ending 17
+quiet_fits : (ending : WorkEnding) → IsQuiet ending → Fits ending 17
 unfolding Fits
 quiet_fits Done quiet = inr refl
 quiet_fits Open quiet = inr refl
@@ -71,7 +71,7 @@ ended_lost info streams pieces losses.Redirects Cause cause known worked =
 ended_lost info streams pieces losses.NoMemory Cause cause known worked = absurd (omega (arith, known))
 
 -- where memory wasn't wanting
-pub ended : (info : Info) (streams : List Stream) (pieces : ℕ) (failure : Option Failure) (Cause : Type 0) → IfSome failure (λ f. IsLinkFailure f → Cause) → IfSome failure IsKnown
+pub ended : (info : Info) (streams : List Stream) (pieces : ℕ) (failure : Option Failure) (Cause : Type 0) → IfSome failure (λ f. IsLinkFailure f → Cause) → IfSome failure IsKnownFailure
     → WorkLost info streams pieces failure → Ended info streams pieces (work_status failure) Cause ⊎ (work_status failure ≡ 40)
 unfolding Fits
 ended info streams pieces None Cause cause known worked = inl record { right = pieces; ending = Done; worked = worked; fits = inl refl; no_more = omega arith; all = λ _. refl; link = λ e _. absurd (omega arith) }
@@ -88,21 +88,21 @@ ended_unread info Cause sound =
     record { right = 0; ending = quiet.0; worked = quiet.1; fits = quiet_fits quiet.0 quiet.2; no_more = omega arith; all = λ other. absurd (other refl); link = λ e _. absurd (omega arith) }
 
 -- which endings have a status
-at_0 : (ending : Ending) (status : ℕ) → Fits ending status → status ≡ 0 → ending ≡ Done
+at_0 : (ending : WorkEnding) (status : ℕ) → Fits ending status → status ≡ 0 → ending ≡ Done
 unfolding Fits
 at_0 Done status fits is = refl
 at_0 Open status fits is = ⊎_elim (λ e. absurd (omega arith)) (λ e. absurd (omega arith)) fits
 at_0 (Lost loss) status fits is = ⊎_elim (λ (e, known). absurd ((low_loss status known).1 is)) (λ (e, quiet). absurd (omega arith)) fits
 at_0 Digest status fits is = absurd (omega arith)
 
-at_32 : (ending : Ending) (status : ℕ) → Fits ending status → status ≡ 32 → ending ≡ Digest
+at_32 : (ending : WorkEnding) (status : ℕ) → Fits ending status → status ≡ 32 → ending ≡ Digest
 unfolding Fits
 at_32 Done status fits is = ⊎_elim (λ e. absurd (omega arith)) (λ e. absurd (omega arith)) fits
 at_32 Open status fits is = ⊎_elim (λ e. absurd (omega arith)) (λ e. absurd (omega arith)) fits
 at_32 (Lost loss) status fits is = ⊎_elim (λ (e, known). absurd ((low_loss status known).3 is)) (λ (e, quiet). absurd (omega arith)) fits
 at_32 Digest status fits is = refl
 
-at_loss : (ending : Ending) (status : ℕ) → Fits ending status → IsLossStatus status → ((ending ≡ Open) × (status ≡ 6)) ⊎ ((loss : Loss) × (loss_status loss ≡ status) × (ending ≡ Lost loss))
+at_loss : (ending : WorkEnding) (status : ℕ) → Fits ending status → IsLossStatus status → ((ending ≡ Open) × (status ≡ 6)) ⊎ ((loss : Loss) × (loss_status loss ≡ status) × (ending ≡ Lost loss))
 unfolding Fits
 at_loss Done status fits known = ⊎_elim (λ e. absurd ((low_loss status known).1 e)) (λ e. absurd ((low_loss status known).2 e)) fits
 at_loss Open status fits known = ⊎_elim (λ e. inl (refl, e)) (λ e. absurd ((low_loss status known).2 e)) fits
@@ -130,9 +130,9 @@ not_small r m is same low = ⊎_elim (λ e. absurd (omega arith)) (λ e. absurd 
 
 module _ (law : FetchedIsOne) (info : Info) (streams : List Stream) where
   -- what fits the ending of the work
-  at_ending : (pieces status right : ℕ) (ending : Ending) (Cause : Type 0) → Ended info streams pieces status Cause → Worked info streams right ending → Fits ending status
+  at_ending : (pieces status right : ℕ) (ending : WorkEnding) (Cause : Type 0) → Ended info streams pieces status Cause → Worked info streams right ending → Fits ending status
   at_ending pieces status right ending Cause end worked =
-      subst (λ (e : Ending). Fits e status) (worked_once law info 0 (piece_count info) streams end.right right end.ending ending end.worked worked).1 end.fits
+      subst (λ (e : WorkEnding). Fits e status) (worked_once law info 0 (piece_count info) streams end.right right end.ending ending end.worked worked).1 end.fits
 
   pub tells_of : (pieces status r before now : ℕ) → Ended info streams pieces status (Rose before now) → Reported status r → TellsWork info streams r before now
   tells_of pieces status r before now end told = record {
@@ -160,7 +160,7 @@ module _ (law : FetchedIsOne) (info : Info) (streams : List Stream) where
 
   -- what the status of the work tells of the streams
   pub tells_work : (pieces : ℕ) (failure : Option Failure) (r before now : ℕ) → WorkLost info streams pieces failure → Reported (work_status failure) r
-      → IfSome failure (λ f. IsLinkFailure f → Rose before now) → IfSome failure IsKnown → TellsWork info streams r before now
+      → IfSome failure (λ f. IsLinkFailure f → Rose before now) → IfSome failure IsKnownFailure → TellsWork info streams r before now
   tells_work pieces failure r before now lost told cause known = ⊎_elim
       (λ end. tells_of pieces (work_status failure) r before now end told)
       (λ forty. tells_nothing r before now (⊎_elim (λ same. inl (same ∙ forty)) (λ other. other) told))
@@ -172,7 +172,7 @@ no_cause None = tt
 no_cause (Some failure) = λ _. tt
 
 -- how many pieces were right, where there is a summary
-pub counts_right : (info : Info) (streams : List Stream) (pieces : ℕ) (failure : Option Failure) (r : ℕ) → IfSome failure IsKnown → WorkLost info streams pieces failure → r ≡ work_status failure → r ≢ 40
+pub counts_right : (info : Info) (streams : List Stream) (pieces : ℕ) (failure : Option Failure) (r : ℕ) → IfSome failure IsKnownFailure → WorkLost info streams pieces failure → r ≡ work_status failure → r ≢ 40
     → CountsRight info streams r pieces
 counts_right info streams pieces failure r known lost same not_memory = ⊎_elim
     (λ end. record { right = end.right; ending = end.ending; worked = end.worked; no_more = end.no_more; all = λ other. end.all (λ e. other (same ∙ e)) })
@@ -184,7 +184,7 @@ pub reported_status : (failure : Option Failure) (r : ℕ) → Reported (work_st
 reported_status failure r told not_memory not_sink = ⊎_elim (λ e. e) (λ other. ⊎_elim (λ e. absurd (not_memory e)) (λ e. absurd (not_sink e)) other) told
 
 -- the status 0 is that of whole work
-pub done_is : (failure : Option Failure) (r : ℕ) → IfSome failure IsKnown → Reported (work_status failure) r → r ≡ 0 → failure ≡ None
+pub done_is : (failure : Option Failure) (r : ℕ) → IfSome failure IsKnownFailure → Reported (work_status failure) r → r ≡ 0 → failure ≡ None
 done_is None r known told is = refl
 done_is (Some Disk) r known told is = absurd (omega (arith, reported_is 17 r 0 told is (omega arith)))
 done_is (Some (LostFailure loss)) r known told is = absurd ((low_loss (loss_status loss) known).1 (reported_is (loss_status loss) r 0 told is (omega arith)))
@@ -228,7 +228,7 @@ written_is info seen pieces failure r written same not_memory = ⊎_elim
     written
 
 -- the statuses of the work are those of a run that fetches
-pub status_known : (failure : Option Failure) (r : ℕ) → IfSome failure IsKnown → Reported (work_status failure) r → IsEnd r
+pub status_known : (failure : Option Failure) (r : ℕ) → IfSome failure IsKnownFailure → Reported (work_status failure) r → IsEnd r
 status_known None r known told = ⊎_elim (λ e. inl e) (λ other. ⊎_elim (λ e. inr (inr (inr (inl e)))) (λ e. inr (inr (inr (inr (inl e))))) other) told
 status_known (Some Disk) r known told = ⊎_elim (λ e. inr (inl e)) (λ other. ⊎_elim (λ e. inr (inr (inr (inl e)))) (λ e. inr (inr (inr (inr (inl e))))) other) told
 status_known (Some (LostFailure loss)) r known told = ⊎_elim (λ e. inr (inr (inr (inr (inr (subst IsLossStatus (sym e) known)))))) (λ other. ⊎_elim (λ e. inr (inr (inr (inl e)))) (λ e. inr (inr (inr (inr (inl e))))) other) told

@@ -9,7 +9,7 @@ use Rattle.aria_top.specs.Ends.{failure_of, disk_failure_of, IsOfDisk}
 use Rattle.aria_top.specs.Fetched.{EndsIn, ending_of}
 use Rattle.reply_reader.specs.declared.loss.Loss.{Loss}
 use Rattle.reply_reader.specs.declared.loss.Loss.TheVariants as losses
-use Rattle.aria_top.specs.Worked.{Ending, Done, Digest, IsRight, Breaks, WorkedFrom, Worked, PieceLost, WorkLost, WorkEnds, work_ending}
+use Rattle.aria_top.specs.Worked.{WorkEnding, Done, Digest, IsRight, Breaks, WorkedFrom, Worked, PieceLost, WorkLost, WorkEnds, work_ending}
 use Rattle.aria_top.specs.declared.ends.Failure.{Failure}
 use Rattle.aria_top.specs.declared.ends.Failure.TheVariants.{Disk, NoMemory}
 use Rattle.aria_top.specs.declared.ends.Failure.TheVariants.{Lost as LostFailure, Digest as DigestFailure}
@@ -19,7 +19,7 @@ use Rattle.aria_top.proofs.Quiet.{worked_quiet}
 -- what is left of the work goes on from what came
 abbrev pub WorkGoesOn : Info → ℕ → List Stream → Type 0
 WorkGoesOn info piece gained =
-    (more : List Stream) (right : ℕ) (ending : Ending) → WorkedFrom info piece (piece_count info - piece) more right ending → Worked info (gained ++ more) right ending
+    (more : List Stream) (right : ℕ) (ending : WorkEnding) → WorkedFrom info piece (piece_count info - piece) more right ending → Worked info (gained ++ more) right ending
 
 -- a piece that is right is so where more streams follow
 right_more : (info : Info) (piece : ℕ) (streams more : List Stream) → IsRight info piece streams [] → IsRight info piece (streams ++ more) more
@@ -40,11 +40,11 @@ module _ (info : Info) (piece : ℕ) (within : piece < piece_count info) where
       (on (g ++ more) count ending (subst (λ (n : ℕ). WorkedFrom info piece n (g ++ more) count ending) (sym left) (inl (more, right_more info piece g more right, then))))
 
   -- at a piece that breaks
-  work_breaks : (gained g : List Stream) (ending : Ending) → WorkGoesOn info piece gained → Breaks info piece g ending → Worked info (gained ++ g) piece ending
+  work_breaks : (gained g : List Stream) (ending : WorkEnding) → WorkGoesOn info piece gained → Breaks info piece g ending → Worked info (gained ++ g) piece ending
   work_breaks gained g ending on breaks = on g piece ending (subst (λ (n : ℕ). WorkedFrom info piece n g piece ending) (sym left) (inr (refl, breaks)))
 
   -- at one that breaks in this way, if the way is known
-  lost_at : (gained g : List Stream) (ending : Option Ending) → WorkGoesOn info piece gained → IfSome ending (Breaks info piece g) → IfSome ending (Worked info (gained ++ g) piece)
+  lost_at : (gained g : List Stream) (ending : Option WorkEnding) → WorkGoesOn info piece gained → IfSome ending (Breaks info piece g) → IfSome ending (Worked info (gained ++ g) piece)
   lost_at gained g (Some ending) on breaks = work_breaks gained g ending on breaks
   lost_at gained g None on breaks = tt
 

@@ -65,8 +65,8 @@ IsOfDisk NoMemory = Unit {0}
 IsOfDisk failure = ⊥
 
 -- of losses the failure has their statuses
-abbrev pub IsKnown : Failure → Type 0
-IsKnown (Lost loss) = IsLossStatus (loss_status loss)
-IsKnown Disk = Unit {0}
-IsKnown Digest = Unit {0}
-IsKnown NoMemory = Unit {0}
+abbrev pub IsKnownFailure : Failure → Type 0
+IsKnownFailure (Lost loss) = IsLossStatus (loss_status loss)
+IsKnownFailure Disk = Unit {0}
+IsKnownFailure Digest = Unit {0}
+IsKnownFailure NoMemory = Unit {0}

@@ -24,7 +24,7 @@ pub record PiecesStand (info : Info) (files : Files) (count : ℕ) : Type 0 wher
   pub pieces : (piece : ℕ) → piece < count → HasPiece info files piece
 
 -- the whole payload stands in what the disk reads, and in each image
-pub record Stands (info : Info) (seen : Files) (images : Files → Type 0) : Type 0 where
+pub record PayloadStands (info : Info) (seen : Files) (images : Files → Type 0) : Type 0 where
   pub reads : PiecesStand info seen (piece_count info)
   pub lasts : (image : Files) → images image → PiecesStand info image (piece_count info)
 

@@ -16,7 +16,7 @@ use Rattle.aria_top.specs.Ends.{loss_status, IsLossStatus}
 use Rattle.aria_top.specs.Metainfo.{Says, IsUnbencoded, IsUnusable}
 use Rattle.aria_top.specs.Payload.{bytes_of_pieces, PiecesStand}
 use Rattle.aria_top.specs.Words.{file_named}
-use Rattle.aria_top.specs.Worked.{Ending, Done, Lost, Digest, Worked}
+use Rattle.aria_top.specs.Worked.{WorkEnding, Done, Lost, Digest, Worked}
 
 -- the words name a metainfo file of this disk that says this
 pub record IsToFetch (words : List (String Global)) (seen : Files) (info : Info) : Type 0 where
@@ -98,7 +98,7 @@ pub record TellsWork (info : Info) (streams : List Stream) (status before now : 
 -- What the streams tell of how many pieces were written: those that came right, and where the disk failed no more.
 pub record CountsRight (info : Info) (streams : List Stream) (status pieces : ℕ) : Type 0 where
   pub right : ℕ
-  pub ending : Ending
+  pub ending : WorkEnding
   pub worked : Worked info streams right ending
   pub no_more : pieces ≤ right
   pub all : status ≢ 17 → pieces ≡ right

@@ -4,7 +4,7 @@ use Rattle.link_source.specs.Mirrors.{Content}
 use Rattle.reply_reader.specs.declared.loss.Loss.{Loss}
 use Rattle.reply_reader.specs.declared.loss.Loss.TheVariants.{Link, NoMemory}
 use Rattle.sha1.specs.Sha1.{sha1}
-use Rattle.serving_laws.specs.Serving.{GivesAll}
+use Rattle.memory_serving_laws.specs.Serving.{GivesAll}
 use Rattle.metainfo.specs.Info.{Info}
 use Rattle.aria_top.specs.Askings.{piece_parts, piece_count, digest_of}
 use Rattle.aria_top.specs.declared.ends.Failure.{Failure}

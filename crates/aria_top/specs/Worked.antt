@@ -7,7 +7,7 @@ use Rattle.reply_reader.specs.declared.loss.Loss.{Loss}
 use Rattle.request_chain.specs.Chains.{Gains}
 use Rattle.request_chain.specs.Fetched.{Fetched}
 use Rattle.request_chain.specs.Plans.{unusable}
-use Rattle.request_chain.specs.Plans.{Ending as FetchEnding, Done as AllCame, Open as MoreIsDue, Lost as LossCame}
+use Rattle.request_chain.specs.Plans.{WorkEnding as FetchEnding, Done as AllCame, Open as MoreIsDue, Lost as LossCame}
 use Rattle.aria_top.specs.Askings.{piece_parts, piece_count, digest_of}
 use Rattle.aria_top.specs.Fetched.{EndsIn, ending_of}
 use Rattle.aria_top.specs.declared.ends.Failure.{Failure}
@@ -15,14 +15,14 @@ use Rattle.aria_top.specs.declared.ends.Failure.TheVariants.{Disk, NoMemory}
 use Rattle.aria_top.specs.declared.ends.Failure.TheVariants.{Lost as LostFailure, Digest as DigestFailure}
 
 -- All came and was right; more is due; it was lost; what came doesn't have its digest.
-pub data Ending : Type 0 where
-  Done : Ending
-  Open : Ending
-  Lost : Loss → Ending
-  Digest : Ending
+pub data WorkEnding : Type 0 where
+  Done : WorkEnding
+  Open : WorkEnding
+  Lost : Loss → WorkEnding
+  Digest : WorkEnding
 
 -- how the fetching of a piece ended that ended the work
-abbrev pub ending_with : FetchEnding → Ending
+abbrev pub ending_with : FetchEnding → WorkEnding
 ending_with AllCame = Done
 ending_with MoreIsDue = Open
 ending_with (LossCame loss) = Lost loss
@@ -34,7 +34,7 @@ pub record IsRight (info : Info) (piece : ℕ) (streams rest : List Stream) : Ty
   pub digest : sha1 bytes ≡ digest_of info piece
 
 -- the piece came without its digest, or didn't come, and no stream is left
-abbrev pub Breaks : Info → ℕ → List Stream → Ending → Type 0
+abbrev pub Breaks : Info → ℕ → List Stream → WorkEnding → Type 0
 Breaks info piece streams Done = ⊥
 Breaks info piece streams Digest =
     (bytes : List ℕ) × Fetched (piece_parts info piece) streams bytes AllCame [] × (sha1 bytes ≢ digest_of info piece)
@@ -43,18 +43,18 @@ Breaks info piece streams (Lost loss) = EndsIn (piece_parts info piece) streams 
 
 -- From this piece on, of which so many are left: each that is right is followed by the next one, and the first other one
 -- is the ending. right is the number of that one, which is how many pieces were right in all.
-abbrev pub WorkedFrom : Info → ℕ → ℕ → List Stream → ℕ → Ending → Type 0
+abbrev pub WorkedFrom : Info → ℕ → ℕ → List Stream → ℕ → WorkEnding → Type 0
 WorkedFrom info piece zero streams right ending = (streams ≡ []) × (right ≡ piece) × (ending ≡ Done)
 WorkedFrom info piece (suc left) streams right ending =
     ((rest : List Stream) × IsRight info piece streams rest × WorkedFrom info (piece + 1) left rest right ending)
     ⊎ ((right ≡ piece) × Breaks info piece streams ending)
 
 -- the pieces from the first on
-abbrev pub Worked : Info → List Stream → ℕ → Ending → Type 0
+abbrev pub Worked : Info → List Stream → ℕ → WorkEnding → Type 0
 Worked info streams right ending = WorkedFrom info 0 (piece_count info) streams right ending
 
 -- the ending of the work that a loss tells: none for want of memory
-abbrev pub work_ending : Loss → Option Ending
+abbrev pub work_ending : Loss → Option WorkEnding
 work_ending loss = option_map ending_with (ending_of loss)
 
 -- what the failure of a piece says of the streams that were used for it
@@ -71,7 +71,7 @@ pub record PieceEnds {T : Type 0} (info : Info) (piece : ℕ) (before now : List
   pub ends : MatchResult result (λ _. IsRight info piece gained []) (PieceLost info piece gained)
 
 -- nothing that came was wrong: the next URL is no `http` URL at most, and that of no reply
-abbrev pub IsQuiet : Ending → Type 0
+abbrev pub IsQuiet : WorkEnding → Type 0
 IsQuiet Done = Unit {0}
 IsQuiet Open = Unit {0}
 IsQuiet (Lost loss) = loss ≡ unusable 0
@@ -81,7 +81,7 @@ IsQuiet Digest = ⊥
 abbrev pub WorkLost : Info → List Stream → ℕ → Option Failure → Type 0
 WorkLost info streams pieces None = Worked info streams pieces Done
 WorkLost info streams pieces (Some Disk) =
-    (right : ℕ) × (ending : Ending) × Worked info streams right ending × (pieces ≤ right) × IsQuiet ending
+    (right : ℕ) × (ending : WorkEnding) × Worked info streams right ending × (pieces ≤ right) × IsQuiet ending
 WorkLost info streams pieces (Some (LostFailure loss)) = IfSome (work_ending loss) (Worked info streams pieces)
 WorkLost info streams pieces (Some DigestFailure) = Worked info streams pieces Digest
 WorkLost info streams pieces (Some NoMemory) = Unit {0}

@@ -10,7 +10,7 @@ ghost use Rattle.aria_top.specs.Askings.{asked_part, piece_parts, start_of, size
 ghost use Rattle.aria_top.specs.Ends.{loss_status, IsLossStatus, IsLinkLoss};
 ghost use Rattle.aria_top.specs.Fetched.{FetchEnds, IsFetching, IsLost};
 ghost use Rattle.fetch_session.specs.Blocks.{cut, run_start, run_end};
-ghost use Rattle.fetch_session.specs.Fetches.{plan_of, rest_of, ready_of, lost_of, IsFetch};
+ghost use Rattle.fetch_session.specs.Fetches.{fetch_plan, rest_of, ready_of, lost_of, IsFetch};
 ghost use Rattle.fetch_session.specs.Jobs.{IsJob};
 ghost use Rattle.link_source.specs.Streams.{Stream};
 ghost use Rattle.span_map.specs.declared.jobs.Job.{Job};
@@ -18,13 +18,13 @@ ghost use Rattle.aria_top.specs.Payload.{IsFetchable};
 ghost use Rattle.aria_top.specs.Serving.{KeepsContent, ServesFetch};
 ghost use Rattle.reply_reader.specs.Losses.{IsKnown as IsKnownLoss};
 ghost use Rattle.request_chain.specs.Honest.{AreHonest};
-ghost use Rattle.serving_laws.specs.Serving.{GivesAll};
+ghost use Rattle.memory_serving_laws.specs.Serving.{GivesAll};
 
 use dl_kinds::{NoMemory, Run};
 use fetch_session::{Fetch, FetchRoom, Loss};
 use link_source::Links;
 use metainfo::Meta;
-use serving_laws::{gains_are_honest, served_comes};
+use memory_serving_laws::{gains_are_honest, served_comes};
 use span_map::{Job, JobPart, JobParts, Part};
 use std::alloc::Global;
 
@@ -95,9 +95,9 @@ const ALLOW: u32 = 1_048_576;
 fn hand_on(fetch: &mut Fetch, piece: &mut Vec<u8>) -> Result<(), NoMemory>
     requires { 0 < (ready_of fetch.old).count }
     ensures takes { OnOk result ((job : Job) (used : List Stream) → IsFetch job used piece.old.items fetch.old → IsFetch job used piece.new.items fetch.new) }
-    ensures place { OnOk result (cut (plan_of fetch.old) (rest_of fetch.old).first + length piece.new.items
-        ≡ cut (plan_of fetch.old) (rest_of fetch.new).first + length piece.old.items) }
-    ensures plan { plan_of fetch.new ≡ plan_of fetch.old }
+    ensures place { OnOk result (cut (fetch_plan fetch.old) (rest_of fetch.old).first + length piece.new.items
+        ≡ cut (fetch_plan fetch.old) (rest_of fetch.new).first + length piece.old.items) }
+    ensures plan { fetch_plan fetch.new ≡ fetch_plan fetch.old }
     ensures first { (rest_of fetch.new).first ≡ (rest_of fetch.old).first + (ready_of fetch.old).count }
     ensures count { (rest_of fetch.new).count + (ready_of fetch.old).count ≡ (rest_of fetch.old).count }
     ensures none_ready { (ready_of fetch.new).count ≡ 0 }
@@ -120,9 +120,9 @@ fn fetch_on<L: Links>(
     ensures goes_on { IsTrue L.tells → (job : Job) (before : List Stream) → IsFetching job before (L.streams link.old) piece.old.items fetch.old
         → MatchResult result (λ _. IsFetching job before (L.streams link.new) piece.new.items fetch.new) (IsLost job.parts before (L.streams link.new)) }
     ensures all { result ≡ Ok true → (rest_of fetch.new).count ≡ 0 }
-    ensures place { OnOk result (cut (plan_of fetch.old) (rest_of fetch.old).first + length piece.new.items
-        ≡ cut (plan_of fetch.old) (rest_of fetch.new).first + length piece.old.items) }
-    ensures plan { plan_of fetch.new ≡ plan_of fetch.old }
+    ensures place { OnOk result (cut (fetch_plan fetch.old) (rest_of fetch.old).first + length piece.new.items
+        ≡ cut (fetch_plan fetch.old) (rest_of fetch.new).first + length piece.old.items) }
+    ensures plan { fetch_plan fetch.new ≡ fetch_plan fetch.old }
     ensures end { (rest_of fetch.new).first + (rest_of fetch.new).count ≡ (rest_of fetch.old).first + (rest_of fetch.old).count }
     ensures none_ready { OnOk result ((ready_of fetch.new).count ≡ 0) }
     ensures held { OnOk result (IfSome (lost_of fetch.new) (λ loss. IsLinkLoss loss → Rose (L.faults link.old) (L.faults link.new))) }
@@ -154,8 +154,8 @@ fn fill<L: Links>(
     requires none_ready { (ready_of fetch.old).count ≡ 0 }
     requires none_lost { lost_of fetch.old ≡ None }
     ensures ends { IsTrue L.tells → (job : Job) → IsFetch job [] [] fetch.old → FetchEnds job.parts (L.streams link.old) (L.streams link.new) result piece.new.items }
-    ensures len { OnOk result (cut (plan_of fetch.old) (rest_of fetch.old).first + length piece.new.items
-        ≡ cut (plan_of fetch.old) ((rest_of fetch.old).first + (rest_of fetch.old).count)) }
+    ensures len { OnOk result (cut (fetch_plan fetch.old) (rest_of fetch.old).first + length piece.new.items
+        ≡ cut (fetch_plan fetch.old) ((rest_of fetch.old).first + (rest_of fetch.old).count)) }
     ensures link { IfErr result (λ loss. IsLinkLoss loss → Rose (L.faults link.old) (L.faults link.new)) }
     ensures known { IfErr result IsKnownLoss }
     ensures honest { IsTrue L.tells → (L.content link.old).bad ≡ [] → (job : Job) → IsFetch job [] [] fetch.old

@@ -1,7 +1,7 @@
 // What a run writes.
 ghost use Rattle.std.specs.Prelude.{◌≡◌, ◌≢◌, ◌⊎◌, ◌++◌, IfOk, IfSome, IsTrue, string_bytes};
 ghost use Rattle.dl_words.specs.Counts.{Rose};
-ghost use Rattle.aria_top.specs.Ends.{refusal_status, work_status, IsKnown};
+ghost use Rattle.aria_top.specs.Ends.{refusal_status, work_status, IsKnownFailure};
 ghost use Rattle.metainfo.specs.Info.{info_of};
 ghost use Rattle.aria_top.specs.Payload.{bytes_of_pieces};
 ghost use Rattle.aria_top.specs.Run.{error_line, first_gid, stat_of, rest_of_summary, summary, Told};
@@ -99,7 +99,7 @@ pub fn report_progress<O: Sink>(
     progress: &Progress,
     out: &mut O,
 ) -> u8
-    requires { IfSome progress.now.failure IsKnown }
+    requires { IfSome progress.now.failure IsKnownFailure }
     ensures status { (result ≡ work_status progress.now.failure) ⊎ (result ≡ 40) ⊎ (result ≡ 41) }
     ensures sink { result ≡ 41 → Rose (O.faults out.old) (O.faults out.new) }
     ensures told { result ≡ work_status progress.now.failure → result ≢ 40 → IsTrue O.tells

@@ -7,7 +7,7 @@ ghost use Rattle.metainfo.specs.Info.{Info, info_of};
 ghost use Rattle.payload_files.specs.Changes.{KeepsOthers};
 ghost use Rattle.payload_files.specs.Names.{HasFolders};
 ghost use Rattle.aria_top.specs.Metainfo.{Says};
-ghost use Rattle.aria_top.specs.Payload.{IsFetchable, Stands};
+ghost use Rattle.aria_top.specs.Payload.{IsFetchable, PayloadStands};
 ghost use Rattle.aria_top.specs.Run.{IsEnd, IsStatus, IsToFetch, TellsMetainfo, TellsWork, CountsRight, Summarized, Told, IsAbsent, KeepsStreams, error_line, gained, at_first};
 ghost use Rattle.aria_top.specs.Serving.{Serves};
 ghost use Rattle.aria_top.specs.Words.{file_named};
@@ -48,7 +48,7 @@ fn fetch_and_report<D: Disk, L: Links, O: Sink>(
     ensures streams { IsTrue L.tells → KeepsStreams (L.streams link.old) (L.streams link.new) }
     ensures served { IsTrue L.tells → Serves (L.content link.old) (info_of meta.now)
         → (result ≡ 0) ⊎ (result ≡ 40) ⊎ Rose (D.faults disk.old) (D.faults disk.new) ⊎ Rose (L.faults link.old) (L.faults link.new) ⊎ Rose (O.faults out.old) (O.faults out.new) }
-    ensures done { result ≡ 0 → IsTrue D.tells → Stands (info_of meta.now) (D.seen disk.new) (D.may_leave disk.new) }
+    ensures done { result ≡ 0 → IsTrue D.tells → PayloadStands (info_of meta.now) (D.seen disk.new) (D.may_leave disk.new) }
     ensures folders { result ≡ 0 → IsTrue D.tells → HasFolders meta.now.layout (D.folders disk.new) }
     ensures others { IsTrue D.tells → KeepsOthers meta.now.layout (D.seen disk.old) (D.seen disk.new) (D.may_leave disk.old) (D.may_leave disk.new) }
     ensures disk { result ≡ 17 → Rose (D.faults disk.old) (D.faults disk.new) }
@@ -84,7 +84,7 @@ fn run_named<D: Disk, L: Links, O: Sink>(
     ensures served { IsTrue D.tells → IsTrue L.tells → (info : Info) → Says (D.seen disk.old name.now) info → Serves (L.content link.old) info
         → (result ≡ 0) ⊎ (result ≡ 40) ⊎ Rose (D.faults disk.old) (D.faults disk.new) ⊎ Rose (L.faults link.old) (L.faults link.new) ⊎ Rose (O.faults out.old) (O.faults out.new) }
     ensures done { result ≡ 0 → IsTrue D.tells → (info : Info) → Says (D.seen disk.old name.now) info
-        → Stands info (D.seen disk.new) (D.may_leave disk.new) }
+        → PayloadStands info (D.seen disk.new) (D.may_leave disk.new) }
     ensures folders { result ≡ 0 → IsTrue D.tells → (info : Info) → Says (D.seen disk.old name.now) info
         → HasFolders info.files (D.folders disk.new) }
     ensures others { IsTrue D.tells → (info : Info) → Says (D.seen disk.old name.now) info
@@ -156,7 +156,7 @@ pub fn run<D: Disk, L: Links, O: Sink>(
 
     // The payload, and what else is on the disk.
     ensures done { result.status ≡ 0 → IsTrue D.tells → (info : Info) → IsToFetch words.now (D.seen disk) info
-        → Stands info (D.seen result.disk) (D.may_leave result.disk) }
+        → PayloadStands info (D.seen result.disk) (D.may_leave result.disk) }
     ensures folders { result.status ≡ 0 → IsTrue D.tells → (info : Info) → IsToFetch words.now (D.seen disk) info
         → HasFolders info.files (D.folders result.disk) }
     ensures others { IsTrue D.tells → (info : Info) → IsToFetch words.now (D.seen disk) info

@@ -7,9 +7,9 @@ ghost use Rattle.payload_files.specs.Changes.{KeepsOthers};
 ghost use Rattle.payload_files.specs.Names.{HasFolders};
 ghost use Rattle.payload_files.specs.Payload.{HasFiles};
 ghost use Rattle.aria_top.specs.Askings.{piece_count, size_of, digest_of};
-ghost use Rattle.aria_top.specs.Payload.{IsFetchable, PiecesStand, Stands, AreWritten};
+ghost use Rattle.aria_top.specs.Payload.{IsFetchable, PiecesStand, PayloadStands, AreWritten};
 ghost use Rattle.aria_top.specs.Serving.{GivesPiece, Serves, KeepsContent, IsOfOutside};
-ghost use Rattle.aria_top.specs.Ends.{IsOfDisk, IsKnown, IsLinkFailure};
+ghost use Rattle.aria_top.specs.Ends.{IsOfDisk, IsKnownFailure, IsLinkFailure};
 ghost use Rattle.aria_top.specs.Worked.{PieceEnds, WorkEnds};
 ghost use Rattle.aria_top.specs.declared.ends.Failure.TheVariants.{Disk};
 
@@ -49,7 +49,7 @@ fn fetch_right<L: Links>(
     ensures served { IsTrue L.tells → GivesPiece (L.content link.old) (info_of meta.now) piece → IfErr result IsOfOutside }
     ensures serving { IsTrue L.tells → KeepsContent (L.content link.old) (L.content link.new) }
     ensures disk { IsErrOf result Disk → ⊥ }
-    ensures known { IfErr result IsKnown }
+    ensures known { IfErr result IsKnownFailure }
     ensures link { IfErr result (λ failure. IsLinkFailure failure → Rose (L.faults link.old) (L.faults link.new)) }
     ensures later { L.faults link.old ≤ L.faults link.new }
 {
@@ -76,7 +76,7 @@ fn complete_piece<D: Disk, L: Links>(
     ensures ends { IsTrue L.tells → PieceEnds (info_of meta.now) piece (L.streams link.old) (L.streams link.new) result }
     ensures served { IsTrue L.tells → GivesPiece (L.content link.old) (info_of meta.now) piece → IfErr result IsOfOutside }
     ensures serving { IsTrue L.tells → KeepsContent (L.content link.old) (L.content link.new) }
-    ensures known { IfErr result IsKnown }
+    ensures known { IfErr result IsKnownFailure }
     ensures link { IfErr result (λ failure. IsLinkFailure failure → Rose (L.faults link.old) (L.faults link.new)) }
     ensures later { L.faults link.old ≤ L.faults link.new }
     ensures written { OnOk result (IsTrue D.tells → PiecesStand (info_of meta.now) (D.seen disk.old) piece → PiecesStand (info_of meta.now) (D.seen disk.new) (piece + 1)) }
@@ -115,7 +115,7 @@ fn complete_pieces<D: Disk, L: Links>(
     requires lengths { IsTrue D.tells → HasFiles meta.now.layout (D.seen disk.old) }
     ensures ends { IsTrue L.tells → WorkEnds (info_of meta.now) (L.streams link.old) (L.streams link.new) result.pieces result.failure }
     ensures served { IsTrue L.tells → Serves (L.content link.old) (info_of meta.now) → IfSome result.failure IsOfOutside }
-    ensures known { IfSome result.failure IsKnown }
+    ensures known { IfSome result.failure IsKnownFailure }
     ensures link { IfSome result.failure (λ failure. IsLinkFailure failure → Rose (L.faults link.old) (L.faults link.new)) }
     ensures stand { IsTrue D.tells → PiecesStand (info_of meta.now) (D.seen disk.new) result.pieces }
     ensures all { result.failure ≡ None → result.pieces ≡ piece_count (info_of meta.now) }
@@ -142,7 +142,7 @@ fn make_last<D: Disk>(alloc: Global, disk: &mut D, meta: &Meta) -> Progress
     requires { IsTrue D.tells → PiecesStand (info_of meta.now) (D.seen disk.old) meta.now.plan.pieces }
     ensures pieces { result.pieces ≡ piece_count (info_of meta.now) }
     ensures stand { IsTrue D.tells → PiecesStand (info_of meta.now) (D.seen disk.new) result.pieces }
-    ensures lasts { result.failure ≡ None → IsTrue D.tells → Stands (info_of meta.now) (D.seen disk.new) (D.may_leave disk.new) }
+    ensures lasts { result.failure ≡ None → IsTrue D.tells → PayloadStands (info_of meta.now) (D.seen disk.new) (D.may_leave disk.new) }
     ensures others { IsTrue D.tells → KeepsOthers meta.now.layout (D.seen disk.old) (D.seen disk.new) (D.may_leave disk.old) (D.may_leave disk.new) }
     ensures folders { IsTrue D.tells → D.folders disk.new ≡ D.folders disk.old }
     ensures causes { IfSome result.failure IsOfDisk }
@@ -166,11 +166,11 @@ fn complete<D: Disk, L: Links>(alloc: Global, disk: &mut D, link: &mut L, meta: 
     requires lengths { IsTrue D.tells → HasFiles meta.now.layout (D.seen disk.old) }
     ensures ends { IsTrue L.tells → WorkEnds (info_of meta.now) (L.streams link.old) (L.streams link.new) result.pieces result.failure }
     ensures served { IsTrue L.tells → Serves (L.content link.old) (info_of meta.now) → IfSome result.failure IsOfOutside }
-    ensures known { IfSome result.failure IsKnown }
+    ensures known { IfSome result.failure IsKnownFailure }
     ensures link { IfSome result.failure (λ failure. IsLinkFailure failure → Rose (L.faults link.old) (L.faults link.new)) }
     ensures stand { IsTrue D.tells → PiecesStand (info_of meta.now) (D.seen disk.new) result.pieces }
     ensures all { result.failure ≡ None → result.pieces ≡ piece_count (info_of meta.now) }
-    ensures lasts { result.failure ≡ None → IsTrue D.tells → Stands (info_of meta.now) (D.seen disk.new) (D.may_leave disk.new) }
+    ensures lasts { result.failure ≡ None → IsTrue D.tells → PayloadStands (info_of meta.now) (D.seen disk.new) (D.may_leave disk.new) }
     ensures others { IsTrue D.tells → KeepsOthers meta.now.layout (D.seen disk.old) (D.seen disk.new) (D.may_leave disk.old) (D.may_leave disk.new) }
     ensures folders { IsTrue D.tells → D.folders disk.new ≡ D.folders disk.old }
     ensures disk { result.failure ≡ Some Disk → Rose (D.faults disk.old) (D.faults disk.new) }
@@ -201,11 +201,11 @@ pub fn fetch_payload<D: Disk, L: Links>(
     requires { IsFetchable (info_of meta.now) }
     ensures ends { IsTrue L.tells → WorkEnds (info_of meta.now) (L.streams link.old) (L.streams link.new) result.pieces result.failure }
     ensures served { IsTrue L.tells → Serves (L.content link.old) (info_of meta.now) → IfSome result.failure IsOfOutside }
-    ensures known { IfSome result.failure IsKnown }
+    ensures known { IfSome result.failure IsKnownFailure }
     ensures link { IfSome result.failure (λ failure. IsLinkFailure failure → Rose (L.faults link.old) (L.faults link.new)) }
     ensures written { IsTrue D.tells → AreWritten (info_of meta.now) (D.seen disk.new) result.pieces result.failure }
     ensures all { result.failure ≡ None → result.pieces ≡ piece_count (info_of meta.now) }
-    ensures lasts { result.failure ≡ None → IsTrue D.tells → Stands (info_of meta.now) (D.seen disk.new) (D.may_leave disk.new) }
+    ensures lasts { result.failure ≡ None → IsTrue D.tells → PayloadStands (info_of meta.now) (D.seen disk.new) (D.may_leave disk.new) }
     ensures others { IsTrue D.tells → KeepsOthers meta.now.layout (D.seen disk.old) (D.seen disk.new) (D.may_leave disk.old) (D.may_leave disk.new) }
     ensures folders { result.failure ≡ None → IsTrue D.tells → HasFolders meta.now.layout (D.folders disk.new) }
     ensures disk { result.failure ≡ Some Disk → Rose (D.faults disk.old) (D.faults disk.new) }

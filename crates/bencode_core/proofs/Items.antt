@@ -6,7 +6,7 @@ use Rattle.std.proofs.lemmas.List.{length-append, length-drop, length_push}
 use Rattle.bencode_core.specs.Value.{Value, Values, list, no_values, value, spelling, spellings}
 use Rattle.bencode_core.specs.Placed.{Placed, placed_values}
 use Rattle.bencode_core.specs.Node.{values_in, IsBen}
-use Rattle.bencode_core.specs.Reading.{◌>>=◌, begins, values_by, list_value, told}
+use Rattle.bencode_core.specs.Reading.{◌>>=◌, begins, values_by, list_value, fault_of}
 use Rattle.bencode_core.specs.declared.ben.Node.TheVariants as nodes
 use Rattle.bencode_core.specs.declared.fault.BenErr.{BenErr}
 use Rattle.bencode_core.proofs.Takes.{IsReader, values_take}
@@ -113,8 +113,8 @@ module _ (levels : ℕ) (one : ℕ → List ℕ → Result Value BenErr) (reads 
       }
 
   -- a fault at an item is the list's
-  pub item_failed : (items : List Placed) (next : ℕ) (rest : List ℕ) (e : BenErr) → begins 101 rest ≡ false → IfSome (told e) (λ f. one next rest ≡ Err f) → ReadsItems one place bytes items next rest → IfSome (told e) (λ f. list_value one place bytes ≡ Err f)
-  item_failed items next rest e more failed so_far = fails (told e) failed
+  pub item_failed : (items : List Placed) (next : ℕ) (rest : List ℕ) (e : BenErr) → begins 101 rest ≡ false → IfSome (fault_of e) (λ f. one next rest ≡ Err f) → ReadsItems one place bytes items next rest → IfSome (fault_of e) (λ f. list_value one place bytes ≡ Err f)
+  item_failed items next rest e more failed so_far = fails (fault_of e) failed
     where
       fails : (o : Option BenErr) → IfSome o (λ f. one next rest ≡ Err f) → IfSome o (λ f. list_value one place bytes ≡ Err f)
       fails None failed = tt

@@ -11,7 +11,7 @@ use Rattle.std.proofs.lemmas.List.Sums.{take_while-cons}
 use Rattle.std.proofs.lemmas.Fmt.{decimal_is_IsNumeral, decimal-digits_value, first_decimal, decimal_digit}
 use Rattle.std.proofs.lemmas.Str.Parse.{numerals_by_value, tells_digits}
 use Rattle.dl_words.specs.Decimal.{BeginsWithDigit}
-use Rattle.bencode_core.specs.Reading.{begins, digits_at, number_of, number_at}
+use Rattle.bencode_core.specs.Reading.{begins, digits_at, canonical_number, number_at}
 
 -- ---- digits
 
@@ -45,12 +45,12 @@ split_digits (b ∷ bytes) =
 -- ---- numbers
 
 -- digits with no leading zero but 0 itself, and their number
-number_of_text : (ds : List ℕ) → 0 < length ds → (2 ≤ length ds → get_or ds 0 0 ≢ 48) → number_of ds ≡ Some (digits_value 10 ds)
+number_of_text : (ds : List ℕ) → 0 < length ds → (2 ≤ length ds → get_or ds 0 0 ≢ 48) → canonical_number ds ≡ Some (digits_value 10 ds)
 number_of_text [] some first = absurd (omega arith)
 number_of_text (d ∷ []) some first = refl
 number_of_text (d ∷ e ∷ ds) some first = rw (ne_eqb d 48 (first (omega arith))) refl
 
-number_of_decimal : (n : ℕ) → n < 2 ^ 64 → number_of (decimal n) ≡ Some n
+number_of_decimal : (n : ℕ) → n < 2 ^ 64 → canonical_number (decimal n) ≡ Some n
 number_of_decimal n fits =
     let is = decimal_is_IsNumeral n fits in
     number_of_text (decimal n) is.0.0 (λ long zero_first.
@@ -70,7 +70,7 @@ from_value ds n are some first is fits =
 pub some_is : {A : Type 0} (x y : A) → Some x ≡ Some y → x ≡ y
 some_is x y e = cc
 
-decimal_of_number : (ds : List ℕ) (n : ℕ) → AllDigits 10 ds → number_of ds ≡ Some n → n < 2 ^ 64 → decimal n ≡ ds
+decimal_of_number : (ds : List ℕ) (n : ℕ) → AllDigits 10 ds → canonical_number ds ≡ Some n → n < 2 ^ 64 → decimal n ≡ ds
 decimal_of_number [] n are is fits = absurd cc
 decimal_of_number (d ∷ []) n are is fits = from_value (d ∷ []) n are (omega arith) (λ zero_first. refl) (some_is _ _ is) fits
 decimal_of_number (d ∷ e ∷ ds) n are is fits =
@@ -97,8 +97,8 @@ pub number_takes : (end : ℕ) (bytes : List ℕ) (n : ℕ) (rest : List ℕ) �
 unfolding number_at
 number_takes end bytes n rest is fits =
     let behind = drop (length (digits_at bytes)) bytes in
-    let g = guarded (begins end behind) (option_map (λ k. (k, drop 1 behind)) (number_of (digits_at bytes))) (n, rest) is in
-    let m = mapped (λ (k : ℕ). (k, drop 1 behind)) (number_of (digits_at bytes)) (n, rest) g.1 in
+    let g = guarded (begins end behind) (option_map (λ k. (k, drop 1 behind)) (canonical_number (digits_at bytes))) (n, rest) is in
+    let m = mapped (λ (k : ℕ). (k, drop 1 behind)) (canonical_number (digits_at bytes)) (n, rest) g.1 in
     let number : m.0 ≡ n = ap (λ (p : ℕ × List ℕ). p.0) m.2 in
     let rest_is : drop 1 behind ≡ rest = ap (λ (p : ℕ × List ℕ). p.1) m.2 in
     let digits : decimal n ≡ digits_at bytes = decimal_of_number (digits_at bytes) n (digits_are bytes) (m.1 ∙ ap Some number) fits in
@@ -115,8 +115,8 @@ pub number_rest : (end : ℕ) (bytes : List ℕ) (n : ℕ) (rest : List ℕ) →
 unfolding number_at
 number_rest end bytes n rest is =
     let behind = drop (length (digits_at bytes)) bytes in
-    let g = guarded (begins end behind) (option_map (λ k. (k, drop 1 behind)) (number_of (digits_at bytes))) (n, rest) is in
-    let m = mapped (λ (k : ℕ). (k, drop 1 behind)) (number_of (digits_at bytes)) (n, rest) g.1 in
+    let g = guarded (begins end behind) (option_map (λ k. (k, drop 1 behind)) (canonical_number (digits_at bytes))) (n, rest) is in
+    let m = mapped (λ (k : ℕ). (k, drop 1 behind)) (canonical_number (digits_at bytes)) (n, rest) g.1 in
     let rest_is : drop 1 behind ≡ rest = ap (λ (p : ℕ × List ℕ). p.1) m.2 in
     rw (← rest_is) (omega (arith, length-drop 1 behind, length-drop (length (digits_at bytes)) bytes))
 

@@ -6,7 +6,7 @@ use Rattle.std.proofs.lemmas.List.{length-append, length-drop, length_push, map_
 use Rattle.bencode_core.specs.Value.{Value, Members, dict, no_members, member, spelling, string_spelling, member_spellings}
 use Rattle.bencode_core.specs.Placed.{Placed, placed_members}
 use Rattle.bencode_core.specs.Node.{members_in, pairs_of, last_key, IsBen}
-use Rattle.bencode_core.specs.Reading.{◌>>=◌, begins, member_by, member_spelling, members_by, dict_value, told}
+use Rattle.bencode_core.specs.Reading.{◌>>=◌, begins, member_by, member_spelling, members_by, dict_value, fault_of}
 use Rattle.bencode_core.specs.declared.ben.Member.{Member}
 use Rattle.bencode_core.specs.declared.ben.Node.TheVariants as nodes
 use Rattle.bencode_core.specs.declared.fault.BenErr.{BenErr}
@@ -134,8 +134,8 @@ module _ (levels : ℕ) (one : ℕ → List ℕ → Result Value BenErr) (reads 
       }
 
   -- a fault at a member is the dictionary's
-  pub member_failed : (ms : List Member) (next : ℕ) (rest : List ℕ) (e : BenErr) → begins 101 rest ≡ false → IfSome (told e) (λ f. member_by one (last_key ms) next rest ≡ Err f) → ReadsMembers one place bytes ms next rest → IfSome (told e) (λ f. dict_value one place bytes ≡ Err f)
-  member_failed ms next rest e more failed so_far = fails (told e) failed
+  pub member_failed : (ms : List Member) (next : ℕ) (rest : List ℕ) (e : BenErr) → begins 101 rest ≡ false → IfSome (fault_of e) (λ f. member_by one (last_key ms) next rest ≡ Err f) → ReadsMembers one place bytes ms next rest → IfSome (fault_of e) (λ f. dict_value one place bytes ≡ Err f)
+  member_failed ms next rest e more failed so_far = fails (fault_of e) failed
     where
       fails : (o : Option BenErr) → IfSome o (λ f. member_by one (last_key ms) next rest ≡ Err f) → IfSome o (λ f. dict_value one place bytes ≡ Err f)
       fails None failed = tt

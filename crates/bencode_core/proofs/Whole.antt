@@ -6,7 +6,7 @@ use Rattle.std.proofs.lemmas.List.{append-nil, append_cancel_left, length-append
 use Rattle.dl_words.specs.Answers.{Gives}
 use Rattle.bencode_core.specs.Value.{Value, spelling, Spells}
 use Rattle.bencode_core.specs.Placed.{Placed}
-use Rattle.bencode_core.specs.Reading.{value_at, reading, told}
+use Rattle.bencode_core.specs.Reading.{value_at, reading, fault_of}
 use Rattle.bencode_core.specs.declared.fault.BenErr.{BenErr}
 use Rattle.bencode_core.specs.declared.fault.BenErr.TheVariants.{Trailing}
 use Rattle.bencode_core.proofs.Takes.{bind_ok, ok_is, test_ok, Takes, value_takes}
@@ -35,7 +35,7 @@ reading_again bytes v spells =
     let all : value_at 100 0 bytes ≡ Ok v = rw spells.spelled (ap (value_at 100 0) (sym (append-nil (spelling v))) ∙ value_again v 100 0 [] value.sound value.depth (omega (arith, value.short))) in
     rw (all, eq-eqb (length (spelling v)) (length bytes) (sym (ap length spells.spelled))) refl
 
-pub is_found : (bytes : List ℕ) (r : Result Placed BenErr) → length bytes < 2 ^ 32 → Gives (λ b. b.value) told r (reading bytes) → IfOk r (λ b. Spells b.value bytes)
+pub is_found : (bytes : List ℕ) (r : Result Placed BenErr) → length bytes < 2 ^ 32 → Gives (λ b. b.value) fault_of r (reading bytes) → IfOk r (λ b. Spells b.value bytes)
 is_found bytes (Ok b) fits given = reading_takes bytes b.value fits given
 is_found bytes (Err e) fits given = tt
 

@@ -34,16 +34,16 @@ abbrev pub digits_at : List ℕ → List ℕ
 digits_at bytes = take_while is_ascii_digit bytes
 
 -- the number that digits write, without a leading zero but 0 itself
-abbrev pub number_of : List ℕ → Option ℕ
-number_of [] = None
-number_of (d ∷ []) = Some (digits_value 10 (d ∷ []))
-number_of (d ∷ e ∷ ds) = if d == 48 then None else Some (digits_value 10 (d ∷ e ∷ ds))
+abbrev pub canonical_number : List ℕ → Option ℕ
+canonical_number [] = None
+canonical_number (d ∷ []) = Some (digits_value 10 (d ∷ []))
+canonical_number (d ∷ e ∷ ds) = if d == 48 then None else Some (digits_value 10 (d ∷ e ∷ ds))
 
 -- a number and the byte that ends it, and the bytes behind that
 unfoldable pub number_at : ℕ → List ℕ → Option (ℕ × List ℕ)
 number_at end bytes =
     let behind = drop (length (digits_at bytes)) bytes in
-    if begins end behind then option_map (λ n. (n, drop 1 behind)) (number_of (digits_at bytes)) else None
+    if begins end behind then option_map (λ n. (n, drop 1 behind)) (canonical_number (digits_at bytes)) else None
 
 -- the integer at the front, of any size, and the bytes behind it
 unfoldable pub integer_at : List ℕ → Option (ℤ × List ℕ)
@@ -160,6 +160,6 @@ reading bytes = do
   if length (spelling v) == length bytes then Ok v else Err (Trailing (length (spelling v)))
 
 -- what an error tells: want of memory tells nothing
-abbrev pub told : BenErr → Option BenErr
-told NoMemory = None
-told e = Some e
+abbrev pub fault_of : BenErr → Option BenErr
+fault_of NoMemory = None
+fault_of e = Some e

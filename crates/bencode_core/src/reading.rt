@@ -43,7 +43,7 @@ fn is_spelled(bytes: &[u8]) -> bool
 #[tactic(auto, unfolding(crate::specs::Reading::integer_value))]
 fn integer_value(place: u32, bytes: &[u8]) -> Result<Ben, BenErr>
     requires { place + length bytes.now < 2 ^ 32 }
-    ensures exact { Gives (λ b. b.value) specs.told result (specs.integer_value place bytes.now) }
+    ensures exact { Gives (λ b. b.value) specs.fault_of result (specs.integer_value place bytes.now) }
     ensures place { IfOk result (λ b. b.place ≡ place) }
 {
     let Some((narrowed, rest)) = integer_at(bytes) else {
@@ -63,7 +63,7 @@ fn integer_value(place: u32, bytes: &[u8]) -> Result<Ben, BenErr>
 #[tactic(auto, unfolding(crate::specs::Reading::string_value))]
 fn string_value(alloc: Global, place: u32, bytes: &[u8]) -> Result<Ben, BenErr>
     requires { place + length bytes.now < 2 ^ 32 }
-    ensures exact { Gives (λ b. b.value) specs.told result (specs.string_value place bytes.now) }
+    ensures exact { Gives (λ b. b.value) specs.fault_of result (specs.string_value place bytes.now) }
     ensures place { IfOk result (λ b. b.place ≡ place) }
 {
     let Some((text, rest)) = string_at(bytes) else {
@@ -85,7 +85,7 @@ fn key_at<'a>(
     bytes: &'a [u8],
 ) -> Result<(&'a [u8], &'a [u8]), BenErr>
     requires { length bytes.now < 2 ^ 32 }
-    ensures exact { Gives (λ k. k.0.now) specs.told result (specs.key_at (option_map (λ k. k.now) before.entry) place bytes.now) }
+    ensures exact { Gives (λ k. k.0.now) specs.fault_of result (specs.key_at (option_map (λ k. k.now) before.entry) place bytes.now) }
     ensures rest { IfOk result (λ k. bytes.now ≡ string_spelling k.0.now ++ k.1.now) }
 {
     let Some((key, rest)) = string_at(bytes) else {
@@ -116,7 +116,7 @@ fn last_key(members: &[Member]) -> Option<&[u8]>
 fn value_at(alloc: Global, levels: u32, place: u32, bytes: &[u8]) -> Result<Ben, BenErr>
     requires deep { levels ≤ 100 }
     requires fits { place + length bytes.now < 2 ^ 32 }
-    ensures exact { Gives (λ b. b.value) specs.told result (specs.value_at levels place bytes.now) }
+    ensures exact { Gives (λ b. b.value) specs.fault_of result (specs.value_at levels place bytes.now) }
     ensures place { IfOk result (λ b. b.place ≡ place) }
 {
     if levels == 0 {
@@ -139,7 +139,7 @@ fn list_value(alloc: Global, levels: u32, place: u32, bytes: &[u8]) -> Result<Be
     requires deep { levels < 100 }
     requires fits { place + length bytes.now < 2 ^ 32 }
     requires opened { 0 < length bytes.now }
-    ensures exact { Gives (λ b. b.value) specs.told result (specs.list_value (specs.value_at levels) place bytes.now) }
+    ensures exact { Gives (λ b. b.value) specs.fault_of result (specs.list_value (specs.value_at levels) place bytes.now) }
     ensures place { IfOk result (λ b. b.place ≡ place) }
 {
     let mut items = Vec::new(alloc);
@@ -170,7 +170,7 @@ fn member_at(
 ) -> Result<Member, BenErr>
     requires deep { levels < 100 }
     requires fits { place + length bytes.now < 2 ^ 32 }
-    ensures exact { Gives {X = Member} (λ m. (m.key.items, m.value.value)) specs.told result (specs.member_by (specs.value_at levels) (option_map (λ k. k.now) before.entry) place bytes.now) }
+    ensures exact { Gives {X = Member} (λ m. (m.key.items, m.value.value)) specs.fault_of result (specs.member_by (specs.value_at levels) (option_map (λ k. k.now) before.entry) place bytes.now) }
     ensures place { IfOk result (λ m. m.value.place ≡ place + length (string_spelling m.key.items)) }
 {
     let (key, rest) = key_at(before, place, bytes)?;
@@ -187,7 +187,7 @@ fn dict_value(alloc: Global, levels: u32, place: u32, bytes: &[u8]) -> Result<Be
     requires deep { levels < 100 }
     requires fits { place + length bytes.now < 2 ^ 32 }
     requires opened { 0 < length bytes.now }
-    ensures exact { Gives (λ b. b.value) specs.told result (specs.dict_value (specs.value_at levels) place bytes.now) }
+    ensures exact { Gives (λ b. b.value) specs.fault_of result (specs.dict_value (specs.value_at levels) place bytes.now) }
     ensures place { IfOk result (λ b. b.place ≡ place) }
 {
     let mut members = Vec::new(alloc);
@@ -211,7 +211,7 @@ fn dict_value(alloc: Global, levels: u32, place: u32, bytes: &[u8]) -> Result<Be
 #[tactic(auto, unfolding(crate::specs::Reading::reading))]
 fn whole(alloc: Global, bytes: &[u8]) -> Result<Ben, BenErr>
     requires { length bytes.now < 2 ^ 32 }
-    ensures exact { Gives (λ b. b.value) specs.told result (specs.reading bytes.now) }
+    ensures exact { Gives (λ b. b.value) specs.fault_of result (specs.reading bytes.now) }
     ensures place { IfOk result (λ b. b.place ≡ 0) }
 {
     let value = value_at(alloc, LEVELS, 0, bytes)?;
@@ -235,9 +235,9 @@ impl Ben {
         ensures found { IfOk result (λ b. Spells b.value bytes.now) }
         ensures place { IfOk result (λ b. b.place ≡ 0) }
         // What the bytes spell is read, unless memory runs out.
-        ensures only { (v : Value) → Spells v bytes.now → Gives (λ b. b.value) specs.told result (Ok v) }
+        ensures only { (v : Value) → Spells v bytes.now → Gives (λ b. b.value) specs.fault_of result (Ok v) }
         // Which value or fault it is.
-        ensures exact { Gives (λ b. b.value) specs.told result (specs.reading bytes.now) }
+        ensures exact { Gives (λ b. b.value) specs.fault_of result (specs.reading bytes.now) }
     {
         whole(alloc, bytes)
     }

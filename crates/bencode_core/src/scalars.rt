@@ -22,7 +22,7 @@ fn digits_len(bytes: &[u8]) -> usize
 /// The number that digits write without a leading zero. One from 2^64 on is told as the greatest of 64 bits.
 fn number_of(digits: &[u8]) -> Option<u64>
     requires { AllDigits 10 digits.now }
-    ensures { result ≡ option_map (λ n. min n (2 ^ 64 - 1)) (specs.number_of digits.now) }
+    ensures { result ≡ option_map (λ n. min n (2 ^ 64 - 1)) (specs.canonical_number digits.now) }
 {
     if digits.is_empty() || digits.len() > 1 && begins(b'0', digits) {
         return None;

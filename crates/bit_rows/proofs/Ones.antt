@@ -8,7 +8,7 @@ use Rattle.std.proofs.lemmas.List.FromFn.{length-range_with_len, get_or-range_wi
 use Rattle.std.proofs.lemmas.List.Sums.{sum_by-append, sum_by-set, count_by-le-length, AllPass-from_list_all}
 use Rattle.std.specs.Int.Count.{ones, ones_in}
 use Rattle.std.specs.List.{list_all, range_with_len}
-use Rattle.bit_rows.specs.Row.{bits_of_byte, bits_of, number_of}
+use Rattle.bit_rows.specs.Row.{bits_of_byte, bits_of, bits_number}
 use Rattle.bit_rows.proofs.Places.{bits_of-append}
 
 abbrev pub ones_of : List Bool → ℕ
@@ -34,13 +34,13 @@ ones_of_byte byte below = sym (eqb-true (count_ones byte) (ones_of (bits_of_byte
 
 -- a byte is the number that its bits write
 abbrev is_number : ℕ → Bool
-is_number byte = eqb (number_of (bits_of_byte byte)) byte
+is_number byte = eqb (bits_number (bits_of_byte byte)) byte
 
 all_numbers : list_all is_number (range_with_len 0 256) ≡ true
 all_numbers = refl
 
-pub number_of_byte : (byte : ℕ) → byte < 256 → number_of (bits_of_byte byte) ≡ byte
-number_of_byte byte below = eqb-true (number_of (bits_of_byte byte)) byte (at_byte is_number all_numbers byte below)
+pub number_of_byte : (byte : ℕ) → byte < 256 → bits_number (bits_of_byte byte) ≡ byte
+number_of_byte byte below = eqb-true (bits_number (bits_of_byte byte)) byte (at_byte is_number all_numbers byte below)
 
 -- the bits of one more byte
 pub ones_more : (bytes : List ℕ) (i : ℕ) → i < length bytes → get_or bytes i 0 < 256

@@ -6,17 +6,17 @@ use Rattle.std.proofs.lemmas.Option.{slice_get-get_or, slice_get_within, get_or_
 use Rattle.std.proofs.lemmas.Bool.{false≢true}
 use Rattle.std.proofs.lemmas.Nat.Bits.{bit_at-zero, bit_at_ones}
 use Rattle.std.specs.Int.{bit_at}
-use Rattle.bit_rows.specs.Kept.{IsKept}
-use Rattle.bit_rows.specs.Row.{bits_of_byte, bits_of, bytes_for, bytes_of, filled, number_of, row_of, spare_of}
+use Rattle.bit_rows.specs.Kept.{KeepsRow}
+use Rattle.bit_rows.specs.Row.{bits_of_byte, bits_of, bytes_for, row_bytes, padded, bits_number, row_of, spare_bits}
 use Rattle.bit_rows.proofs.Ones.{number_of_byte, ones_of, ones-set_true, ones-set_false, ones-replicate, ones-append, ones-le}
 use Rattle.bit_rows.proofs.Places.{length-bits_of, bit_at_place}
 
 -- ---- bits behind a row
 
-pub found_set : (bytes : List ℕ) (from at : ℕ) → from ≤ at → slice_get (bits_of bytes) at ≡ Some true → Contains (spare_of from bytes) true
+pub found_set : (bytes : List ℕ) (from at : ℕ) → from ≤ at → slice_get (bits_of bytes) at ≡ Some true → Contains (spare_bits from bytes) true
 found_set bytes from at later is =
     let within : at < length (bits_of bytes) = slice_get_within (bits_of bytes) at true is in
-    let short : length (spare_of from bytes) ≡ length (bits_of bytes) - from = length-drop from (bits_of bytes) in
+    let short : length (spare_bits from bytes) ≡ length (bits_of bytes) - from = length-drop from (bits_of bytes) in
     let place : from + (at - from) ≡ at = omega arith in (
       at - from,
       omega arith,
@@ -24,9 +24,9 @@ found_set bytes from at later is =
     )
 
 pub none_set : (bytes : List ℕ) (from : ℕ) → ((place : ℕ) → from ≤ place → place < 8 * length bytes → slice_get (bits_of bytes) place ≢ Some true)
-    → Contains (spare_of from bytes) true → ⊥
+    → Contains (spare_bits from bytes) true → ⊥
 none_set bytes from absent (k, within, is) =
-    let short : length (spare_of from bytes) ≡ length (bits_of bytes) - from = length-drop from (bits_of bytes) in
+    let short : length (spare_bits from bytes) ≡ length (bits_of bytes) - from = length-drop from (bits_of bytes) in
     let all = length-bits_of bytes in
     let inside : from + k < length (bits_of bytes) = omega arith in
     absent (from + k) (omega arith) (omega arith)
@@ -56,10 +56,10 @@ all_false row none =
 pub length-row_of : (bytes : List ℕ) (len : ℕ) → length bytes ≡ bytes_for len → length (row_of len bytes) ≡ len
 length-row_of bytes len fits = length-take len (bits_of bytes) ∙ omega (arith, length-bits_of bytes, fits)
 
-pub spare_from_none : (bytes : List ℕ) (len : ℕ) → (Contains (spare_of len bytes) true → ⊥) → spare_of len bytes ≡ replicate (8 * length bytes - len) false
+pub spare_from_none : (bytes : List ℕ) (len : ℕ) → (Contains (spare_bits len bytes) true → ⊥) → spare_bits len bytes ≡ replicate (8 * length bytes - len) false
 spare_from_none bytes len none =
-    let short : length (spare_of len bytes) ≡ 8 * length bytes - len = length-drop len (bits_of bytes) ∙ omega (arith, length-bits_of bytes) in
-    all_false (spare_of len bytes) none ∙ ap (λ n. replicate n false) short
+    let short : length (spare_bits len bytes) ≡ 8 * length bytes - len = length-drop len (bits_of bytes) ∙ omega (arith, length-bits_of bytes) in
+    all_false (spare_bits len bytes) none ∙ ap (λ n. replicate n false) short
 
 -- eight bits of bytes are those of a byte
 eight : (bytes : List ℕ) (k : ℕ) → k < length bytes → take 8 (drop (8 * k) (bits_of bytes)) ≡ bits_of_byte (get_or bytes k 0)
@@ -71,23 +71,23 @@ eight (b ∷ bs) (suc k) within =
     ∙ ap (take 8) (sym (drop-drop (8 * k) 8 (bits_of (b ∷ bs)))) ∙ eight bs k (omega arith)
 
 -- the row that the bytes begin with, filled up with 0 bits, has these bytes
-pub packed : (bytes : List ℕ) (len : ℕ) → length bytes ≡ bytes_for len → spare_of len bytes ≡ replicate (8 * length bytes - len) false
-    → ((i : ℕ) → get_or bytes i 0 < 256) → bytes_of (row_of len bytes) ≡ bytes
+pub packed : (bytes : List ℕ) (len : ℕ) → length bytes ≡ bytes_for len → spare_bits len bytes ≡ replicate (8 * length bytes - len) false
+    → ((i : ℕ) → get_or bytes i 0 < 256) → row_bytes (row_of len bytes) ≡ bytes
 packed bytes len fits clear small =
     let row = row_of len bytes in
     let long : length row ≡ len = length-row_of bytes len fits in
     let many : length bytes ≡ bytes_for (length row) = fits ∙ ap bytes_for (sym long) in
-    let bits : bits_of bytes ≡ filled row =
+    let bits : bits_of bytes ≡ padded row =
     sym (take-append-drop len (bits_of bytes)) ∙ ap (λ xs. row ++ xs) (clear ∙ ap (λ n. replicate n false) (omega arith)) in
-    sym (fill_by_all (λ at. number_of (take 8 (drop (8 * at) (filled row)))) bytes (bytes_for (length row)) 0 many
+    sym (fill_by_all (λ at. bits_number (take 8 (drop (8 * at) (padded row)))) bytes (bytes_for (length row)) 0 many
     (λ k below.
-    sym (ap (λ xs. number_of (take 8 (drop (8 * k) xs))) (sym bits) ∙ ap number_of (eight bytes k (omega arith)) ∙ number_of_byte (get_or bytes k 0) (small k))))
+    sym (ap (λ xs. bits_number (take 8 (drop (8 * k) xs))) (sym bits) ∙ ap bits_number (eight bytes k (omega arith)) ∙ number_of_byte (get_or bytes k 0) (small k))))
 
 -- no more bits are true than the row has places
-pub few_set : (bytes : List ℕ) (len : ℕ) → length bytes ≡ bytes_for len → spare_of len bytes ≡ replicate (8 * length bytes - len) false
+pub few_set : (bytes : List ℕ) (len : ℕ) → length bytes ≡ bytes_for len → spare_bits len bytes ≡ replicate (8 * length bytes - len) false
     → (ones_of (bits_of bytes) ≡ ones_of (row_of len bytes)) × (ones_of (row_of len bytes) ≤ len)
 few_set bytes len fits clear =
-    let parts = ap ones_of (sym (take-append-drop len (bits_of bytes))) ∙ ones-append (row_of len bytes) (spare_of len bytes) in
+    let parts = ap ones_of (sym (take-append-drop len (bits_of bytes))) ∙ ones-append (row_of len bytes) (spare_bits len bytes) in
     let none = ap ones_of clear ∙ ones-replicate (8 * length bytes - len) in
     (omega (arith, parts, none), omega (arith, ones-le (row_of len bytes), length-row_of bytes len fits))
 
@@ -96,7 +96,7 @@ zeros : (n : ℕ) → bits_of (replicate n 0) ≡ replicate (8 * n) false
 zeros zero = refl
 zeros (suc n) = ap (λ xs. replicate 8 false ++ xs) (zeros n) ∙ replicate-append-replicate 8 (8 * n) false ∙ ap (λ k. replicate k false) (omega arith)
 
-pub fresh : (len : ℕ) → IsKept (replicate (bytes_for len) 0) len 0 × (row_of len (replicate (bytes_for len) 0) ≡ replicate len false)
+pub fresh : (len : ℕ) → KeepsRow (replicate (bytes_for len) 0) len 0 × (row_of len (replicate (bytes_for len) 0) ≡ replicate len false)
 fresh len =
     let n = bytes_for len in
     let many : length (replicate {A = ℕ} n 0) ≡ n = length-replicate {A = ℕ} n 0 in
@@ -110,9 +110,9 @@ fresh len =
     )
 
 -- what a write leaves: the old bytes held a row, the new bits are the old ones but for this one
-pub kept_true : (old new : List ℕ) (len ones i : ℕ) → IsKept old len ones → i < len → get_or (row_of len old) i false ≡ false
+pub kept_true : (old new : List ℕ) (len ones i : ℕ) → KeepsRow old len ones → i < len → get_or (row_of len old) i false ≡ false
     → bits_of new ≡ set (bits_of old) i true → length new ≡ length old
-    → (ones < len) × (row_of len new ≡ set (row_of len old) i true) × IsKept new len (ones + 1)
+    → (ones < len) × (row_of len new ≡ set (row_of len old) i true) × KeepsRow new len (ones + 1)
 kept_true old new len ones i kept within was is same =
     let long : length (row_of len old) ≡ len = length-row_of old len kept.fits in
     let row : row_of len new ≡ set (row_of len old) i true = ap (take len) is ∙ take_set len i (bits_of old) true within in
@@ -128,9 +128,9 @@ kept_true old new len ones i kept within was is same =
       },
     )
 
-pub kept_false : (old new : List ℕ) (len ones i : ℕ) → IsKept old len ones → i < len → get_or (row_of len old) i false ≡ true
+pub kept_false : (old new : List ℕ) (len ones i : ℕ) → KeepsRow old len ones → i < len → get_or (row_of len old) i false ≡ true
     → bits_of new ≡ set (bits_of old) i false → length new ≡ length old
-    → (0 < ones) × (row_of len new ≡ set (row_of len old) i false) × IsKept new len (ones - 1)
+    → (0 < ones) × (row_of len new ≡ set (row_of len old) i false) × KeepsRow new len (ones - 1)
 kept_false old new len ones i kept within was is same =
     let long : length (row_of len old) ≡ len = length-row_of old len kept.fits in
     let row : row_of len new ≡ set (row_of len old) i false = ap (take len) is ∙ take_set len i (bits_of old) false within in
@@ -146,17 +146,17 @@ kept_false old new len ones i kept within was is same =
     )
 
 -- what `set` and `clear` leave: the bytes are lent, and come back with one bit changed
-pub set_true : (old lent new : List ℕ) (now : List Bool) (len ones i : ℕ) → IsKept old len ones → row_of len old ≡ now → i < length now
+pub set_true : (old lent new : List ℕ) (now : List Bool) (len ones i : ℕ) → KeepsRow old len ones → row_of len old ≡ now → i < length now
     → slice_get now i ≡ Some false → lent ≡ old → bits_of new ≡ set (bits_of lent) i true → length new ≡ length lent
-    → (length new ≡ length old) × (ones < len) × (row_of len new ≡ set now i true) × IsKept new len (ones + 1)
+    → (length new ≡ length old) × (ones < len) × (row_of len new ≡ set now i true) × KeepsRow new len (ones + 1)
 set_true old lent new now len ones i kept row within was borrowed is same =
     let long = length-row_of old len kept.fits in
     let k = kept_true old new len ones i kept (omega (arith, ap length row)) (ap (λ r. get_or r i false) row ∙ get_or_from_slice_get now i false false was) (is ∙ ap (λ bytes. set (bits_of bytes) i true) borrowed) (same ∙ ap length borrowed) in
     (same ∙ ap length borrowed, k.0, k.1 ∙ ap (λ r. set r i true) row, k.2)
 
-pub set_false : (old lent new : List ℕ) (now : List Bool) (len ones i : ℕ) → IsKept old len ones → row_of len old ≡ now → i < length now
+pub set_false : (old lent new : List ℕ) (now : List Bool) (len ones i : ℕ) → KeepsRow old len ones → row_of len old ≡ now → i < length now
     → slice_get now i ≡ Some true → lent ≡ old → bits_of new ≡ set (bits_of lent) i false → length new ≡ length lent
-    → (length new ≡ length old) × (0 < ones) × (row_of len new ≡ set now i false) × IsKept new len (ones - 1)
+    → (length new ≡ length old) × (0 < ones) × (row_of len new ≡ set now i false) × KeepsRow new len (ones - 1)
 set_false old lent new now len ones i kept row within was borrowed is same =
     let long = length-row_of old len kept.fits in
     let k = kept_false old new len ones i kept (omega (arith, ap length row)) (ap (λ r. get_or r i false) row ∙ get_or_from_slice_get now i true false was) (is ∙ ap (λ bytes. set (bits_of bytes) i false) borrowed) (same ∙ ap length borrowed) in
@@ -192,8 +192,8 @@ passed_byte bytes len at place wanted fits whole from before none is =
 
 -- ---- a row from bytes
 
-pub from_bytes_is : (bytes : List ℕ) (len : ℕ) → length bytes ≡ bytes_for len → len < 2 ^ 32 → (Contains (spare_of len bytes) true → ⊥)
-    → (ones_of (bits_of bytes) < 2 ^ 32) × IsKept bytes len (ones_of (bits_of bytes))
+pub from_bytes_is : (bytes : List ℕ) (len : ℕ) → length bytes ≡ bytes_for len → len < 2 ^ 32 → (Contains (spare_bits len bytes) true → ⊥)
+    → (ones_of (bits_of bytes) < 2 ^ 32) × KeepsRow bytes len (ones_of (bits_of bytes))
 from_bytes_is bytes len fits small none =
     let clear = spare_from_none bytes len none in
     let few = few_set bytes len fits clear in

@@ -17,21 +17,21 @@ abbrev pub row_of : ℕ → List ℕ → List Bool
 row_of n bytes = take n (bits_of bytes)
 
 -- .. and the bits behind them
-abbrev pub spare_of : ℕ → List ℕ → List Bool
-spare_of n bytes = drop n (bits_of bytes)
+abbrev pub spare_bits : ℕ → List ℕ → List Bool
+spare_bits n bytes = drop n (bits_of bytes)
 
 -- as many bytes as hold n bits
 abbrev pub bytes_for : ℕ → ℕ
 bytes_for n = div_ceil n 8
 
 -- the number that bits write in base two, the highest first
-abbrev pub number_of : List Bool → ℕ
-number_of bits = fold (λ n bit. 2 * n + (if bit then 1 else 0)) 0 bits
+abbrev pub bits_number : List Bool → ℕ
+bits_number bits = fold (λ n bit. 2 * n + (if bit then 1 else 0)) 0 bits
 
 -- the row, and 0 bits behind it up to a whole byte
-abbrev pub filled : List Bool → List Bool
-filled row = row ++ replicate (8 * bytes_for (length row) - length row) false
+abbrev pub padded : List Bool → List Bool
+padded row = row ++ replicate (8 * bytes_for (length row) - length row) false
 
 -- the bytes of a row: each is the number of eight bits
-abbrev pub bytes_of : List Bool → List ℕ
-bytes_of row = map (λ at. number_of (take 8 (drop (8 * at) (filled row)))) (range_with_len 0 (bytes_for (length row)))
+abbrev pub row_bytes : List Bool → List ℕ
+row_bytes row = map (λ at. bits_number (take 8 (drop (8 * at) (padded row)))) (range_with_len 0 (bytes_for (length row)))

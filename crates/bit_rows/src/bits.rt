@@ -1,6 +1,6 @@
 // Single bits of bytes.
 ghost use Rattle.std.specs.Prelude.{◌≡◌, ◌↔◌, ◌<◌, ◌≤◌, ◌^◌, ◌*◌, ℕ, true, false, length, Some, slice_get, slice_set, count_by, IsTrue, Contains};
-ghost use Rattle.bit_rows.specs.Row.{bits_of, spare_of};
+ghost use Rattle.bit_rows.specs.Row.{bits_of, spare_bits};
 
 /// The bit at this place of the bytes.
 pub fn bit(bytes: &[u8], at: usize) -> bool
@@ -41,7 +41,7 @@ pub fn count_set(bytes: &[u8]) -> u32
 /// Whether a bit from this place on is true.
 pub fn is_any_set(bytes: &[u8], from: usize) -> bool
     requires { length bytes.now < 2 ^ 32 }
-    ensures { IsTrue result ↔ Contains (spare_of from bytes.now) true }
+    ensures { IsTrue result ↔ Contains (spare_bits from bytes.now) true }
 {
     for at in from..8 * bytes.len() {
         if bit(bytes, at) {

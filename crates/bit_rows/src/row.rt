@@ -1,6 +1,6 @@
 // A row of truth values.
 ghost use Rattle.std.specs.Prelude.{◌≡◌, ◌≢◌, ◌↔◌, ◌==◌, ◌<◌, ◌≤◌, ◌+◌, ◌^◌, ℕ, true, false, length, Some, replicate, slice_get, slice_set, count_by, Contains, IfOk, IfSome, IfNone, IsErrOf, OnOk};
-ghost use Rattle.bit_rows.specs.Row.{bytes_for, bytes_of, row_of, spare_of};
+ghost use Rattle.bit_rows.specs.Row.{bytes_for, row_bytes, row_of, spare_bits};
 ghost use Rattle.bit_rows.specs.Runs.{IsTrueFrom, IsFirstRun};
 ghost use Rattle.bit_rows.specs.declared.row.BitErr.TheVariants.{Length, Spare, NoMemory};
 
@@ -40,13 +40,13 @@ pub struct BitRow {
 impl Model for BitRow {
     ghost use Rattle.std.specs.Prelude.{List, Bool};
     ghost use Rattle.bit_rows.specs.Row.{row_of};
-    ghost use Rattle.bit_rows.specs.Kept.{IsKept};
+    ghost use Rattle.bit_rows.specs.Kept.{KeepsRow};
 
     ghost Value = { List Bool };
 
     ghost view = { λ r. row_of r.len r.bytes.items };
 
-    ghost invariant = { λ r. IsKept r.bytes.items r.len r.ones };
+    ghost invariant = { λ r. KeepsRow r.bytes.items r.len r.ones };
 }
 
 impl BitRow {
@@ -65,14 +65,14 @@ impl BitRow {
     /// bits behind the row have to be 0 (Spare).
     pub fn from_bytes(alloc: Global, bytes: &[u8], n: u32) -> Result<BitRow, BitErr>
         ensures row { IfOk result (λ row. row ≡ row_of n bytes.now) }
-        ensures packed { IfOk result (λ row. bytes_of row ≡ bytes.now) }
+        ensures packed { IfOk result (λ row. row_bytes row ≡ bytes.now) }
         ensures len { IfOk result (λ row. length row ≡ n) }
         ensures fits { OnOk result (length bytes.now ≡ bytes_for n) }
 
         // Each refusal comes exactly there.
         ensures length { IsErrOf result Length ↔ (length bytes.now ≢ bytes_for n) }
         ensures spare { IsErrOf result Spare
-            ↔ (length bytes.now ≡ bytes_for n) × Contains (spare_of n bytes.now) true }
+            ↔ (length bytes.now ≡ bytes_for n) × Contains (spare_bits n bytes.now) true }
     {
         if bytes.len() != n.div_ceil(8) as usize {
             return Err(BitErr::Length);
@@ -188,7 +188,7 @@ impl BitRow {
 
     /// Its bytes: place 0 is the highest bit of the first one, and the spare bits of the last one are 0.
     pub fn bytes(&self) -> &[u8]
-        ensures packed { result.now ≡ bytes_of self.now }
+        ensures packed { result.now ≡ row_bytes self.now }
         ensures row { row_of (length self.now) result.now ≡ self.now }
     {
         // Named, since a proof knows the items of a named slice to be bytes.

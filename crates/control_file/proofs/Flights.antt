@@ -6,7 +6,7 @@ use Rattle.control_file.specs.declared.control.InFlight.{InFlight}
 use Rattle.control_file.specs.declared.fault.ControlErr.{ControlErr}
 use Rattle.control_file.specs.declared.fields.ByteOrder.{ByteOrder}
 use Rattle.control_file.specs.Unread.{Unread}
-use Rattle.control_file.specs.Reading.{◌>>=◌, fault_of, in_flight_at, flight_at}
+use Rattle.control_file.specs.Reading.{◌>>=◌, control_fault, in_flight_at, flight_at}
 
 -- what was read before, and what is still read
 abbrev pub with_front : List InFlight → Result (List InFlight × Unread) ControlErr → Result (List InFlight × Unread) ControlErr
@@ -31,11 +31,11 @@ module _ (order : ByteOrder) (total piece_len : ℕ) where
       sym one ∙ so_far
 
   pub ends : (e : ControlErr) (front : List InFlight) (count i : ℕ) (taken : List Bool) (from : Unread) (whole : Result (List InFlight × Unread) ControlErr)
-      → i < count → IfSome (fault_of e) (λ f. in_flight_at order total piece_len taken from ≡ Err f)
+      → i < count → IfSome (control_fault e) (λ f. in_flight_at order total piece_len taken from ≡ Err f)
       → with_front front (flight_at order total piece_len (count - i) taken from) ≡ whole
-      → IfSome (fault_of e) (λ f. whole ≡ Err f)
+      → IfSome (control_fault e) (λ f. whole ≡ Err f)
   unfolding flight_at
-  ends e front count i taken from whole below failed so_far = at (fault_of e) failed
+  ends e front count i taken from whole below failed so_far = at (control_fault e) failed
     where
       at : (fault : Option ControlErr) → IfSome fault (λ f. in_flight_at order total piece_len taken from ≡ Err f) → IfSome fault (λ f. whole ≡ Err f)
       at None h = h

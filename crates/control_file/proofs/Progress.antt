@@ -14,9 +14,9 @@ use Rattle.control_file.specs.declared.control.Control.{Control}
 use Rattle.control_file.specs.declared.control.InFlight.{InFlight}
 use Rattle.control_file.specs.declared.fault.ControlErr.{ControlErr}
 use Rattle.control_file.specs.declared.fields.ByteOrder.{ByteOrder}
-use Rattle.control_file.specs.Spelling.{IsInFlight, IsControl, IsReadable, IsControlFile, bytes_of_piece, in_flight, version_bytes, number_bytes, counted_bytes, in_flight_bytes, control_bytes}
+use Rattle.control_file.specs.Spelling.{IsInFlight, IsControl, IsReadableControl, IsControlFile, bytes_of_piece, in_flight, version_bytes, number_bytes, counted_bytes, in_flight_bytes, control_bytes}
 use Rattle.control_file.specs.Unread.{Unread}
-use Rattle.control_file.specs.Reading.{◌>>=◌, ruled, is_open, Lengths, field_at, row_at, order_at, hash_at, lengths_at, in_flight_at, flight_at, progress_at, control_in}
+use Rattle.control_file.specs.Reading.{◌>>=◌, ruled, may_be_in_flight, Lengths, field_at, row_at, order_at, hash_at, lengths_at, in_flight_at, flight_at, progress_at, control_in}
 use Rattle.control_file.proofs.Numbers.{IsBytes, bind_ok, ruled_ok, ok_is, Takes, Takes-then, from_at, wide32, field_takes, field_again}
 use Rattle.control_file.proofs.Open.{IsOpen, AreOpen, free_within, free_is_false, false_is_free, each_open, they_differ, open_in_turn}
 use Rattle.control_file.proofs.Sections.{lengths_bytes, row_takes, row_again, order_takes, order_again, hash_takes, hash_again, lengths_takes, lengths_again}
@@ -33,10 +33,10 @@ module _ (order : ByteOrder) (total piece_len : ℕ) where
   in_flight_takes held taken from x small e =
       let last = λ (index len : ℕ × Unread) (blocks : List Bool × Unread). Ok (record { index = index.0; length = len.0; blocks = blocks.0 }, blocks.1) in
       let middle = λ (index len : ℕ × Unread). row_at order (blocks_of_piece total piece_len index.0) len.1 >>= last index len in
-      let a = bind_ok (field_at order w32 (is_open taken) from) (λ index. field_at order w32 (λ len. eqb len (bytes_of_piece total piece_len index.0)) index.1 >>= middle index) x e in
+      let a = bind_ok (field_at order w32 (may_be_in_flight taken) from) (λ index. field_at order w32 (λ len. eqb len (bytes_of_piece total piece_len index.0)) index.1 >>= middle index) x e in
       let b = bind_ok (field_at order w32 (λ len. eqb len (bytes_of_piece total piece_len a.0.0)) a.0.1) (middle a.0) x a.2 in
       let c = bind_ok (row_at order (blocks_of_piece total piece_len a.0.0) b.0.1) (last a.0 b.0) x b.2 in
-      let index = field_takes order w32 (2 ^ 32) (wide32 order) (is_open taken) from a.0 small a.1 in
+      let index = field_takes order w32 (2 ^ 32) (wide32 order) (may_be_in_flight taken) from a.0 small a.1 in
       let len = field_takes order w32 (2 ^ 32) (wide32 order) (λ len. eqb len (bytes_of_piece total piece_len a.0.0)) a.0.1 b.0 index.0.small b.1 in
       let row = row_takes held order (blocks_of_piece total piece_len a.0.0) b.0.1 c.0 len.0.small c.1 in
       let all = Takes-then from _ b.0.1 _ c.0.1 (Takes-then from _ a.0.1 _ b.0.1 index.0 len.0) row.0 in
@@ -72,7 +72,7 @@ module _ (order : ByteOrder) (total piece_len : ℕ) where
       let text = counted_bytes order (bytes_of piece.blocks) in
       let small : bytes_of_piece total piece_len index ≤ piece_len = short_piece index in
       let parts : in_flight_bytes order piece ++ rest ≡ number_bytes order w32 index ++ (number_bytes order w32 len ++ (text ++ rest)) = simp append_assoc in
-      let first = field_again order w32 (2 ^ 32) (wide32 order) (is_open taken) index (number_bytes order w32 len ++ (text ++ rest)) at (omega (arith, free_within taken index is.free)) (ap not is.free) in
+      let first = field_again order w32 (2 ^ 32) (wide32 order) (may_be_in_flight taken) index (number_bytes order w32 len ++ (text ++ rest)) at (omega (arith, free_within taken index is.free)) (ap not is.free) in
       let second = field_again order w32 (2 ^ 32) (wide32 order) (λ n. eqb n (bytes_of_piece total piece_len index)) len (text ++ rest) (at + 4) (omega (arith, is.size)) (eq-eqb _ _ is.size) in
       let third = row_again back order piece.blocks rest (at + 4 + 4) (blocks_of_piece total piece_len index) is.bits (omega arith) in
       (at + 4 + 4 + 4 + bytes_for (blocks_of_piece total piece_len index), rw (parts, first, second, third) refl)
@@ -197,7 +197,7 @@ is_found held bytes control small e =
     })
 
 -- what is spelled is read
-pub again : RowsAreReadBack → (order : ByteOrder) (control : Control) → IsReadable control → control_in (control_bytes order control) ≡ Ok control
+pub again : RowsAreReadBack → (order : ByteOrder) (control : Control) → IsReadableControl control → control_in (control_bytes order control) ≡ Ok control
 unfolding control_in
 again back order control rules =
     let fields = rules.fields in

@@ -13,7 +13,7 @@ use Rattle.control_file.specs.declared.fields.ByteOrder.{ByteOrder}
 use Rattle.control_file.specs.declared.fields.ByteOrder.TheVariants.{Big, Little}
 use Rattle.control_file.specs.Spelling.{version_bytes, number_bytes, counted_bytes}
 use Rattle.control_file.specs.Unread.{Unread}
-use Rattle.control_file.specs.Reading.{◌>>=◌, ruled, is_plan, Lengths, bytes_at, number_at, field_at, row_at, order_of, order_at, hash_at, lengths_at}
+use Rattle.control_file.specs.Reading.{◌>>=◌, ruled, allows_plan, Lengths, bytes_at, number_at, field_at, row_at, order_of, order_at, hash_at, lengths_at}
 use Rattle.control_file.proofs.Numbers.{IsBytes, bind_ok, ruled_ok, ok_is, Takes, Takes-then, from_at, bytes_takes, bytes_again, wide16, wide32, wide64, number_takes, number_again, field_takes, field_again}
 use Rattle.control_file.proofs.Plans.{plan_passes, passes_plan}
 use Rattle.control_file.proofs.Spare.{none_spare, some_spare}
@@ -115,11 +115,11 @@ unfolding lengths_at
 lengths_takes order from x small e =
     let last = λ (len total uploaded : ℕ × Unread). Ok (record { piece_len = len.0; total = total.0; uploaded = uploaded.0 }, uploaded.1) in
     let middle = λ (len total : ℕ × Unread). number_at order w64 total.1 >>= last len total in
-    let a = bind_ok (field_at order w32 (λ len. is_plan 0 len) from) (λ len. field_at order w64 (λ total. is_plan total len.0) len.1 >>= middle len) x e in
-    let b = bind_ok (field_at order w64 (λ total. is_plan total a.0.0) a.0.1) (middle a.0) x a.2 in
+    let a = bind_ok (field_at order w32 (λ len. allows_plan 0 len) from) (λ len. field_at order w64 (λ total. allows_plan total len.0) len.1 >>= middle len) x e in
+    let b = bind_ok (field_at order w64 (λ total. allows_plan total a.0.0) a.0.1) (middle a.0) x a.2 in
     let c = bind_ok (number_at order w64 b.0.1) (last a.0 b.0) x b.2 in
-    let len = field_takes order w32 (2 ^ 32) (wide32 order) (λ len. is_plan 0 len) from a.0 small a.1 in
-    let total = field_takes order w64 (2 ^ 64) (wide64 order) (λ total. is_plan total a.0.0) a.0.1 b.0 len.0.small b.1 in
+    let len = field_takes order w32 (2 ^ 32) (wide32 order) (λ len. allows_plan 0 len) from a.0 small a.1 in
+    let total = field_takes order w64 (2 ^ 64) (wide64 order) (λ total. allows_plan total a.0.0) a.0.1 b.0 len.0.small b.1 in
     let uploaded = number_takes order w64 (2 ^ 64) (wide64 order) b.0.1 c.0 total.0.small c.1 in
     let all = Takes-then from _ b.0.1 _ c.0.1 (Takes-then from _ a.0.1 _ b.0.1 len.0 total.0) uploaded.0 in
     subst (λ (y : Lengths × Unread). Takes from (lengths_bytes order y.0) y.1 × IsPlan y.0.total y.0.piece_len × (y.0.uploaded < 2 ^ 64))
@@ -136,7 +136,7 @@ pub lengths_again : (order : ByteOrder) (lengths : Lengths) (rest : List ℕ) (a
 unfolding lengths_at
 lengths_again order lengths rest at plan total_fits uploaded_fits =
     let parts : lengths_bytes order lengths ++ rest ≡ number_bytes order w32 lengths.piece_len ++ (number_bytes order w64 lengths.total ++ (number_bytes order w64 lengths.uploaded ++ rest)) = simp append_assoc in
-    let first = field_again order w32 (2 ^ 32) (wide32 order) (λ len. is_plan 0 len) lengths.piece_len (number_bytes order w64 lengths.total ++ (number_bytes order w64 lengths.uploaded ++ rest)) at (omega (arith, plan.piece)) (plan_passes _ _ (no_bytes _ _ plan)) in
-    let second = field_again order w64 (2 ^ 64) (wide64 order) (λ total. is_plan total lengths.piece_len) lengths.total (number_bytes order w64 lengths.uploaded ++ rest) (at + 4) total_fits (plan_passes _ _ plan) in
+    let first = field_again order w32 (2 ^ 32) (wide32 order) (λ len. allows_plan 0 len) lengths.piece_len (number_bytes order w64 lengths.total ++ (number_bytes order w64 lengths.uploaded ++ rest)) at (omega (arith, plan.piece)) (plan_passes _ _ (no_bytes _ _ plan)) in
+    let second = field_again order w64 (2 ^ 64) (wide64 order) (λ total. allows_plan total lengths.piece_len) lengths.total (number_bytes order w64 lengths.uploaded ++ rest) (at + 4) total_fits (plan_passes _ _ plan) in
     let third = number_again order w64 (2 ^ 64) (wide64 order) lengths.uploaded rest (at + 4 + 8) uploaded_fits in
     rw (parts, first, second, third) refl

@@ -12,7 +12,7 @@ use Rattle.control_file.specs.declared.fault.ControlErr.TheVariants.{Wrong}
 use Rattle.control_file.specs.declared.fields.ByteOrder.{ByteOrder}
 use Rattle.control_file.specs.Spelling.{bytes_of_piece}
 use Rattle.control_file.specs.Unread.{Unread}
-use Rattle.control_file.specs.Reading.{fault_of, is_open, Lengths, bytes_at, field_at, row_at, order_at, hash_at, lengths_at, in_flight_at, flight_at, progress_at, control_in}
+use Rattle.control_file.specs.Reading.{control_fault, may_be_in_flight, Lengths, bytes_at, field_at, row_at, order_at, hash_at, lengths_at, in_flight_at, flight_at, progress_at, control_in}
 
 -- a fault of a step is one of the whole
 pub passed_on : {A B : Type 0} (fault : Option ControlErr) (step : Result A ControlErr) (whole : Result B ControlErr)
@@ -33,7 +33,7 @@ module _ (order : ByteOrder) (bits len count : ℕ) (from after rest : Unread) (
   row_wrong some = rw (← as_many, counted, taken, some) refl
 
 module _ (order : ByteOrder) (total piece_len index len bytes blocks : ℕ) (taken : List Bool) (from second third : Unread)
-    (open_index : field_at order w32 (is_open taken) from ≡ Ok (index, second)) (size : field_at order w32 (λ n. eqb n bytes) second ≡ Ok (len, third))
+    (open_index : field_at order w32 (may_be_in_flight taken) from ≡ Ok (index, second)) (size : field_at order w32 (λ n. eqb n bytes) second ≡ Ok (len, third))
     (bytes_is : bytes ≡ bytes_of_piece total piece_len index) (blocks_is : blocks ≡ blocks_of_piece total piece_len index) where
 
   pub in_flight_is : (row : List Bool) (rest : Unread) → row_at order blocks third ≡ Ok (row, rest)

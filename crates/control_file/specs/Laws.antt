@@ -3,7 +3,7 @@ use Rattle.std.specs.Prelude.{◌≡◌, ◌↔◌, ◌<◌, ℕ, List, All, Ok}
 use Rattle.control_file.specs.declared.control.Control.{Control}
 use Rattle.control_file.specs.declared.fields.ByteOrder.{ByteOrder}
 use Rattle.control_file.specs.declared.fields.ByteOrder.TheVariants.{Big}
-use Rattle.control_file.specs.Spelling.{IsControlFile, IsWritable, control_bytes}
+use Rattle.control_file.specs.Spelling.{IsControlFile, IsWritableControl, control_bytes}
 use Rattle.control_file.specs.Reading.{control_in}
 
 -- whatever bytes
@@ -13,4 +13,4 @@ ControlFilesAreRead =
     → (control_in bytes ≡ Ok control) ↔ IsControlFile bytes control
 
 abbrev pub WrittenIsReadBack : Type 0
-WrittenIsReadBack = (control : Control) → IsWritable control → control_in (control_bytes Big control) ≡ Ok control
+WrittenIsReadBack = (control : Control) → IsWritableControl control → control_in (control_bytes Big control) ≡ Ok control

@@ -5,6 +5,7 @@ use Rattle.std.specs.List.{list_any, slice_index_or}
 use Rattle.bit_rows.specs.Row.{bytes_for, row_of, spare_of}
 use Rattle.dl_kinds.specs.Plan.{pieces_of, blocks_of, blocks_of_piece}
 use Rattle.dl_kinds.specs.declared.plan.Plan.{Plan}
+use Rattle.dl_kinds.specs.declared.plan.TheConstants.{MAX_BLOCKS, MAX_PIECES, MAX_PIECE_LEN}
 use Rattle.control_file.specs.declared.control.Control.{Control}
 use Rattle.control_file.specs.declared.control.InFlight.{InFlight}
 use Rattle.control_file.specs.declared.fault.ControlErr.{ControlErr}
@@ -20,9 +21,9 @@ abbrev pub ◌>>=◌ : {A B : Type 0} → Result A ControlErr → (A → Result 
 (Err e) >>= f = Err e
 
 -- what an error says of the bytes: want of memory says nothing
-abbrev pub fault_of : ControlErr → Option ControlErr
-fault_of NoMemory = None
-fault_of e = Some e
+abbrev pub control_fault : ControlErr → Option ControlErr
+control_fault NoMemory = None
+control_fault e = Some e
 
 -- the field that began here is wrong, unless its rule holds
 abbrev pub ruled : {A : Type 0} → Bool → ℕ → A → Result A ControlErr
@@ -74,10 +75,10 @@ hash_at order from = do
   Ok (ext.0, hash.0, hash.1)
 
 -- IsPlan, as a test
-abbrev pub is_plan : ℕ → ℕ → Bool
-is_plan total piece_len =
-    nat_le 1 piece_len && nat_le piece_len 67108864
-    && nat_le (pieces_of total piece_len) 1048576 && nat_le (blocks_of total piece_len) 268435456
+abbrev pub allows_plan : ℕ → ℕ → Bool
+allows_plan total piece_len =
+    nat_le 1 piece_len && nat_le piece_len MAX_PIECE_LEN
+    && nat_le (pieces_of total piece_len) MAX_PIECES && nat_le (blocks_of total piece_len) MAX_BLOCKS
 
 -- PIECE LENGTH, TOTAL LENGTH and UPLOAD LENGTH
 pub record Lengths : Type 0 where
@@ -90,18 +91,18 @@ lengths_of plan uploaded = record { piece_len = plan.piece_len; total = plan.tot
 
 unfoldable pub lengths_at : ByteOrder → Unread → Result (Lengths × Unread) ControlErr
 lengths_at order from = do
-  piece_len ← field_at order w32 (λ len. is_plan 0 len) from
-  total ← field_at order w64 (λ total. is_plan total piece_len.0) piece_len.1
+  piece_len ← field_at order w32 (λ len. allows_plan 0 len) from
+  total ← field_at order w64 (λ total. allows_plan total piece_len.0) piece_len.1
   uploaded ← number_at order w64 total.1
   Ok (record { piece_len = piece_len.0; total = total.0; uploaded = uploaded.0 }, uploaded.1)
 
 -- whether a piece may be in flight: it is one, isn't verified, and wasn't in flight before
-abbrev pub is_open : List Bool → ℕ → Bool
-is_open taken piece = not (slice_index_or taken piece true)
+abbrev pub may_be_in_flight : List Bool → ℕ → Bool
+may_be_in_flight taken piece = not (slice_index_or taken piece true)
 
 unfoldable pub in_flight_at : ByteOrder → ℕ → ℕ → List Bool → Unread → Result (InFlight × Unread) ControlErr
 in_flight_at order total piece_len taken from = do
-  index ← field_at order w32 (is_open taken) from
+  index ← field_at order w32 (may_be_in_flight taken) from
   len ← field_at order w32 (λ len. len == bytes_of_piece total piece_len index.0) index.1
   blocks ← row_at order (blocks_of_piece total piece_len index.0) len.1
   Ok (record { index = index.0; length = len.0; blocks = blocks.0 }, blocks.1)

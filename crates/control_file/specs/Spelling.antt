@@ -37,12 +37,12 @@ pub record IsControl (control : Control) : Type 0 where
   pub flight : All (IsInFlight control) control.flight
 
 -- a reader takes the pieces in flight in any order (own)
-pub record IsReadable (control : Control) : Type 0 where
+pub record IsReadableControl (control : Control) : Type 0 where
   pub fields : IsControl control
   pub distinct : AllPairs (λ a b. a ≢ b) (in_flight control)
 
 -- a writer has them in order, each with a block that has come (own)
-pub record IsWritable (control : Control) : Type 0 where
+pub record IsWritableControl (control : Control) : Type 0 where
   pub fields : IsControl control
   pub ascending : IsStrictlyIncreasing (in_flight control)
   pub some : All (λ piece. Contains piece.blocks true) control.flight
@@ -84,5 +84,5 @@ control_bytes order control =
 -- the bytes are a control file that says this
 pub record IsControlFile (bytes : List ℕ) (control : Control) : Type 0 where
   pub order : ByteOrder
-  pub rules : IsReadable control
+  pub rules : IsReadableControl control
   pub spelled : bytes ≡ control_bytes order control

@@ -4,7 +4,7 @@ ghost use Rattle.std.specs.Int.{w32};
 ghost use Rattle.std.specs.List.{flat_map};
 ghost use Rattle.bit_rows.specs.Row.{bytes_of};
 ghost use Rattle.control_file.specs.Reading.{control_in};
-ghost use Rattle.control_file.specs.Spelling.{IsWritable, number_bytes, counted_bytes, in_flight_bytes, control_bytes};
+ghost use Rattle.control_file.specs.Spelling.{IsWritableControl, number_bytes, counted_bytes, in_flight_bytes, control_bytes};
 ghost use Rattle.control_file.specs.declared.fields.ByteOrder.TheVariants.{Big};
 
 use crate::laws::control_files_are_read;
@@ -54,7 +54,7 @@ fn put_flight(out: &mut Vec<u8>, pieces: &[InFlight]) -> Result<(), AllocError>
 }
 
 fn write_all(alloc: Global, control: &Control) -> Result<Vec<u8>, AllocError>
-    requires { IsWritable control.now }
+    requires { IsWritableControl control.now }
     ensures { IfOk result (λ bytes. bytes.items ≡ control_bytes Big control.now) }
 {
     let mut out = Vec::new(alloc);
@@ -74,7 +74,7 @@ impl Control {
     /// Its control file, of version 1. The pieces in flight have to be in the order of their numbers, each with a block
     /// that has come.
     pub fn write(&self, alloc: Global) -> Result<Vec<u8>, AllocError>
-        requires { IsWritable self.now }
+        requires { IsWritableControl self.now }
         ensures spelled { IfOk result (λ bytes. bytes.items ≡ control_bytes Big self.now) }
         ensures read_back { IfOk result (λ bytes. control_in bytes.items ≡ Ok self.now) }
     {

@@ -8,9 +8,9 @@ use Rattle.std.specs.Option.{option_or}
 use Rattle.std.specs.Str.{bytes_eq}
 use Rattle.std.specs.String.{string_bytes, string_cmp}
 use Rattle.std.specs.declared.alloc.Global.{Global}
-use Rattle.dl_disk.specs.Contents.{contents_of, held}
+use Rattle.dl_disk.specs.Contents.{files_listed, files_of}
 use Rattle.dl_disk.specs.Edit.{edited}
-use Rattle.dl_disk.specs.Files.{Files, Puts, bytes_of}
+use Rattle.dl_disk.specs.Files.{Files, Puts, file_bytes}
 use Rattle.dl_disk.specs.declared.contents.Contents.{Contents}
 use Rattle.dl_disk.specs.declared.edits.Edit.{Edit}
 use Rattle.dl_disk.proofs.Names.{bytes_eq-same, bytes_eq-other, by_name}
@@ -19,33 +19,42 @@ abbrev File : Type 0
 File = List ℕ × List ℕ
 
 -- the last file is what its name holds
-pub contents_of-push : (files : List File) (file : File) (name : List ℕ) → contents_of (files ++ file ∷ []) name ≡ cond (bytes_eq file.0 name) (Some file.1) (contents_of files name)
-contents_of-push [] file name = refl
-contents_of-push (first ∷ files) file name =
-    ap (λ (later : Option (List ℕ)). option_or later (cond (bytes_eq first.0 name) (Some first.1) None)) (contents_of-push files file name)
+pub files_listed-push : (files : List File) (file : File) (name : List ℕ) → files_listed (files ++ file ∷ []) name ≡ cond (bytes_eq file.0 name) (Some file.1) (files_listed files name)
+files_listed-push [] file name = refl
+files_listed-push (first ∷ files) file name =
+    ap (λ (later : Option (List ℕ)). option_or later (cond (bytes_eq first.0 name) (Some first.1) None)) (files_listed-push files file name)
     ∙ by_case (bytes_eq file.0 name)
   where
-    by_case : (same : Bool) → option_or (cond same (Some file.1) (contents_of files name)) (cond (bytes_eq first.0 name) (Some first.1) None)
-        ≡ cond same (Some file.1) (option_or (contents_of files name) (cond (bytes_eq first.0 name) (Some first.1) None))
+    by_case : (same : Bool) → option_or (cond same (Some file.1) (files_listed files name)) (cond (bytes_eq first.0 name) (Some first.1) None)
+        ≡ cond same (Some file.1) (option_or (files_listed files name) (cond (bytes_eq first.0 name) (Some first.1) None))
     by_case true = refl
     by_case false = refl
 
 -- one file more was put
 pub contents_more : (files : List File) (i : ℕ) (file : File) (old new : Files) → i < length files → file ≡ get_or files i file → Puts file.0 (Some file.1) old new
-    → ((name : List ℕ) → old name ≡ contents_of (take i files) name) → (name : List ℕ) → new name ≡ contents_of (take (i + 1) files) name
+    → ((name : List ℕ) → old name ≡ files_listed (take i files) name) → (name : List ℕ) → new name ≡ files_listed (take (i + 1) files) name
 contents_more files i file old new within is puts same name =
-    rw (take_more files i file within, ← is, contents_of-push (take i files) file name)
+    rw (take_more files i file within, ← is, files_listed-push (take i files) file name)
     (by_name file.0 name
     (λ equal. rw (equal, bytes_eq-same file.0) puts.here)
     (λ differs. rw (bytes_eq-other file.0 name differs) (puts.others name differs ∙ same name)))
 
 -- the entry of one name has these bytes, and so has the file
 pub puts_updated : (old new : Contents) (name : List ℕ) (bytes : Vec ℕ Global) → UpdatesBy string_cmp (λ key. slice_cmp nat_cmp name (string_bytes key)) old.files new.files (Some bytes)
-    → Puts name (Some bytes.items) (held old) (held new)
+    → Puts name (Some bytes.items) (files_of old) (files_of new)
 puts_updated old new name bytes updates = record {
   here = ap (option_map (λ (bytes : Vec ℕ Global). bytes.items)) updates.1;
   others = λ other differs.
       ap (option_map (λ (bytes : Vec ℕ Global). bytes.items)) (btree_map_updates_text name old.files new.files (Some bytes) updates other ∙ rw (bytes_eq-other name other differs));
+}
+
+-- the entry is gone, and so is the file
+pub puts_removed : (old new : Contents) (name : List ℕ) → UpdatesBy string_cmp (λ key. slice_cmp nat_cmp name (string_bytes key)) old.files new.files None
+    → Puts name None (files_of old) (files_of new)
+puts_removed old new name updates = record {
+  here = ap (option_map (λ (bytes : Vec ℕ Global). bytes.items)) updates.1;
+  others = λ other differs.
+      ap (option_map (λ (bytes : Vec ℕ Global). bytes.items)) (btree_map_updates_text name old.files new.files None updates other ∙ rw (bytes_eq-other name other differs));
 }
 
 -- where the file had these bytes, no file changed
@@ -57,15 +66,15 @@ puts_same name file old new puts was other = by_name name other
 module _ (old new : Contents) (name : List ℕ) (was now : Vec ℕ Global) (found : Some was ≡ get_by_text old.files name)
     (updates : UpdatesBy string_cmp (λ key. slice_cmp nat_cmp name (string_bytes key)) old.files new.files (Some now)) where
   -- the bytes found were edited
-  pub puts_edited : (edit : Edit) → now.items ≡ edited edit was.items → Puts name (Some (edited edit (bytes_of (held old name)))) (held old) (held new)
+  pub puts_edited : (edit : Edit) → now.items ≡ edited edit was.items → Puts name (Some (edited edit (file_bytes (files_of old name)))) (files_of old) (files_of new)
   puts_edited edit after =
       let puts = puts_updated old new name now updates in
       record {
-        here = puts.here ∙ ap (λ (bytes : List ℕ). Some bytes) after ∙ ap (λ (file : Option (Vec ℕ Global)). Some (edited edit (bytes_of (option_map (λ bytes. bytes.items) file)))) found;
+        here = puts.here ∙ ap (λ (bytes : List ℕ). Some bytes) after ∙ ap (λ (file : Option (Vec ℕ Global)). Some (edited edit (file_bytes (option_map (λ bytes. bytes.items) file)))) found;
         others = puts.others;
       }
 
   -- they stayed as they were
-  pub same_kept : now.items ≡ was.items → (other : List ℕ) → held new other ≡ held old other
-  same_kept stays = puts_same name (Some now.items) (held old) (held new) (puts_updated old new name now updates)
+  pub same_kept : now.items ≡ was.items → (other : List ℕ) → files_of new other ≡ files_of old other
+  same_kept stays = puts_same name (Some now.items) (files_of old) (files_of new) (puts_updated old new name now updates)
       (ap (λ (bytes : List ℕ). Some bytes) stays ∙ ap (option_map (λ (bytes : Vec ℕ Global). bytes.items)) found)

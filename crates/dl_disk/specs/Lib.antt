@@ -1,8 +1,10 @@
+pub mod Calls
 pub mod Contents
 pub mod Edit
 pub mod Files
-pub mod Laws
 pub mod MemDisk
+pub mod MemState
+pub mod Passes
 pub mod Record
+pub mod State
 pub mod Tears
-pub mod Time

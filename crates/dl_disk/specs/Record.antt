@@ -1,13 +1,12 @@
 -- The calls that a disk in memory had: what they make of its files, and what they leave to a crash.
-use Rattle.std.specs.Prelude.{◌≡◌, ℕ, ◌+◌, Bool, true, false, ◌&&◌, not, ◌==◌, nat_le, List, [], ◌∷◌, length, take, slice_get, reverse, map, Option, Some, None, if◌then◌else◌}
-use Rattle.std.specs.List.{filter, list_any}
+use Rattle.std.specs.Prelude.{◌≡◌, ℕ, ◌+◌, Bool, true, false, ◌&&◌, not, nat_le, List, [], ◌∷◌, length, take, slice_get, reverse, map, Option, Some, None, is_some, IsTrue, if◌then◌else◌}
+use Rattle.std.specs.List.{filter}
 use Rattle.std.specs.Map.{update}
 use Rattle.std.specs.Str.{bytes_eq}
-use Rattle.dl_disk.specs.Files.{Files, bytes_of, MayMake, Changes}
-use Rattle.dl_disk.specs.Contents.{contents_of}
+use Rattle.dl_disk.specs.Files.{Files, file_bytes, MayMake, Changes, Removes, Moved, MayBe}
 use Rattle.dl_disk.specs.Edit.{fits, edited, MayEdit}
 use Rattle.dl_disk.specs.declared.record.Action.{Action}
-use Rattle.dl_disk.specs.declared.record.Action.TheVariants.{Read, Change, Sync, MakeDir}
+use Rattle.dl_disk.specs.declared.record.Action.TheVariants.{Read, Change, Sync, MakeDir, Replace, Remove}
 use Rattle.dl_disk.specs.declared.record.Call.{Call}
 
 -- whether a file has so many bytes at this place
@@ -19,11 +18,19 @@ reaches (Some bytes) at len = nat_le (at + len) (length bytes)
 abbrev pub can_do : Files → List ℕ → Action → Bool
 can_do files name (Read at len) = reaches (files name) at len
 can_do files name (Change edit) = fits edit
+can_do files name (Replace to) = is_some (files name)
+can_do files name Remove = is_some (files name)
 can_do files name action = true
+
+-- the files with the file of one name under another
+abbrev pub moved : Files → List ℕ → List ℕ → Files
+moved files from to other = if bytes_eq to other then files from else if bytes_eq from other then None else files other
 
 -- what it makes of them
 abbrev pub changed : Files → List ℕ → Action → Files
-changed files name (Change edit) = update bytes_eq files name (Some (edited edit (bytes_of (files name))))
+changed files name (Change edit) = update bytes_eq files name (Some (edited edit (file_bytes (files name))))
+changed files name (Replace to) = moved files name to
+changed files name Remove = update bytes_eq files name None
 changed files name action = files
 
 -- the files after these calls, of which the newest is the first
@@ -33,9 +40,13 @@ files_after start (call ∷ calls) =
     if call.done then changed (files_after start calls) call.name call.action else files_after start calls
 
 -- What a call leaves to a crash, from what it might have left before; the files are those before the call. A change may
--- be cut short, and what was synced stays.
+-- be cut short, what was synced stays, and a file that was moved or removed with Ok is so for good.
 abbrev pub Leaves : Files → (Files → Type 0) → List ℕ → Action → Bool → Files → Type 0
 Leaves files before name (Change edit) done image = (old : Files) × before old × Changes name (MayMake (MayEdit edit)) old image
+Leaves files before name (Replace to) true image = (old : Files) × before old × Moved name to old image
+Leaves files before name (Replace to) false image = (old : Files) × before old × MayBe (Moved name to) old image
+Leaves files before name Remove true image = (old : Files) × before old × Removes name old image
+Leaves files before name Remove false image = (old : Files) × before old × MayBe (Removes name) old image
 Leaves files before name Sync true image = before image × (image name ≡ files name)
 Leaves files before name action done image = before image
 
@@ -44,12 +55,13 @@ abbrev pub IsLeftAfter : Files → List Call → Files → Type 0
 IsLeftAfter start [] image = (name : List ℕ) → image name ≡ start name
 IsLeftAfter start (call ∷ calls) image = Leaves (files_after start calls) (IsLeftAfter start calls) call.name call.action call.done image
 
--- the same of a disk that began with these files, and of its calls from the oldest on
-abbrev pub shown_after : List (List ℕ × List ℕ) → List Call → Files
-shown_after start calls = files_after (contents_of start) (reverse calls)
+-- what a read gives after these calls, of which the oldest is the first
+abbrev pub reading_after : Files → List Call → Files
+reading_after start calls = files_after start (reverse calls)
 
-abbrev pub IsImageAfter : List (List ℕ × List ℕ) → List Call → Files → Type 0
-IsImageAfter start calls = IsLeftAfter (contents_of start) (reverse calls)
+-- what a crash may leave after them
+abbrev pub IsImageAfter : Files → List Call → Files → Type 0
+IsImageAfter start calls = IsLeftAfter start (reverse calls)
 
 -- whether a call reads this file
 abbrev pub reads : List ℕ → Call → Bool
@@ -76,11 +88,8 @@ folders_made calls = map (λ call. call.name) (filter makes_folder (reverse call
 abbrev pub failed : Call → Bool
 failed call = not call.done
 
--- whether a call that comes after these is done: it can be, and its number isn't among the failing ones
-abbrev pub will_do : List (List ℕ × List ℕ) → List ℕ → List Call → List ℕ → Action → Bool
-will_do start failing calls name action = can_do (shown_after start calls) name action && not (list_any (λ number. number == length calls) failing)
-
--- each call was done exactly where it was to be
-abbrev pub AreAnswered : List (List ℕ × List ℕ) → List ℕ → List Call → Type 0
-AreAnswered start failing calls =
-    (number : ℕ) (call : Call) → slice_get calls number ≡ Some call → call.done ≡ will_do start failing (take number calls) call.name call.action
+-- each call that was done could be done on the files after those before it
+abbrev pub WerePossible : Files → List Call → Type 0
+WerePossible start calls =
+    (place : ℕ) (call : Call) → slice_get calls place ≡ Some call → IsTrue call.done
+    → IsTrue (can_do (reading_after start (take place calls)) call.name call.action)

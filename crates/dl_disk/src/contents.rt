@@ -1,8 +1,9 @@
 // The files of a disk in memory as they are now.
-ghost use Rattle.std.specs.Prelude.{◌≡◌, ℕ, List, None, Some, OnOk, OnErr, IfOk, IsTrue, option_copied};
-ghost use Rattle.dl_disk.specs.Files.{Puts, bytes_of};
-ghost use Rattle.dl_disk.specs.Contents.{contents_of, held};
-ghost use Rattle.dl_disk.specs.Edit.{fits, edited};
+ghost use Rattle.std.specs.Prelude.{◌≡◌, ◌≢◌, ℕ, List, None, Some, IsSome, OnOk, OnErr, IfOk, IsTrue, option_copied, option_map};
+ghost use Rattle.dl_disk.specs.Files.{IsSame, Puts};
+ghost use Rattle.dl_disk.specs.Contents.{files_listed, files_of};
+ghost use Rattle.dl_disk.specs.Edit.{fits, EditsFile};
+ghost use Rattle.dl_disk.specs.Record.{moved};
 
 use crate::edits::Edit;
 use dl_kinds::{Blob, Text};
@@ -18,7 +19,7 @@ pub struct Contents {
 impl Contents {
     /// No files.
     pub fn new(alloc: Global) -> Self
-        ensures { (name : List ℕ) → held result name ≡ None }
+        ensures { (name : List ℕ) → files_of result name ≡ None }
     {
         Contents {
             files: BTreeMap::new(alloc),
@@ -27,7 +28,7 @@ impl Contents {
 
     /// These files; of one name the last.
     pub fn of(alloc: Global, files: &[(Text, Blob)]) -> Result<Self, AllocError>
-        ensures { IfOk result (λ contents. (name : List ℕ) → held contents name ≡ contents_of files.now name) }
+        ensures { IfOk result (λ contents. IsSame (files_listed files.now) (files_of contents)) }
     {
         let mut contents = Contents::new(alloc);
         for (name, bytes) in files {
@@ -38,7 +39,7 @@ impl Contents {
 
     /// The bytes of a file.
     pub fn get(&self, name: &str) -> Option<&[u8]>
-        ensures { option_copied result ≡ held self.now name.now }
+        ensures { option_copied result ≡ files_of self.now name.now }
     {
         match self.files.get(name) {
             Some(bytes) => Some(bytes.as_slice()),
@@ -48,18 +49,70 @@ impl Contents {
 
     /// Makes this file, in place of one of its name.
     pub fn put(&mut self, alloc: Global, name: &str, bytes: Vec<u8>) -> Result<(), AllocError>
-        ensures ok { OnOk result (Puts name.now (Some bytes.items) (held self.old) (held self.new)) }
-        ensures err { OnErr result ((other : List ℕ) → held self.new other ≡ held self.old other) }
+        ensures ok { OnOk result (Puts name.now (Some bytes.items) (files_of self.old) (files_of self.new)) }
+        ensures err { OnErr result (IsSame (files_of self.old) (files_of self.new)) }
     {
         self.files.insert(String::from_str(alloc, name)?, bytes)?;
+        Ok(())
+    }
+
+    /// Takes a file away, and gives its bytes.
+    pub fn take(&mut self, name: &str) -> Option<Vec<u8>>
+        ensures found { option_map (λ bytes. bytes.items) result ≡ files_of self.old name.now }
+        ensures gone { Puts name.now None (files_of self.old) (files_of self.new) }
+    {
+        self.files.remove(name)
+    }
+
+    /// Takes a file away.
+    pub fn remove(&mut self, name: &str)
+        ensures { Puts name.now None (files_of self.old) (files_of self.new) }
+    {
+        self.take(name);
+    }
+
+    // Makes an empty file where there is none.
+    fn make(&mut self, alloc: Global, name: &str) -> Result<(), AllocError>
+        ensures stands { OnOk result (IsSome (files_of self.new name.now)) }
+        ensures others { (other : List ℕ) → other ≢ name.now → files_of self.new other ≡ files_of self.old other }
+        ensures err { OnErr result (IsSame (files_of self.old) (files_of self.new)) }
+    {
+        if self.get(name).is_some() {
+            return Ok(());
+        }
+        self.put(alloc, name, Vec::new(alloc))
+    }
+
+    // Sets the bytes of a file that stands.
+    fn set(&mut self, name: &str, bytes: Vec<u8>)
+        requires { IsSome (files_of self.old name.now) }
+        ensures { Puts name.now (Some bytes.items) (files_of self.old) (files_of self.new) }
+    {
+        if let Some(slot) = self.files.get_mut(name) {
+            *slot = bytes;
+        }
+    }
+
+    /// Puts a file in the place of another.
+    pub fn rename(&mut self, alloc: Global, from: &str, to: &str) -> Result<(), AllocError>
+        requires { IsSome (files_of self.old from.now) }
+        ensures ok { OnOk result (IsSame (moved (files_of self.old) from.now to.now) (files_of self.new)) }
+        ensures err { OnErr result (IsSame (files_of self.old) (files_of self.new)) }
+    {
+        if from == to {
+            return Ok(());
+        }
+        self.make(alloc, to)?;
+        let bytes = self.take(from).unwrap();
+        self.set(to, bytes);
         Ok(())
     }
 
     /// Edits a file, and makes it where there is none.
     pub fn edit(&mut self, alloc: Global, name: &str, edit: &Edit) -> Result<(), AllocError>
         requires { IsTrue (fits edit.now) }
-        ensures ok { OnOk result (Puts name.now (Some (edited edit.now (bytes_of (held self.old name.now)))) (held self.old) (held self.new)) }
-        ensures err { OnErr result ((other : List ℕ) → held self.new other ≡ held self.old other) }
+        ensures ok { OnOk result (EditsFile name.now edit.now (files_of self.old) (files_of self.new)) }
+        ensures err { OnErr result (IsSame (files_of self.old) (files_of self.new)) }
     {
         if let Some(bytes) = self.files.get_mut(name) {
             return edit.apply(bytes);

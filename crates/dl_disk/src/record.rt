@@ -1,6 +1,7 @@
 // The calls that a disk in memory had.
-ghost use Rattle.std.specs.Prelude.{◌≡◌, ℕ, List, IsTrue, OnOk, OnErr};
-ghost use Rattle.dl_disk.specs.Contents.{held};
+ghost use Rattle.std.specs.Prelude.{IsTrue, OnOk, OnErr};
+ghost use Rattle.dl_disk.specs.Contents.{files_of};
+ghost use Rattle.dl_disk.specs.Files.{IsSame};
 ghost use Rattle.dl_disk.specs.Record.{can_do, changed};
 
 use crate::contents::Contents;
@@ -13,10 +14,18 @@ use std::alloc::{AllocError, Global};
 pub enum Action {
     /// Its length.
     Look,
-    Read { at: u64, len: u64 },
+    Read {
+        at: u64,
+        len: u64,
+    },
     Change(Edit),
     Sync,
     MakeDir,
+    /// Its place under another name.
+    Replace {
+        to: Text,
+    },
+    Remove,
 }
 
 #[derive(Debug, Drop)]
@@ -34,12 +43,17 @@ impl Action {
         name: &str,
         contents: &mut Contents,
     ) -> Result<(), AllocError>
-        requires { IsTrue (can_do (held contents.old) name.now self.now) }
-        ensures ok { OnOk result ((other : List ℕ) → held contents.new other ≡ changed (held contents.old) name.now self.now other) }
-        ensures err { OnErr result ((other : List ℕ) → held contents.new other ≡ held contents.old other) }
+        requires { IsTrue (can_do (files_of contents.old) name.now self.now) }
+        ensures ok { OnOk result (IsSame (changed (files_of contents.old) name.now self.now) (files_of contents.new)) }
+        ensures err { OnErr result (IsSame (files_of contents.old) (files_of contents.new)) }
     {
         match self {
             Action::Change(edit) => contents.edit(alloc, name, edit),
+            Action::Replace { to } => contents.rename(alloc, name, to.as_str()),
+            Action::Remove => {
+                contents.remove(name);
+                Ok(())
+            }
             Action::Look | Action::Read { .. } | Action::Sync | Action::MakeDir => Ok(()),
         }
     }

@@ -9,24 +9,24 @@ use Rattle.std.specs.Prelude.{nat_lt, nat_le}
 use Rattle.link_source.specs.Streams.{Stream}
 use Rattle.span_map.specs.declared.jobs.JobPart.{JobPart}
 use Rattle.reply_reader.specs.Answers.{Turn, Due, Given, Away, Lost as LostTurn, Answer, without_bytes}
-use Rattle.reply_reader.specs.Fills.{Fills, AnswersFill}
+use Rattle.reply_reader.specs.Fills.{AnswerFills, AnswersFill}
 use Rattle.reply_reader.specs.declared.loss.Loss.{Loss}
 use Rattle.reply_reader.specs.declared.loss.Loss.TheVariants.{Redirects}
 use Rattle.request_chain.specs.Chains.{IsPart}
 use Rattle.request_chain.specs.Exchanges.{Replies}
 use Rattle.request_chain.specs.Fetched.{FetchedBy}
-use Rattle.request_chain.specs.Plans.{Ending, Done, Open, Lost, Plan, Ask, Over, plan_of, plan_behind, plan_at, behind, asked_of, next_plan, unusable}
+use Rattle.request_chain.specs.Plans.{Ending, Done, Open, Lost, Plan, Ask, Over, plan_of, plan_behind, plan_at, rest_behind, asked_of, next_plan, unusable}
 use Rattle.request_chain.specs.Redirects.{moved_to, redirect_limit}
-use Rattle.fetch_session.specs.Jobs.{len_of}
+use Rattle.fetch_session.specs.Jobs.{parts_len}
 use Rattle.fetch_session.specs.Lengths.{Fits, FetchedFits}
 
-len_of-cons : (part : JobPart) (parts : List JobPart) → len_of (part ∷ parts) ≡ part.len + len_of parts
+len_of-cons : (part : JobPart) (parts : List JobPart) → parts_len (part ∷ parts) ≡ part.len + parts_len parts
 len_of-cons part parts = sum_by-cons (λ (part : JobPart). part.len) part parts
 
 -- what came by a request, and the rest by other parts
-joined : (parts others : List JobPart) (got more : List ℕ) (ending : Ending) → length got + len_of others ≡ len_of parts → Fits others more ending → Fits parts (got ++ more) ending
+joined : (parts others : List JobPart) (got more : List ℕ) (ending : Ending) → length got + parts_len others ≡ parts_len parts → Fits others more ending → Fits parts (got ++ more) ending
 joined parts others got more ending is fits =
-    let few : length more ≤ len_of others = fits.few in
+    let few : length more ≤ parts_len others = fits.few in
     record {
       few = omega (arith, length-append got more, few, is);
       all = λ done. let all = fits.all done in omega (arith, length-append got more, all, is);
@@ -70,13 +70,13 @@ module _ (streams : List Stream) (fit : FitOver streams) (part : JobPart) (parts
   behind_fits got last begins ends is =
       let some : 0 < part.len = is_part.some in
       let within : part.at + part.len ≤ part.total = is_part.within in
-      cond_both (nat_lt last (part.at + part.len - 1)) (plan_of (behind part last ∷ parts)) (plan_of parts)
+      cond_both (nat_lt last (part.at + part.len - 1)) (plan_of (rest_behind part last ∷ parts)) (plan_of parts)
       (λ (plan : Plan). FetchedBy plan streams more ending [] → Fits (part ∷ parts) (got ++ more) ending)
       (λ less fetched.
       let below : last < part.at + part.len - 1 = grind (arith, nat_tests) in
-      let rest : IsPart (behind part last) = record { some = omega arith; within = omega arith } in
-      joined (part ∷ parts) (behind part last ∷ parts) got more ending (omega (arith, len_of-cons part parts, len_of-cons (behind part last) parts, is))
-      (fit (behind part last) parts part.url 0 0 more ending rest are fetched))
+      let rest : IsPart (rest_behind part last) = record { some = omega arith; within = omega arith } in
+      joined (part ∷ parts) (rest_behind part last ∷ parts) got more ending (omega (arith, len_of-cons part parts, len_of-cons (rest_behind part last) parts, is))
+      (fit (rest_behind part last) parts part.url 0 0 more ending rest are fetched))
       (λ all fetched.
       let at : part.at + part.len - 1 ≤ last = grind (arith, nat_tests) in
       joined (part ∷ parts) parts got more ending (omega (arith, len_of-cons part parts, is)) (plan_fits streams fit parts more ending are fetched))
@@ -103,13 +103,13 @@ module _ (streams : List Stream) (fit : FitOver streams) (part : JobPart) (parts
       (λ few fetched. at_fits got status (moved_to url location) none fetched)
 
   -- less than was asked for
-  short_got : (answer : Answer) → Fills (asked_of part) answer → answer.turn ≢ Given (part.at + part.len - 1) → length answer.got < part.len
+  short_got : (answer : Answer) → AnswerFills (asked_of part) answer → answer.turn ≢ Given (part.at + part.len - 1) → length answer.got < part.len
   short_got answer fills not =
       let some : 0 < part.len = is_part.some in
       let few : length answer.got ≤ part.at + part.len - 1 + 1 - part.at = fills.few in
       ⊎_elim (λ (less : length answer.got < part.len). less) (λ (ge : part.len ≤ length answer.got). absurd (not (fills.full (omega arith)))) (cases_lt (length answer.got) part.len)
 
-  turn_fits : (answer : Answer) (turn : Turn) → answer.turn ≡ turn → Fills (asked_of part) answer
+  turn_fits : (answer : Answer) (turn : Turn) → answer.turn ≡ turn → AnswerFills (asked_of part) answer
       → FetchedBy (next_plan part parts url count turn) streams more ending [] → Fits (part ∷ parts) (answer.got ++ more) ending
   turn_fits answer Due is fills fetched =
       cut_short part parts answer.got more ending fetched.0 (open_not_done ending fetched.1) (short_got answer fills (λ given. cc))
@@ -123,10 +123,10 @@ no_size : (at len : ℕ) → 0 < len → 0 ≡ at + len - 1 + 1 - at → ⊥
 no_size at len some is = omega arith
 
 -- a stream on which nothing was sent answers nothing
-nothing_fills : (part : JobPart) (answer : Answer) → IsPart part → answer ≡ without_bytes Due → Fills (asked_of part) answer
+nothing_fills : (part : JobPart) (answer : Answer) → IsPart part → answer ≡ without_bytes Due → AnswerFills (asked_of part) answer
 nothing_fills part answer is_part is =
     let some : 0 < part.len = is_part.some in
-    let P : Answer → Type 0 = Fills (asked_of part) in
+    let P : Answer → Type 0 = AnswerFills (asked_of part) in
     subst P (sym is) (record {
       few = zero-le;
       given = λ last given. cc;
@@ -135,7 +135,7 @@ nothing_fills part answer is_part is =
     })
 
 module _ (fill : AnswersFill) where
-  reply_fills : (part : JobPart) (url : List ℕ) (stream : Stream) (answer : Answer) → IsPart part → Replies url (asked_of part) stream answer → Fills (asked_of part) answer
+  reply_fills : (part : JobPart) (url : List ℕ) (stream : Stream) (answer : Answer) → IsPart part → Replies url (asked_of part) stream answer → AnswerFills (asked_of part) answer
   reply_fills part url stream answer is_part replies =
       let some : 0 < part.len = is_part.some in
       elim replies [

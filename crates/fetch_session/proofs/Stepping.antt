@@ -13,14 +13,14 @@ use Rattle.span_map.specs.declared.jobs.Job.{Job}
 use Rattle.span_map.specs.declared.jobs.JobPart.{JobPart}
 use Rattle.reply_reader.specs.declared.loss.Loss.{Loss}
 use Rattle.reply_reader.specs.declared.loss.Loss.TheVariants.{Link, NotFound, Refused, BadReply, Length, Short, Redirects, NoMemory}
-use Rattle.request_chain.specs.Chains.{IsPart, IsChain, Gains, Reads, Loses, TellsLoss, received_by}
+use Rattle.request_chain.specs.Chains.{IsPart, IsChain, Gains, ReadsChain, Loses, TellsLoss, received_by}
 use Rattle.request_chain.specs.Fetched.{Fetched}
 use Rattle.request_chain.specs.Plans.{Ending, Done, Open, Lost}
 use Rattle.request_chain.specs.declared.chain.Chain.{Chain}
 use Rattle.request_chain.specs.declared.chain.ChainRead.{ChainRead}
 use Rattle.fetch_session.specs.Blocks.{cut, run_start, ready_blocks, AreReady}
-use Rattle.fetch_session.specs.Fetches.{rest_of, IsShort, HasCome, IsFetch, SameButSpare, CountsNow, Steps, Fails}
-use Rattle.fetch_session.specs.Jobs.{IsJob, len_of}
+use Rattle.fetch_session.specs.Fetches.{rest_of, IsShort, HasCome, IsFetch, SameButSpare, CountsNow, FetchSteps, Fails}
+use Rattle.fetch_session.specs.Jobs.{IsJob, parts_len}
 use Rattle.fetch_session.specs.Lengths.{Fits, FetchedFits}
 use Rattle.fetch_session.specs.declared.fetch.Fetch.{Fetch}
 use Rattle.fetch_session.specs.declared.fetch.Got.{Got}
@@ -28,7 +28,7 @@ use Rattle.fetch_session.proofs.Counting.{ready_is}
 use Rattle.fetch_session.proofs.Cuts.{cut_next, cuts_ordered}
 
 -- the parts' bytes go on to the end of the run
-pub job_end : (job : Job) → BlocksFollow → IsJob job → run_start job.plan job.run + len_of job.parts ≡ cut job.plan (job.run.first + job.run.count)
+pub job_end : (job : Job) → BlocksFollow → IsJob job → run_start job.plan job.run + parts_len job.parts ≡ cut job.plan (job.run.first + job.run.count)
 job_end job follow is =
     let some : 0 < job.run.count = is.some in
     let within : job.run.first + job.run.count ≤ blocks_of job.plan.total job.plan.piece_len = is.within in
@@ -61,10 +61,10 @@ regroup a b c d = simp append_assoc
 
 module _ (fits : FetchedFits) (parts : List JobPart) (are : All IsPart parts) (later : List Stream) (bytes waiting : List ℕ) (ending : Ending) (fetched : Fetched parts later (bytes ++ waiting) ending []) where
   -- where as many bytes came as the parts have, all came, and none waits
-  whole_done : len_of parts ≤ length bytes → (ending ≡ Done) × Fetched parts later bytes Done []
+  whole_done : parts_len parts ≤ length bytes → (ending ≡ Done) × Fetched parts later bytes Done []
   whole_done whole =
       let f : Fits parts (bytes ++ waiting) ending = fits parts later (bytes ++ waiting) ending are fetched in
-      let few : length (bytes ++ waiting) ≤ len_of parts = f.few in
+      let few : length (bytes ++ waiting) ≤ parts_len parts = f.few in
       let none : waiting ≡ [] = nil_from_length waiting (omega (arith, length-append bytes waiting, few, whole)) in
       let done : ending ≡ Done = f.full (omega (arith, length-append bytes waiting, few, whole)) in
       let same : bytes ++ waiting ≡ bytes = ap (λ more. bytes ++ more) none ∙ append-nil bytes in
@@ -75,12 +75,12 @@ module _ (fits : FetchedFits) (parts : List JobPart) (are : All IsPart parts) (l
   -- all came, or the chain brings more
   decide_come : (chain : Chain) → (IsShort parts bytes → IsChain parts later bytes chain) → HasCome parts later bytes None chain
   decide_come chain more =
-      ⊎_elim (λ (short : length bytes < len_of parts). inr (short, more short)) (λ (whole : len_of parts ≤ length bytes). inl (whole_done whole).1) (cases_lt (length bytes) (len_of parts))
+      ⊎_elim (λ (short : length bytes < parts_len parts). inr (short, more short)) (λ (whole : parts_len parts ≤ length bytes). inl (whole_done whole).1) (cases_lt (length bytes) (parts_len parts))
 
 module _ (fits : FetchedFits) (follow : BlocksFollow) (job : Job) (used : List Stream) (handed : List ℕ) (old : Fetch) (is : IsFetch job used handed old) where
   -- how far what is held reaches
   reaches : (cut job.plan old.ready.first + length old.held.items ≡ run_start job.plan job.run + length (handed ++ old.held.items))
-      × (run_start job.plan job.run + len_of job.parts ≡ cut job.plan old.end)
+      × (run_start job.plan job.run + parts_len job.parts ≡ cut job.plan old.end)
   reaches =
       let at : run_start job.plan job.run + length handed ≡ cut job.plan old.ready.first = is.handed_is in
       let end = job_end job follow is.is_job ∙ ap (cut job.plan) (sym is.end_is) in
@@ -134,7 +134,7 @@ module _ (fits : FetchedFits) (follow : BlocksFollow) (job : Job) (used : List S
   pub chain_is : old.lost ≡ None → IsChain job.parts used (handed ++ old.held.items) old.chain
   chain_is none =
       let P : Option Loss → Type 0 = λ lost. HasCome job.parts used (handed ++ old.held.items) lost old.chain in
-      let short : length (handed ++ old.held.items) < len_of job.parts = short_by_room in
+      let short : length (handed ++ old.held.items) < parts_len job.parts = short_by_room in
       let came : HasCome job.parts used (handed ++ old.held.items) None old.chain = subst P none is.came in
       elim came [
         | inl all ↦ absurd (let full = (fits job.parts used (handed ++ old.held.items) Done is.is_job.parts all).all refl in omega (arith, short, full))
@@ -162,7 +162,7 @@ module _ (fits : FetchedFits) (follow : BlocksFollow) (job : Job) (used : List S
     joins added held_is = ap (λ more. handed ++ more) held_is ∙ sym (append_assoc handed old.held.items added)
 
     -- where the ready blocks are the last, all bytes came
-    last_whole : (is_new : IsFetch job later handed new) → new.ready.count ≡ (rest_of new).count → len_of job.parts ≤ length (handed ++ new.held.items)
+    last_whole : (is_new : IsFetch job later handed new) → new.ready.count ≡ (rest_of new).count → parts_len job.parts ≤ length (handed ++ new.held.items)
     last_whole is_new last =
         let left = some_left in
         let ready = plan_ready fits follow job later handed new is_new in
@@ -197,9 +197,9 @@ module _ (fits : FetchedFits) (follow : BlocksFollow) (job : Job) (used : List S
     (before now : List Stream) (faults allow : ℕ) (added : List ℕ) where
   -- a read that lost nothing
   pub steps_read : (got : Got) (read : ChainRead) → new.lost ≡ None → new.held.items ≡ old.held.items ++ added
-      → Reads job.parts before used (handed ++ old.held.items) now added room allow read new.chain
+      → ReadsChain job.parts before used (handed ++ old.held.items) now added room allow read new.chain
       → got.ready ≡ new.ready → got.taken ≡ read.taken → (IsTrue got.done ↔ (new.ready.count ≡ (rest_of new).count))
-      → Steps job before used handed now faults allow old got new
+      → FetchSteps job before used handed now faults allow old got new
   steps_read got read none held_is reads ready_is taken_is done_is =
       let parts : List JobPart = job.parts in
       let bytes : List ℕ = handed ++ new.held.items in
@@ -267,8 +267,8 @@ module _ (fits : FetchedFits) (follow : BlocksFollow) (job : Job) (used : List S
     lost_short =
         let told = tells_ending job.parts loses.later (handed ++ new.held.items) faults loss not_memory lost_tells in
         let f : Fits job.parts (handed ++ new.held.items) told.0 = fits job.parts loses.later (handed ++ new.held.items) told.0 is.is_job.parts told.2 in
-        let few : length (handed ++ new.held.items) ≤ len_of job.parts = f.few in
-        ⊎_elim (λ (less : length (handed ++ new.held.items) < len_of job.parts). less) (λ (ge : len_of job.parts ≤ length (handed ++ new.held.items)). absurd (told.1 (f.full (omega (arith, few, ge))))) (cases_lt (length (handed ++ new.held.items)) (len_of job.parts))
+        let few : length (handed ++ new.held.items) ≤ parts_len job.parts = f.few in
+        ⊎_elim (λ (less : length (handed ++ new.held.items) < parts_len job.parts). less) (λ (ge : parts_len job.parts ≤ length (handed ++ new.held.items)). absurd (told.1 (f.full (omega (arith, few, ge))))) (cases_lt (length (handed ++ new.held.items)) (parts_len job.parts))
 
     lost_fetch : IsFetch job loses.later handed new
     lost_fetch =
@@ -283,10 +283,10 @@ module _ (fits : FetchedFits) (follow : BlocksFollow) (job : Job) (used : List S
 
     -- blocks are ready
     pub steps_lost : (got : Got) → got.ready ≡ new.ready → got.taken ≡ new.chain.taken → (IsTrue got.done ↔ (new.ready.count ≡ (rest_of new).count)) → 0 < new.ready.count
-        → Steps job before used handed now faults allow old got new
+        → FetchSteps job before used handed now faults allow old got new
     steps_lost got ready_is taken_is done_is some =
         let told = tells_ending job.parts loses.later (handed ++ new.held.items) faults loss not_memory lost_tells in
-        let short : length (handed ++ new.held.items) < len_of job.parts = lost_short in
+        let short : length (handed ++ new.held.items) < parts_len job.parts = lost_short in
         let same : got.ready.count ≡ new.ready.count = ap (λ (r : Run). r.count) ready_is in
         let few : new.chain.taken ≤ allow = loses.few in
         record {
@@ -360,7 +360,7 @@ module _ (fits : FetchedFits) (follow : BlocksFollow) (job : Job) (used : List S
 
   -- nothing is left to read
   pub steps_over : (prior : Fetch) (got : Got) → old.lost ≡ None → old.ready.count ≡ 0 → cut old.plan old.ready.first + vec_len old.held + 0 ≡ cut old.plan (min (old.ready.first + 64) old.end)
-      → got.ready ≡ old.ready → got.taken ≡ 0 → (IsTrue got.done ↔ (old.ready.count ≡ (rest_of old).count)) → Steps job before used handed now faults allow prior got old
+      → got.ready ≡ old.ready → got.taken ≡ 0 → (IsTrue got.done ↔ (old.ready.count ≡ (rest_of old).count)) → FetchSteps job before used handed now faults allow prior got old
   steps_over prior got lost_is none no_room ready_is taken_is done_is =
       let ready = plan_ready fits follow job used handed old is in
       let len : vec_len old.held ≡ length old.held.items = old.held.ok.0 in
@@ -415,8 +415,8 @@ same_fetch job used handed old new same is =
 
 -- what a step gained from the fetch with its second buffer, it gained from the fetch before
 pub stepped : (job : Job) (before used : List Stream) (handed : List ℕ) (now : List Stream) (faults allow : ℕ) (old mid : Fetch) (result : Result Got Loss) (new : Fetch) → mid.lost ≡ old.lost
-    → MatchResult result (λ got. Steps job before used handed now faults allow mid got new) (λ loss. Fails job before handed now faults mid loss new)
-    → MatchResult result (λ got. Steps job before used handed now faults allow old got new) (λ loss. Fails job before handed now faults old loss new)
+    → MatchResult result (λ got. FetchSteps job before used handed now faults allow mid got new) (λ loss. Fails job before handed now faults mid loss new)
+    → MatchResult result (λ got. FetchSteps job before used handed now faults allow old got new) (λ loss. Fails job before handed now faults old loss new)
 stepped job before used handed now faults allow old mid (Ok got) new same steps = record {
   later = steps.later;
   gains = steps.gains;

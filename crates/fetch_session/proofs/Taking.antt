@@ -16,7 +16,7 @@ use Rattle.request_chain.specs.Plans.{Done}
 use Rattle.request_chain.specs.declared.chain.Chain.{Chain}
 use Rattle.fetch_session.specs.Blocks.{cut, run_start, run_end, AreReady}
 use Rattle.fetch_session.specs.Fetches.{HasCome, IsFetch}
-use Rattle.fetch_session.specs.Jobs.{IsJob, len_of}
+use Rattle.fetch_session.specs.Jobs.{IsJob, parts_len}
 use Rattle.fetch_session.specs.declared.fetch.Fetch.{Fetch}
 use Rattle.fetch_session.proofs.Cuts.{cut_inside, cut_next, cut_grows, cuts_ordered}
 use Rattle.fetch_session.proofs.Stepping.{job_end}
@@ -62,7 +62,7 @@ begun_fetch job new follow is plan_is end_is first_is none_held none_lost chain 
     let start : cut job.plan job.run.first ≡ run_start job.plan job.run = cut_inside job.plan job.run.first (omega arith) in
     let grows = (cut_grows job.plan job.run.first follow (omega arith)).0 in
     let far = (cuts_ordered job.plan (job.run.first + 1) (job.run.first + job.run.count) follow (omega arith) within).0 in
-    let short : 0 < len_of job.parts = omega (arith, end, start, grows, far) in
+    let short : 0 < parts_len job.parts = omega (arith, end, start, grows, far) in
     let first : cut job.plan new.ready.first ≡ cut job.plan job.run.first = ap (cut job.plan) first_is in
     let H : List ℕ → Type 0 = λ items. HasCome job.parts [] items new.lost new.chain in
     let L : Option Loss → Type 0 = λ lost. HasCome job.parts [] [] lost new.chain in
@@ -77,10 +77,10 @@ begun_fetch job new follow is plan_is end_is first_is none_held none_lost chain 
     }
 
 -- where as many bytes came as the parts have, all came
-whole_come : (parts : List JobPart) (used : List Stream) (bytes : List ℕ) (lost : Option Loss) (chain : Chain) → len_of parts ≤ length bytes → HasCome parts used bytes lost chain
+whole_come : (parts : List JobPart) (used : List Stream) (bytes : List ℕ) (lost : Option Loss) (chain : Chain) → parts_len parts ≤ length bytes → HasCome parts used bytes lost chain
     → Fetched parts used bytes Done []
-whole_come parts used bytes None chain whole came = elim came [ inl all ↦ all | inr more ↦ absurd (let short : length bytes < len_of parts = more.0 in omega arith) ]
-whole_come parts used bytes (Some loss) chain whole came = absurd (let short : length bytes < len_of parts = came.0 in omega arith)
+whole_come parts used bytes None chain whole came = elim came [ inl all ↦ all | inr more ↦ absurd (let short : length bytes < parts_len parts = more.0 in omega arith) ]
+whole_come parts used bytes (Some loss) chain whole came = absurd (let short : length bytes < parts_len parts = came.0 in omega arith)
 
 pub taken_fetch : (job : Job) (used : List Stream) (handed : List ℕ) (old new : Fetch) (blocks : List ℕ) → BlocksFollow
     → new.plan ≡ old.plan → new.end ≡ old.end → new.ready.first ≡ old.ready.first + old.ready.count → new.chain ≡ old.chain → new.lost ≡ old.lost

@@ -12,12 +12,12 @@ use Rattle.request_chain.specs.Fetched.{Fetched}
 use Rattle.request_chain.specs.Plans.{Ending, Done}
 use Rattle.request_chain.specs.declared.chain.Chain.{Chain}
 use Rattle.fetch_session.specs.Blocks.{cut, run_start, ready_blocks}
-use Rattle.fetch_session.specs.Jobs.{IsJob, len_of}
+use Rattle.fetch_session.specs.Jobs.{IsJob, parts_len}
 use Rattle.fetch_session.specs.declared.fetch.Fetch.{Fetch}
 use Rattle.fetch_session.specs.declared.fetch.Got.{Got}
 
-abbrev pub plan_of : Fetch → Plan
-plan_of fetch = fetch.plan
+abbrev pub fetch_plan : Fetch → Plan
+fetch_plan fetch = fetch.plan
 
 -- the blocks that weren't handed out
 abbrev pub rest_of : Fetch → Run
@@ -42,7 +42,7 @@ pub record SameButSpare (old new : Fetch) : Type 0 where
 
 -- more bytes than these are to come
 abbrev pub IsShort : List JobPart → List ℕ → Type 0
-IsShort parts bytes = length bytes < len_of parts
+IsShort parts bytes = length bytes < parts_len parts
 
 -- these bytes came over these streams: all, or the chain brings more, or the rest is lost
 abbrev pub HasCome : List JobPart → List Stream → List ℕ → Option Loss → Chain → Type 0
@@ -64,7 +64,7 @@ abbrev pub CountsNow : Fetch → ℕ → Fetch → Type 0
 CountsNow old faults new = lost_of old ≡ None → (count : ℕ) → lost_of new ≡ Some (Link count) → count ≡ faults
 
 -- What a step gained: came is what came and wasn't handed out.
-pub record Steps (job : Job) (before used : List Stream) (handed : List ℕ) (now : List Stream) (faults allow : ℕ) (old : Fetch) (got : Got) (new : Fetch) : Type 0 where
+pub record FetchSteps (job : Job) (before used : List Stream) (handed : List ℕ) (now : List Stream) (faults allow : ℕ) (old : Fetch) (got : Got) (new : Fetch) : Type 0 where
   pub later : List Stream
   pub gains : Gains before now later
   pub is_fetch : IsFetch job later handed new

@@ -5,13 +5,13 @@ use Rattle.span_map.specs.declared.jobs.JobPart.{JobPart}
 use Rattle.request_chain.specs.Chains.{IsPart}
 use Rattle.request_chain.specs.Fetched.{Fetched}
 use Rattle.request_chain.specs.Plans.{Ending, Done}
-use Rattle.fetch_session.specs.Jobs.{len_of}
+use Rattle.fetch_session.specs.Jobs.{parts_len}
 
 -- no more than the parts have, and as many exactly where all came
 pub record Fits (parts : List JobPart) (bytes : List ℕ) (ending : Ending) : Type 0 where
-  pub few : length bytes ≤ len_of parts
-  pub all : ending ≡ Done → length bytes ≡ len_of parts
-  pub full : length bytes ≡ len_of parts → ending ≡ Done
+  pub few : length bytes ≤ parts_len parts
+  pub all : ending ≡ Done → length bytes ≡ parts_len parts
+  pub full : length bytes ≡ parts_len parts → ending ≡ Done
 
 -- where all of the parts were asked for over these streams
 abbrev pub FetchedFits : Type 0

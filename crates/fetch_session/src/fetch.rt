@@ -55,14 +55,14 @@ impl Fetch {
     ghost use Rattle.request_chain.specs.Honest.{AreHonest};
     ghost use Rattle.span_map.specs.declared.jobs.Job.{Job};
     ghost use Rattle.fetch_session.specs.Blocks.{cut, run_start, run_end};
-    ghost use Rattle.fetch_session.specs.Fetches.{plan_of, rest_of, ready_of, lost_of, IsFetch, SameButSpare, Steps, Fails};
+    ghost use Rattle.fetch_session.specs.Fetches.{fetch_plan, rest_of, ready_of, lost_of, IsFetch, SameButSpare, FetchSteps, Fails};
     ghost use Rattle.fetch_session.specs.Jobs.{IsJob};
 
     /// Begins the fetch of a run, with the parts of resources that are its bytes.
     pub fn begin(job: Job, room: FetchRoom) -> Fetch
         requires { IsJob job }
         ensures fetch { IsFetch job [] [] result }
-        ensures plan { plan_of result ≡ job.plan }
+        ensures plan { fetch_plan result ≡ job.plan }
         ensures rest { rest_of result ≡ job.run }
         ensures none_ready { (ready_of result).count ≡ 0 }
         ensures none_lost { lost_of result ≡ None }
@@ -114,9 +114,9 @@ impl Fetch {
         ensures reads { IsTrue L.tells → (job : Job) (before used : List Stream) (handed : List ℕ)
             → IsFetch job used handed self.old → Gains before (L.streams link.old) used
             → MatchResult result
-            (λ got. Steps job before used handed (L.streams link.new) (L.faults link.new) allow self.old got self.new)
+            (λ got. FetchSteps job before used handed (L.streams link.new) (L.faults link.new) allow self.old got self.new)
             (λ loss. Fails job before handed (L.streams link.new) (L.faults link.new) self.old loss self.new) }
-        ensures plan { plan_of self.new ≡ plan_of self.old }
+        ensures plan { fetch_plan self.new ≡ fetch_plan self.old }
         ensures rest { rest_of self.new ≡ rest_of self.old }
 
         // The ready blocks are the first ones that weren't handed out.
@@ -188,9 +188,9 @@ impl Fetch {
         ensures reads { IsTrue L.tells → (job : Job) (before used : List Stream) (handed : List ℕ)
             → IsFetch job used handed self.old → Gains before (L.streams link.old) used
             → MatchResult result
-            (λ got. Steps job before used handed (L.streams link.new) (L.faults link.new) allow self.old got self.new)
+            (λ got. FetchSteps job before used handed (L.streams link.new) (L.faults link.new) allow self.old got self.new)
             (λ loss. Fails job before handed (L.streams link.new) (L.faults link.new) self.old loss self.new) }
-        ensures plan { plan_of self.new ≡ plan_of self.old }
+        ensures plan { fetch_plan self.new ≡ fetch_plan self.old }
         ensures rest { rest_of self.new ≡ rest_of self.old }
         ensures ready { IfOk result (λ got. got.ready ≡ ready_of self.new) }
         ensures within { (ready_of self.new).count ≤ (rest_of self.new).count }
@@ -244,11 +244,11 @@ impl Fetch {
         requires { 0 < (ready_of self.old).count }
         ensures takes { (job : Job) (used : List Stream) (handed : List ℕ)
             → IsFetch job used handed self.old → IsFetch job used (handed ++ result) self.new }
-        ensures len { run_start (plan_of self.old) (ready_of self.old) + length result
-            ≡ run_end (plan_of self.old) (ready_of self.old) }
-        ensures place { cut (plan_of self.old) (rest_of self.old).first + length result
-            ≡ cut (plan_of self.new) (rest_of self.new).first }
-        ensures plan { plan_of self.new ≡ plan_of self.old }
+        ensures len { run_start (fetch_plan self.old) (ready_of self.old) + length result
+            ≡ run_end (fetch_plan self.old) (ready_of self.old) }
+        ensures place { cut (fetch_plan self.old) (rest_of self.old).first + length result
+            ≡ cut (fetch_plan self.new) (rest_of self.new).first }
+        ensures plan { fetch_plan self.new ≡ fetch_plan self.old }
         ensures rest_first { (rest_of self.new).first ≡ (rest_of self.old).first + (ready_of self.old).count }
         ensures rest_count { (rest_of self.new).count + (ready_of self.old).count ≡ (rest_of self.old).count }
         ensures none_ready { (ready_of self.new).count ≡ 0 }
@@ -272,7 +272,7 @@ impl Fetch {
     pub fn give_back(&mut self, room: Blob)
         ensures fetch { (job : Job) (used : List Stream) (handed : List ℕ)
             → IsFetch job used handed self.old → IsFetch job used handed self.new }
-        ensures plan { plan_of self.new ≡ plan_of self.old }
+        ensures plan { fetch_plan self.new ≡ fetch_plan self.old }
         ensures rest { rest_of self.new ≡ rest_of self.old }
         ensures ready { ready_of self.new ≡ ready_of self.old }
         ensures lost { lost_of self.new ≡ lost_of self.old }

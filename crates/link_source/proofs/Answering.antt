@@ -8,9 +8,9 @@ use Rattle.std.specs.Prelude.{nat_lt}
 use Rattle.std.specs.Str.{bytes_eq}
 use Rattle.link_source.proofs.Reading.{asks_once}
 use Rattle.link_source.specs.BadAnswers.{IsUsed, next_bad}
-use Rattle.link_source.specs.Memory.{mirror_of, contents_of, UsesNext, Gives}
+use Rattle.link_source.specs.Memory.{mirror_of, contents_of, UsesNext, GivesText}
 use Rattle.link_source.specs.Mirrors.{Mirror, bad_at, mirror_reply, reply_of}
-use Rattle.link_source.specs.Replies.{bare, text_under}
+use Rattle.link_source.specs.Replies.{bare_reply, text_under}
 use Rattle.link_source.specs.Requests.{Asks}
 use Rattle.link_source.specs.declared.bad_answers.Bad.{Bad}
 use Rattle.link_source.specs.declared.mirrors.MemMirror.{MemMirror}
@@ -35,14 +35,14 @@ position-map f test xs =
 -- what stands at a host and a port replies
 pub replies : (mirrors : List MemMirror) (host : List ℕ) (port : ℕ) (found : Option MemMirror) (target : List ℕ) (first last : ℕ)
     → found ≡ find (λ mirror. (mirror.port == port) && bytes_eq mirror.host host) mirrors
-    → reply_of (contents_of mirrors [] []) host port target first last ≡ option_map_or (λ mirror. mirror_reply (mirror_of mirror) target first last) found (bare [])
+    → reply_of (contents_of mirrors [] []) host port target first last ≡ option_map_or (λ mirror. mirror_reply (mirror_of mirror) target first last) found (bare_reply [])
 replies mirrors host port found target first last is =
-    ap (λ (at : Option Mirror). option_map_or (λ mirror. mirror_reply mirror target first last) at (bare []))
+    ap (λ (at : Option Mirror). option_map_or (λ mirror. mirror_reply mirror target first last) at (bare_reply []))
     (find-map mirror_of (λ (mirror : Mirror). (mirror.port == port) && bytes_eq mirror.host host) mirrors ∙ ap (option_map mirror_of) (sym is))
     ∙ mapped found
   where
-    mapped : (at : Option MemMirror) → option_map_or (λ mirror. mirror_reply mirror target first last) (option_map mirror_of at) (bare [])
-        ≡ option_map_or (λ mirror. mirror_reply (mirror_of mirror) target first last) at (bare [])
+    mapped : (at : Option MemMirror) → option_map_or (λ mirror. mirror_reply mirror target first last) (option_map mirror_of at) (bare_reply [])
+        ≡ option_map_or (λ mirror. mirror_reply (mirror_of mirror) target first last) at (bare_reply [])
     mapped None = refl
     mapped (Some mirror) = refl
 
@@ -73,7 +73,7 @@ pub answered : (mirrors : List MemMirror) (left used : List Bad) (host : List �
     → number ≡ position (λ mirror. (mirror.port == port) && bytes_eq mirror.host host) mirrors
     → next ≡ option_and_then (next_bad left) number
     → text ≡ text_under next (reply_of (contents_of mirrors [] []) host port target first last)
-    → Gives mirrors left used host port bytes text number
+    → GivesText mirrors left used host port bytes text number
 answered mirrors left used host port bytes target text first last number next asks number_is next_is text_is new_left new_used uses =
     let old = contents_of mirrors left used in
     let there : bad_at old host port ≡ option_and_then (next_bad left) number =
@@ -93,7 +93,7 @@ answered mirrors left used host port bytes target text first last number next as
 
 -- and to anything else
 pub unanswered : (mirrors : List MemMirror) (left used : List Bad) (host : List ℕ) (port : ℕ) (bytes : List ℕ)
-    → ((target : List ℕ) (first last : ℕ) → Asks host port target first last bytes → ⊥) → Gives mirrors left used host port bytes [] None
+    → ((target : List ℕ) (first last : ℕ) → Asks host port target first last bytes → ⊥) → GivesText mirrors left used host port bytes [] None
 unanswered mirrors left used host port bytes never new_left new_used uses = record {
   asked = λ target first last asks. absurd (never target first last asks);
   used = λ target first last _ asks _. absurd (never target first last asks);

@@ -3,7 +3,7 @@ use Rattle.std.proofs.Common.{◌≡◌, ℕ, ◌+◌, ◌-◌, Bool, true, fals
 use Rattle.std.specs.Fmt.{decimal}
 use Rattle.std.specs.Prelude.{codes}
 use Rattle.link_source.specs.Replies.{length_line, no_content_line, moved, not_satisfiable, part_head, whole_head, status_head}
-use Rattle.link_source.specs.Requests.{line}
+use Rattle.link_source.specs.Requests.{ended_line}
 
 -- a line with a value between two texts, and then a text
 valued : (status name value line_end length_line empty : List ℕ)
@@ -14,16 +14,16 @@ pub not_satisfiable-text : (total : ℕ)
     → codes "HTTP/1.1 416 Range Not Satisfiable\r\nContent-Range: bytes */" ++ (decimal total ++ codes "\r\nContent-Length: 0\r\n\r\n") ≡ not_satisfiable total
 unfolding not_satisfiable
 not_satisfiable-text total =
-    valued (line (codes "HTTP/1.1 416 Range Not Satisfiable")) (codes "Content-Range: bytes */") (decimal total) (codes "\r\n") no_content_line (line [])
+    valued (ended_line (codes "HTTP/1.1 416 Range Not Satisfiable")) (codes "Content-Range: bytes */") (decimal total) (codes "\r\n") no_content_line (ended_line [])
 
 pub moved-text : (location : List ℕ)
     → codes "HTTP/1.1 302 Found\r\nLocation: " ++ (location ++ codes "\r\nContent-Length: 0\r\n\r\n") ≡ moved location
 unfolding moved
-moved-text location = valued (line (codes "HTTP/1.1 302 Found")) (codes "Location: ") location (codes "\r\n") no_content_line (line [])
+moved-text location = valued (ended_line (codes "HTTP/1.1 302 Found")) (codes "Location: ") location (codes "\r\n") no_content_line (ended_line [])
 
 pub status-text : (status : ℕ) → codes "HTTP/1.1 " ++ (decimal status ++ codes " \r\nContent-Length: 0\r\n\r\n") ≡ status_head status
 unfolding status_head
-status-text status = joined (codes "HTTP/1.1 ") (decimal status) (codes " ") (codes "\r\n") no_content_line (line [])
+status-text status = joined (codes "HTTP/1.1 ") (decimal status) (codes " ") (codes "\r\n") no_content_line (ended_line [])
   where
     joined : (version status space line_end length_line empty : List ℕ)
         → version ++ (status ++ (space ++ (line_end ++ (length_line ++ empty)))) ≡ ((version ++ status ++ space) ++ line_end) ++ length_line ++ empty
@@ -34,8 +34,8 @@ pub part_head-text : (chunked : Bool) (first last total : ℕ)
     ++ (codes "\r\n" ++ (length_line chunked (last + 1 - first) ++ codes "\r\n"))))))) ≡ part_head chunked first last total
 unfolding part_head
 part_head-text chunked first last total =
-    joined (line (codes "HTTP/1.1 206 Partial Content")) (codes "Content-Range: bytes ") (decimal first) (codes "-") (decimal last) (codes "/") (decimal total)
-    (codes "\r\n") (length_line chunked (last + 1 - first)) (line [])
+    joined (ended_line (codes "HTTP/1.1 206 Partial Content")) (codes "Content-Range: bytes ") (decimal first) (codes "-") (decimal last) (codes "/") (decimal total)
+    (codes "\r\n") (length_line chunked (last + 1 - first)) (ended_line [])
   where
     joined : (status range first dash last slash total line_end length_line empty : List ℕ)
         → (status ++ range) ++ (first ++ (dash ++ (last ++ (slash ++ (total ++ (line_end ++ (length_line ++ empty)))))))
@@ -44,7 +44,7 @@ part_head-text chunked first last total =
 
 pub whole_head-told : (total : ℕ) → codes "HTTP/1.1 200 OK\r\nContent-Length: " ++ (decimal total ++ codes "\r\n\r\n") ≡ whole_head true total
 unfolding whole_head
-whole_head-told total = joined (line (codes "HTTP/1.1 200 OK")) (codes "Content-Length: ") (decimal total) (codes "\r\n") (line [])
+whole_head-told total = joined (ended_line (codes "HTTP/1.1 200 OK")) (codes "Content-Length: ") (decimal total) (codes "\r\n") (ended_line [])
   where
     joined : (status name value line_end empty : List ℕ) → (status ++ name) ++ (value ++ (line_end ++ empty)) ≡ status ++ ((name ++ value) ++ line_end) ++ empty
     joined status name value line_end empty = simp append_assoc

@@ -6,7 +6,7 @@ use Rattle.std.specs.Prelude.{codes}
 use Rattle.link_source.proofs.Numbers.{one_number}
 use Rattle.link_source.specs.Endpoint.{host_value}
 use Rattle.link_source.specs.Reading.{between_of, spelled}
-use Rattle.link_source.specs.Requests.{Asks, AsksOnce, line, request_of}
+use Rattle.link_source.specs.Requests.{Asks, AsksOnce, ended_line, request_of}
 
 -- no request has these bytes
 abbrev pub NoRequest : List ℕ → List ℕ → Type 0
@@ -58,15 +58,15 @@ pub no_between : (between bytes front : List ℕ) (read_first read_last : ℕ) �
 no_between between bytes front read_first read_last is none target first last small_first small_last same =
     none (codes "GET " ++ target) (request_read between bytes front target read_first read_last first last is small_first small_last same).0
 
-pub no_method : (between bytes front line : List ℕ) (read_first read_last : ℕ) → Numbered bytes front read_first read_last → front ≡ line ++ between
-    → ((target : List ℕ) → line ≢ codes "GET " ++ target) → NoRequest between bytes
-no_method between bytes front line read_first read_last is split none target first last small_first small_last same =
+pub no_method : (between bytes front head_line : List ℕ) (read_first read_last : ℕ) → Numbered bytes front read_first read_last → front ≡ head_line ++ between
+    → ((target : List ℕ) → head_line ≢ codes "GET " ++ target) → NoRequest between bytes
+no_method between bytes front head_line read_first read_last is split none target first last small_first small_last same =
     none target (append_cancel_right _ _ between (sym split ∙ (request_read between bytes front target read_first read_last first last is small_first small_last same).0))
 
-pub is_request : (between bytes front line target : List ℕ) (first last : ℕ) → Numbered bytes front first last → front ≡ line ++ between → line ≡ codes "GET " ++ target
+pub is_request : (between bytes front head_line target : List ℕ) (first last : ℕ) → Numbered bytes front first last → front ≡ head_line ++ between → head_line ≡ codes "GET " ++ target
     → bytes ≡ spelled between target first last
 unfolding spelled
-is_request between bytes front line target first last is split method = is.text ∙ cc
+is_request between bytes front head_line target first last is split method = is.text ∙ cc
 
 spelled_text : (between target : List ℕ) (first last : ℕ) → spelled between target first last ≡ codes "GET " ++ target ++ between ++ 61 ∷ [] ++ decimal first ++ 45 ∷ [] ++ decimal last ++ codes "\r\n\r\n"
 unfolding spelled
@@ -105,8 +105,8 @@ request_spelled : (host target : List ℕ) (first last : ℕ) → request_of hos
 unfolding request_of spelled between_of
 request_spelled host target first last =
     regrouped (codes "GET ") target (codes " HTTP/1.1") (codes "\r\n") (codes "Host: ") host
-    (line (codes "User-Agent: aria_cli")) (line (codes "Accept: */*")) (line (codes "Accept-Encoding: identity"))
-    (codes "Range: bytes=") (decimal first) (codes "-") (decimal last) (line [])
+    (ended_line (codes "User-Agent: aria_cli")) (ended_line (codes "Accept: */*")) (ended_line (codes "Accept-Encoding: identity"))
+    (codes "Range: bytes=") (decimal first) (codes "-") (decimal last) (ended_line [])
     (codes "\r\nUser-Agent: aria_cli\r\nAccept: */*\r\nAccept-Encoding: identity\r\nRange: bytes") (codes "=") refl
 
 pub asks_read : (host : List ℕ) (port : ℕ) (between bytes target : List ℕ) (first last : ℕ) → between ≡ between_of (host_value host port)

@@ -4,15 +4,15 @@ use Rattle.std.specs.Fmt.{digits}
 use Rattle.std.specs.Int.{div_ceil}
 use Rattle.std.specs.List.{range_with_len}
 use Rattle.dl_words.specs.Lists.{part_at}
-use Rattle.link_source.specs.Requests.{line}
+use Rattle.link_source.specs.Requests.{ended_line}
 
 -- the size in hexadecimal digits, and the bytes
 abbrev pub chunk : List ℕ → List ℕ
-chunk bytes = line (digits 16 false (length bytes)) ++ line bytes
+chunk bytes = ended_line (digits 16 false (length bytes)) ++ ended_line bytes
 
 -- a chunk of no byte, and no trailer
 abbrev pub last_chunk : List ℕ
-last_chunk = line (codes "0") ++ line []
+last_chunk = ended_line (codes "0") ++ ended_line []
 
 -- the chunk of this number: 4,096 bytes, or those that are left
 abbrev pub chunk_at : List ℕ → ℕ → List ℕ

@@ -1,7 +1,7 @@
 -- What the parts of links in memory show.
 use Rattle.std.specs.Prelude.{◌≡◌, ℕ, List, ◌∷◌, Option, Some, None, MatchOption, reverse, map}
 use Rattle.link_source.specs.BadAnswers.{IsUsed, next_bad}
-use Rattle.link_source.specs.Mirrors.{Content, Mirror, Answers}
+use Rattle.link_source.specs.Mirrors.{Content, Mirror, HasReply}
 use Rattle.link_source.specs.Replies.{Reply}
 use Rattle.link_source.specs.Streams.{Stream}
 use Rattle.link_source.specs.declared.bad_answers.Bad.{Bad}
@@ -29,10 +29,10 @@ UsesNext (Some mirror) left used new_left new_used =
     MatchOption (next_bad left mirror) ((new_left ≡ left) × (new_used ≡ used)) (λ bad. IsUsed left used bad new_left new_used)
 
 -- the text that this host and port give to bytes, whatever mirror's next bad answer is used then
-abbrev pub Gives : List MemMirror → List Bad → List Bad → List ℕ → ℕ → List ℕ → List ℕ → Option ℕ → Type 0
-Gives mirrors left used host port bytes text mirror =
+abbrev pub GivesText : List MemMirror → List Bad → List Bad → List ℕ → ℕ → List ℕ → List ℕ → Option ℕ → Type 0
+GivesText mirrors left used host port bytes text mirror =
     (new_left new_used : List Bad) → UsesNext mirror left used new_left new_used
-    → Answers (contents_of mirrors left used) host port bytes text (contents_of mirrors new_left new_used)
+    → HasReply (contents_of mirrors left used) host port bytes text (contents_of mirrors new_left new_used)
 
 abbrev pub sent_of : Sent → ℕ × List ℕ
 sent_of sent = (sent.at, sent.bytes.items)

@@ -4,7 +4,7 @@ use Rattle.std.specs.Option.{option_map_or}
 use Rattle.std.specs.Str.{bytes_eq}
 use Rattle.link_source.specs.BadAnswers.{IsUsed, next_bad}
 use Rattle.link_source.specs.Endpoint.{host_value}
-use Rattle.link_source.specs.Replies.{Reply, bare, text_under, not_found, moved, ranges_reply, whole_reply}
+use Rattle.link_source.specs.Replies.{Reply, bare_reply, text_under, not_found, moved, ranges_reply, whole_reply}
 use Rattle.link_source.specs.Requests.{Asks, request_of}
 use Rattle.link_source.specs.Streams.{Stream}
 use Rattle.link_source.specs.declared.bad_answers.Bad.{Bad}
@@ -51,8 +51,8 @@ content_reply ToEnd bytes first last = whole_reply false bytes
 
 -- what it replies where this stands at the target
 abbrev pub reply_by : Manner → Option MemFile → ℕ → ℕ → Reply
-reply_by manner None first last = bare not_found
-reply_by manner (Some (Moved location)) first last = bare (moved location)
+reply_by manner None first last = bare_reply not_found
+reply_by manner (Some (Moved location)) first last = bare_reply (moved location)
 reply_by manner (Some (Bytes bytes)) first last = content_reply manner bytes first last
 
 abbrev pub mirror_reply : Mirror → List ℕ → ℕ → ℕ → Reply
@@ -61,7 +61,7 @@ mirror_reply mirror target first last = reply_by mirror.manner (file_at mirror.f
 -- the true reply of the first mirror of this host and port
 abbrev pub reply_of : Content → List ℕ → ℕ → List ℕ → ℕ → ℕ → Reply
 reply_of content host port target first last =
-    option_map_or (λ mirror. mirror_reply mirror target first last) (mirror_at content.mirrors host port) (bare [])
+    option_map_or (λ mirror. mirror_reply mirror target first last) (mirror_at content.mirrors host port) (bare_reply [])
 
 -- the bad answer that is next there
 abbrev pub bad_at : Content → List ℕ → ℕ → Option Bad
@@ -69,7 +69,7 @@ bad_at content host port = option_and_then (next_bad content.bad) (number_at con
 
 -- The reply that a host and a port give to bytes, and what the mirrors hold then. A request gets the true reply, or the
 -- next bad answer in its place where one is left, which is used then. Other bytes get none.
-pub record Answers (old : Content) (host : List ℕ) (port : ℕ) (bytes reply : List ℕ) (new : Content) : Type 0 where
+pub record HasReply (old : Content) (host : List ℕ) (port : ℕ) (bytes reply : List ℕ) (new : Content) : Type 0 where
   pub asked : (target : List ℕ) (first last : ℕ) → Asks host port target first last bytes
       → reply ≡ text_under (bad_at old host port) (reply_of old host port target first last)
   pub used : (target : List ℕ) (first last : ℕ) (bad : Bad) → Asks host port target first last bytes → bad_at old host port ≡ Some bad
@@ -81,11 +81,11 @@ pub record Answers (old : Content) (host : List ℕ) (port : ℕ) (bytes reply :
 -- a request gets the reply to what it asks for, or the bad answer in its place
 abbrev pub AnswersRequests : Type 0
 AnswersRequests = (old new : Content) (host target reply : List ℕ) (port first last : ℕ) → first ≤ last → last < 2 ^ 64
-    → Answers old host port (request_of (host_value host port) target first last) reply new
+    → HasReply old host port (request_of (host_value host port) target first last) reply new
     → reply ≡ text_under (bad_at old host port) (reply_of old host port target first last)
 
 -- the newest stream gets a reply to the bytes, behind what it has still to give
 abbrev pub AddsReply : List Stream → List ℕ → Content → Content → List ℕ → List ℕ → Type 0
 AddsReply [] bytes content new_content due new_due = ⊥
 AddsReply (newest ∷ older) bytes content new_content due new_due =
-    (reply : List ℕ) × Answers content newest.host newest.port bytes reply new_content × (new_due ≡ due ++ reply)
+    (reply : List ℕ) × HasReply content newest.host newest.port bytes reply new_content × (new_due ≡ due ++ reply)

@@ -4,7 +4,7 @@ use Rattle.std.specs.Prelude.{ℕ, ◌-◌, ◌+◌, Bool, true, false, List, []
 use Rattle.std.specs.Fmt.{decimal}
 use Rattle.dl_words.specs.Lists.{part_at}
 use Rattle.link_source.specs.Chunks.{in_chunks}
-use Rattle.link_source.specs.Requests.{line}
+use Rattle.link_source.specs.Requests.{ended_line}
 use Rattle.link_source.specs.declared.bad_answers.Bad.{Bad}
 use Rattle.link_source.specs.declared.bad_answers.BadKind.{BadKind}
 use Rattle.link_source.specs.declared.bad_answers.BadKind.TheVariants.{Status, Cut, Flip}
@@ -19,8 +19,8 @@ pub record Reply : Type 0 where
   pub chunked : Bool
 
 -- a reply without content
-abbrev pub bare : List ℕ → Reply
-bare head = record { head = head; place = 0; content = []; chunked = false }
+abbrev pub bare_reply : List ℕ → Reply
+bare_reply head = record { head = head; place = 0; content = []; chunked = false }
 
 -- the content as it is sent
 abbrev pub body_text : Reply → List ℕ
@@ -32,35 +32,35 @@ text_of reply = reply.head ++ body_text reply
 -- ---- the true ones
 
 abbrev pub no_content_line : List ℕ
-no_content_line = line (codes "Content-Length: 0")
+no_content_line = ended_line (codes "Content-Length: 0")
 
 -- how the length of the content is told
 abbrev pub length_line : Bool → ℕ → List ℕ
-length_line true length = line (codes "Transfer-Encoding: chunked")
-length_line false length = line (codes "Content-Length: " ++ decimal length)
+length_line true length = ended_line (codes "Transfer-Encoding: chunked")
+length_line false length = ended_line (codes "Content-Length: " ++ decimal length)
 
 unfoldable pub not_found : List ℕ
-not_found = line (codes "HTTP/1.1 404 Not Found") ++ no_content_line ++ line []
+not_found = ended_line (codes "HTTP/1.1 404 Not Found") ++ no_content_line ++ ended_line []
 
 -- the resource stands elsewhere
 unfoldable pub moved : List ℕ → List ℕ
-moved location = line (codes "HTTP/1.1 302 Found") ++ line (codes "Location: " ++ location) ++ no_content_line ++ line []
+moved location = ended_line (codes "HTTP/1.1 302 Found") ++ ended_line (codes "Location: " ++ location) ++ no_content_line ++ ended_line []
 
 -- no part of a resource of this length was asked for
 unfoldable pub not_satisfiable : ℕ → List ℕ
 not_satisfiable total =
-    line (codes "HTTP/1.1 416 Range Not Satisfiable")
-    ++ line (codes "Content-Range: bytes */" ++ decimal total)
+    ended_line (codes "HTTP/1.1 416 Range Not Satisfiable")
+    ++ ended_line (codes "Content-Range: bytes */" ++ decimal total)
     ++ no_content_line
-    ++ line []
+    ++ ended_line []
 
 -- the head before the bytes from first to last of a resource of this length
 unfoldable pub part_head : Bool → ℕ → ℕ → ℕ → List ℕ
 part_head chunked first last total =
-    line (codes "HTTP/1.1 206 Partial Content")
-    ++ line (codes "Content-Range: bytes " ++ decimal first ++ codes "-" ++ decimal last ++ codes "/" ++ decimal total)
+    ended_line (codes "HTTP/1.1 206 Partial Content")
+    ++ ended_line (codes "Content-Range: bytes " ++ decimal first ++ codes "-" ++ decimal last ++ codes "/" ++ decimal total)
     ++ length_line chunked (last + 1 - first)
-    ++ line []
+    ++ ended_line []
 
 abbrev pub part_reply : Bool → List ℕ → ℕ → ℕ → Reply
 part_reply chunked bytes first last = record {
@@ -75,11 +75,11 @@ abbrev pub ranges_reply : Bool → List ℕ → ℕ → ℕ → Reply
 ranges_reply chunked bytes first last =
     if nat_lt first (length bytes)
     then part_reply chunked bytes first (min last (length bytes - 1))
-    else bare (not_satisfiable (length bytes))
+    else bare_reply (not_satisfiable (length bytes))
 
 -- the head before all bytes: their length is told, or they end with the stream
 unfoldable pub whole_head : Bool → ℕ → List ℕ
-whole_head told total = line (codes "HTTP/1.1 200 OK") ++ (if told then length_line false total else []) ++ line []
+whole_head told total = ended_line (codes "HTTP/1.1 200 OK") ++ (if told then length_line false total else []) ++ ended_line []
 
 abbrev pub whole_reply : Bool → List ℕ → Reply
 whole_reply told bytes = record { head = whole_head told (length bytes); place = 0; content = bytes; chunked = false }
@@ -88,7 +88,7 @@ whole_reply told bytes = record { head = whole_head told (length bytes); place =
 
 -- a status alone
 unfoldable pub status_head : ℕ → List ℕ
-status_head status = line (codes "HTTP/1.1 " ++ decimal status ++ codes " ") ++ no_content_line ++ line []
+status_head status = ended_line (codes "HTTP/1.1 " ++ decimal status ++ codes " ") ++ no_content_line ++ ended_line []
 
 -- the reply with all bits of the resource's byte at this place turned, where it holds that byte
 abbrev pub flipped : ℕ → Reply → Reply

@@ -4,19 +4,19 @@ use Rattle.std.specs.Fmt.{decimal}
 use Rattle.link_source.specs.Endpoint.{host_value}
 
 -- a line of a head, which ends in CR LF
-abbrev pub line : List ℕ → List ℕ
-line text = text ++ codes "\r\n"
+abbrev pub ended_line : List ℕ → List ℕ
+ended_line text = text ++ codes "\r\n"
 
 -- a request for the bytes from first to last of a target
 unfoldable pub request_of : List ℕ → List ℕ → ℕ → ℕ → List ℕ
 request_of host target first last =
-    line (codes "GET " ++ target ++ codes " HTTP/1.1")
-    ++ line (codes "Host: " ++ host)
-    ++ line (codes "User-Agent: aria_cli")
-    ++ line (codes "Accept: */*")
-    ++ line (codes "Accept-Encoding: identity")
-    ++ line (codes "Range: bytes=" ++ decimal first ++ codes "-" ++ decimal last)
-    ++ line []
+    ended_line (codes "GET " ++ target ++ codes " HTTP/1.1")
+    ++ ended_line (codes "Host: " ++ host)
+    ++ ended_line (codes "User-Agent: aria_cli")
+    ++ ended_line (codes "Accept: */*")
+    ++ ended_line (codes "Accept-Encoding: identity")
+    ++ ended_line (codes "Range: bytes=" ++ decimal first ++ codes "-" ++ decimal last)
+    ++ ended_line []
 
 -- the bytes are such a request of a host and a port
 pub record Asks (host : List ℕ) (port : ℕ) (target : List ℕ) (first last : ℕ) (bytes : List ℕ) : Type 0 where

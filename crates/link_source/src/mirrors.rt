@@ -2,7 +2,7 @@
 ghost use Rattle.std.specs.Prelude.{◌≡◌, ◌≤◌, ◌==◌, ◌&&◌, [], find, position, IfOk, option_copied};
 ghost use Rattle.std.specs.Str.{bytes_eq};
 ghost use Rattle.link_source.specs.Mirrors.{reply_of, file_at, mirror_reply, content_reply};
-ghost use Rattle.link_source.specs.Memory.{contents_of, mirror_of, reply_seen, Gives};
+ghost use Rattle.link_source.specs.Memory.{contents_of, mirror_of, reply_seen, GivesText};
 ghost use Rattle.link_source.specs.Replies.{text_under};
 
 use crate::bad_answers::{Bad, BadAnswers};
@@ -148,7 +148,7 @@ pub fn answer(
     port: u16,
     bytes: &[u8],
 ) -> Result<Answered, AllocError>
-    ensures { IfOk result (λ answer. Gives mirrors.now bad.now.left.items bad.now.used.items host.now port bytes.now answer.text.items answer.mirror) }
+    ensures { IfOk result (λ answer. GivesText mirrors.now bad.now.left.items bad.now.used.items host.now port bytes.now answer.text.items answer.mirror) }
 {
     let Some(asked) = read_request(alloc, host, port, bytes)? else {
         return Ok(Answered {

@@ -1,7 +1,7 @@
 // Replies of mirrors in memory.
 ghost use Rattle.std.specs.Prelude.{◌≡◌, ◌≤◌, ◌<◌, [], IfOk, string_bytes};
 ghost use Rattle.link_source.specs.Memory.{reply_seen};
-ghost use Rattle.link_source.specs.Replies.{bare, body_text, text_of, length_line, not_found, moved, not_satisfiable, part_head, part_reply, ranges_reply, whole_head, whole_reply, status_head, flipped, spoiled_text, text_under};
+ghost use Rattle.link_source.specs.Replies.{bare_reply, body_text, text_of, length_line, not_found, moved, not_satisfiable, part_head, part_reply, ranges_reply, whole_head, whole_reply, status_head, flipped, spoiled_text, text_under};
 
 use crate::bad_answers::{Bad, BadKind};
 use crate::chunks::in_chunks;
@@ -20,7 +20,7 @@ pub struct MemReply {
 
 // A reply without content.
 fn without_content(alloc: Global, head: String) -> MemReply
-    ensures { reply_seen result ≡ bare (string_bytes head) }
+    ensures { reply_seen result ≡ bare_reply (string_bytes head) }
 {
     MemReply {
         head: head.into_bytes(),
@@ -32,14 +32,14 @@ fn without_content(alloc: Global, head: String) -> MemReply
 
 #[tactic(auto, unfolding(crate::specs::Replies::not_found))]
 pub fn not_found_reply(alloc: Global) -> Result<MemReply, AllocError>
-    ensures { IfOk result (λ reply. reply_seen reply ≡ bare not_found) }
+    ensures { IfOk result (λ reply. reply_seen reply ≡ bare_reply not_found) }
 {
     let head = String::from_str(alloc, "HTTP/1.1 404 Not Found\r\nContent-Length: 0\r\n\r\n")?;
     Ok(without_content(alloc, head))
 }
 
 pub fn moved_reply(alloc: Global, location: &str) -> Result<MemReply, AllocError>
-    ensures { IfOk result (λ reply. reply_seen reply ≡ bare (moved location.now)) }
+    ensures { IfOk result (λ reply. reply_seen reply ≡ bare_reply (moved location.now)) }
 {
     let head = format!(in alloc;
         "HTTP/1.1 302 Found\r\nLocation: {location}\r\nContent-Length: 0\r\n\r\n"
@@ -48,7 +48,7 @@ pub fn moved_reply(alloc: Global, location: &str) -> Result<MemReply, AllocError
 }
 
 fn not_satisfiable_reply(alloc: Global, total: u64) -> Result<MemReply, AllocError>
-    ensures { IfOk result (λ reply. reply_seen reply ≡ bare (not_satisfiable total)) }
+    ensures { IfOk result (λ reply. reply_seen reply ≡ bare_reply (not_satisfiable total)) }
 {
     let head = format!(in alloc;
         "HTTP/1.1 416 Range Not Satisfiable\r\nContent-Range: bytes */{total}\r\nContent-Length: 0\r\n\r\n"
@@ -138,7 +138,7 @@ pub fn reply_in_whole(alloc: Global, told: bool, bytes: &[u8]) -> Result<MemRepl
 
 /// No reply.
 pub fn silence(alloc: Global) -> MemReply
-    ensures { reply_seen result ≡ bare [] }
+    ensures { reply_seen result ≡ bare_reply [] }
 {
     MemReply {
         head: Vec::new(alloc),

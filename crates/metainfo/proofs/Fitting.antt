@@ -15,19 +15,19 @@ use Rattle.span_map.specs.Paths.{IsPath, Begins, Clash}
 use Rattle.span_map.specs.Layout.{HavePaths, IsRefused}
 use Rattle.span_map.specs.declared.files.FileLen.{FileLen}
 use Rattle.span_map.specs.declared.files.LayoutErr.TheVariants.{BadPath, Repeated}
-use Rattle.metainfo.specs.Tests.{begins, may_follow, bad_behind, bad_file, is_path}
+use Rattle.metainfo.specs.Tests.{begins_with, may_follow, bad_behind, bad_file, is_path}
 use Rattle.metainfo.proofs.Parts.{path_decides}
 
-begins_decides : (front list : List (List ℕ)) → Decides (begins front list) (Begins front list)
+begins_decides : (front list : List (List ℕ)) → Decides (begins_with front list) (Begins front list)
 begins_decides front list =
-    Decides-like (begins front list) (λ e. sym e) (λ e. sym e)
-    (slice_eq-Decides bytes_eq-Decides front (take (length front) list) (begins front list) refl)
+    Decides-like (begins_with front list) (λ e. sym e) (λ e. sym e)
+    (slice_eq-Decides bytes_eq-Decides front (take (length front) list) (begins_with front list) refl)
 
 abbrev Clashing : FileLen → FileLen → Type 0
 Clashing file other = Clash other.path file.path
 
 abbrev is_clashing : FileLen → FileLen → Bool
-is_clashing file other = begins other.path file.path || begins file.path other.path
+is_clashing file other = begins_with other.path file.path || begins_with file.path other.path
 
 clash_decides : (file other : FileLen) → Decides (is_clashing file other) (Clashing file other)
 clash_decides file other = Decides-or _ _ (begins_decides other.path file.path) (begins_decides file.path other.path)

@@ -17,7 +17,7 @@ use Rattle.metainfo.specs.declared.refusals.Key.TheVariants.{Length, Files, UrlL
 use Rattle.metainfo.specs.declared.refusals.MetaErr.{MetaErr}
 use Rattle.metainfo.specs.declared.meta.Meta.{Meta}
 use Rattle.metainfo.specs.Info.{Info, info_of, IsSeed, IsSingle, AreBehind, IsSound}
-use Rattle.metainfo.specs.Refusals.{◌>>=◌, told, sought, string_in}
+use Rattle.metainfo.specs.Refusals.{◌>>=◌, refusal_of, sought, string_in}
 use Rattle.metainfo.specs.Rules.{file_of, info_in, name_in, piece_len_in, digests_in, first_digests, len_in, path_in, path_of, parts_in, file_in, files_from, is_dicts, several_of, single_in, files_by, files_in, paths_fit, no_bad, sum_fits, plan_fits, digests_fit, laid_out, layout_in, seeds_in, seeds_by, seeds_of, seeds_among, urls_by, metainfo_of}
 use Rattle.metainfo.specs.Tests.{is_part, is_plan, is_seed, is_list, is_dict, bad_file}
 use Rattle.metainfo.proofs.Parts.{part_decides, le_decides, utf8_decides}
@@ -237,6 +237,6 @@ sound bytes said is =
       few_seeds = some_seeds.1;
     })
 
-pub given_sound : (bytes : List ℕ) (result : Result Meta MetaErr) → Gives info_of told result (metainfo_of bytes) → IfOk result (λ meta. IsSound (info_of meta))
+pub given_sound : (bytes : List ℕ) (result : Result Meta MetaErr) → Gives info_of refusal_of result (metainfo_of bytes) → IfOk result (λ meta. IsSound (info_of meta))
 given_sound bytes (Ok meta) given = sound bytes (info_of meta) given
 given_sound bytes (Err e) given = tt

@@ -18,24 +18,24 @@ or_refusal refusal None = Err refusal
 or_refusal refusal (Some x) = Ok x
 
 -- what an error tells: want of memory tells nothing
-abbrev pub told : MetaErr → Option MetaErr
-told NoMemory = None
-told e = Some e
+abbrev pub refusal_of : MetaErr → Option MetaErr
+refusal_of NoMemory = None
+refusal_of e = Some e
 
 -- how a key is written
-abbrev pub text_of : Key → List ℕ
-text_of keys.Info = codes "info"
-text_of keys.Name = codes "name"
-text_of keys.PieceLength = codes "piece length"
-text_of keys.Pieces = codes "pieces"
-text_of keys.Length = codes "length"
-text_of keys.Files = codes "files"
-text_of keys.Path = codes "path"
-text_of keys.UrlList = codes "url-list"
+abbrev pub key_text : Key → List ℕ
+key_text keys.Info = codes "info"
+key_text keys.Name = codes "name"
+key_text keys.PieceLength = codes "piece length"
+key_text keys.Pieces = codes "pieces"
+key_text keys.Length = codes "length"
+key_text keys.Files = codes "files"
+key_text keys.Path = codes "path"
+key_text keys.UrlList = codes "url-list"
 
 -- the value of the key
 abbrev pub sought : Key → Placed → Option Placed
-sought key dict = member_of (text_of key) dict
+sought key dict = member_of (key_text key) dict
 
 abbrev pub value_in : Key → Placed → Result Placed MetaErr
 value_in key dict = or_refusal (Lacks key) (sought key dict)

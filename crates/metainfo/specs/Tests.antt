@@ -22,14 +22,14 @@ abbrev pub is_path : List (List ℕ) → Bool
 is_path path = nat_le 1 (length path) && nat_le (length path) 64 && list_all is_part path
 
 -- the list begins with the front
-abbrev pub begins : List (List ℕ) → List (List ℕ) → Bool
-begins front list = starts_with bytes_eq list front
+abbrev pub begins_with : List (List ℕ) → List (List ℕ) → Bool
+begins_with front list = starts_with bytes_eq list front
 
 -- a file may stand behind others: its path is one, and neither that of an earlier file, nor a folder on the way to one,
 -- nor has it one for a folder
 abbrev pub may_follow : List FileLen → FileLen → Bool
 may_follow earlier file =
-    is_path file.path && not (list_any (λ other. begins other.path file.path || begins file.path other.path) earlier)
+    is_path file.path && not (list_any (λ other. begins_with other.path file.path || begins_with file.path other.path) earlier)
 
 -- the number of the first file that may not stand behind those before it; earlier ones stand before these
 abbrev pub bad_behind : List FileLen → List FileLen → Option ℕ

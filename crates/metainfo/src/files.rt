@@ -4,7 +4,7 @@ ghost use Rattle.std.specs.List.{list_all};
 ghost use Rattle.std.specs.Str.{is_utf8};
 ghost use Rattle.dl_words.specs.Answers.{Gives};
 ghost use Rattle.metainfo.specs.Kept.{kept_part, kept_parts, kept, all_kept};
-ghost use Rattle.metainfo.specs.Refusals.{told};
+ghost use Rattle.metainfo.specs.Refusals.{refusal_of};
 ghost use Rattle.metainfo.specs.Rules as specs;
 ghost use Rattle.metainfo.specs.Tests.{is_string, is_dict};
 
@@ -17,7 +17,7 @@ use std::alloc::Global;
 
 #[tactic(auto, unfolding(crate::specs::Rules::len_in))]
 fn len_in(dict: &Ben) -> Result<u64, MetaErr>
-    ensures { Gives (λ len. len) told result (specs.len_in dict.now) }
+    ensures { Gives (λ len. len) refusal_of result (specs.len_in dict.now) }
 {
     match u64::try_from(integer_in(dict, Key::Length)?) {
         Ok(len) => Ok(len),
@@ -70,7 +70,7 @@ fn path_of(alloc: Global, name: &Text, items: &[Ben]) -> Result<Texts, NoMemory>
 #[tactic(auto, unfolding(crate::specs::Rules::path_in, crate::specs::Rules::parts_in))]
 fn path_in(alloc: Global, name: &Text, dict: &Ben) -> Result<Texts, MetaErr>
     requires { is_utf8 name.now ≡ true }
-    ensures { Gives (λ path. path) told result (kept_parts (specs.path_in name.now dict.now)) }
+    ensures { Gives (λ path. path) refusal_of result (kept_parts (specs.path_in name.now dict.now)) }
 {
     let found = value_in(dict, Key::Path)?;
     if !is_list(found) || !are_strings(found.items()) {
@@ -82,7 +82,7 @@ fn path_in(alloc: Global, name: &Text, dict: &Ben) -> Result<Texts, MetaErr>
 #[tactic(auto, unfolding(crate::specs::Rules::file_in))]
 fn file_in(alloc: Global, name: &Text, dict: &Ben) -> Result<FileLen, MetaErr>
     requires { is_utf8 name.now ≡ true }
-    ensures { Gives (λ file. file) told result (kept (specs.file_in name.now dict.now)) }
+    ensures { Gives (λ file. file) refusal_of result (kept (specs.file_in name.now dict.now)) }
 {
     let len = len_in(dict)?;
     let path = path_in(alloc, name, dict)?;
@@ -91,7 +91,7 @@ fn file_in(alloc: Global, name: &Text, dict: &Ben) -> Result<FileLen, MetaErr>
 
 fn files_from(alloc: Global, name: &Text, dicts: &[Ben]) -> Result<Vec<FileLen>, MetaErr>
     requires { is_utf8 name.now ≡ true }
-    ensures exact { Gives (λ files. files.items) told result (all_kept (specs.files_from name.now dicts.now)) }
+    ensures exact { Gives (λ files. files.items) refusal_of result (all_kept (specs.files_from name.now dicts.now)) }
     ensures count { IfOk result (λ files. length files.items ≡ length dicts.now) }
 {
     let mut files = Vec::new(alloc);
@@ -111,7 +111,7 @@ fn is_dicts(found: &Ben) -> bool
 #[tactic(auto, unfolding(crate::specs::Rules::several_of))]
 fn several_of(alloc: Global, name: &Text, found: &Ben) -> Result<Vec<FileLen>, MetaErr>
     requires { is_utf8 name.now ≡ true }
-    ensures exact { Gives (λ files. files.items) told result (all_kept (specs.several_of name.now found.now)) }
+    ensures exact { Gives (λ files. files.items) refusal_of result (all_kept (specs.several_of name.now found.now)) }
     ensures some { IfOk result (λ files. 1 ≤ length files.items) }
 {
     if !is_dicts(found) {
@@ -123,7 +123,7 @@ fn several_of(alloc: Global, name: &Text, found: &Ben) -> Result<Vec<FileLen>, M
 #[tactic(auto, unfolding(crate::specs::Rules::single_in))]
 fn single_in(alloc: Global, name: &Text, dict: &Ben) -> Result<Vec<FileLen>, MetaErr>
     requires { is_utf8 name.now ≡ true }
-    ensures exact { Gives (λ files. files.items) told result (all_kept (specs.single_in name.now dict.now)) }
+    ensures exact { Gives (λ files. files.items) refusal_of result (all_kept (specs.single_in name.now dict.now)) }
     ensures some { IfOk result (λ files. 1 ≤ length files.items) }
 {
     let len = len_in(dict)?;
@@ -137,7 +137,7 @@ fn single_in(alloc: Global, name: &Text, dict: &Ben) -> Result<Vec<FileLen>, Met
 #[tactic(auto, unfolding(crate::specs::Rules::files_in))]
 fn files_in(alloc: Global, name: &Text, dict: &Ben) -> Result<Vec<FileLen>, MetaErr>
     requires { is_utf8 name.now ≡ true }
-    ensures exact { Gives (λ files. files.items) told result (all_kept (specs.files_in name.now dict.now)) }
+    ensures exact { Gives (λ files. files.items) refusal_of result (all_kept (specs.files_in name.now dict.now)) }
     ensures some { IfOk result (λ files. 1 ≤ length files.items) }
 {
     match (sought(dict, Key::Length), sought(dict, Key::Files)) {
@@ -151,7 +151,7 @@ fn files_in(alloc: Global, name: &Text, dict: &Ben) -> Result<Vec<FileLen>, Meta
 #[tactic(auto, unfolding(crate::specs::Rules::laid_out, crate::specs::Rules::paths_fit, crate::specs::Rules::sum_fits))]
 fn laid_out(alloc: Global, files: Vec<FileLen>) -> Result<Layout, MetaErr>
     requires { 1 ≤ length files.items }
-    ensures { Gives (λ layout. layout) told result (specs.laid_out files.items) }
+    ensures { Gives (λ layout. layout) refusal_of result (specs.laid_out files.items) }
 {
     match Layout::new(alloc, files) {
         Ok(layout) => Ok(layout),
@@ -166,7 +166,7 @@ fn laid_out(alloc: Global, files: Vec<FileLen>) -> Result<Layout, MetaErr>
 #[tactic(auto, unfolding(crate::specs::Rules::layout_in))]
 pub(crate) fn layout_in(alloc: Global, name: &Text, info: &Ben) -> Result<Layout, MetaErr>
     requires { is_utf8 name.now ≡ true }
-    ensures { Gives (λ layout. layout) told result (specs.layout_in name.now info.now) }
+    ensures { Gives (λ layout. layout) refusal_of result (specs.layout_in name.now info.now) }
 {
     let files = files_in(alloc, name, info)?;
     laid_out(alloc, files)

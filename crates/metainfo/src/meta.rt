@@ -27,7 +27,7 @@ pub struct Meta {
 
 impl Meta {
     ghost use Rattle.metainfo.specs.Info.{Info, info_of, IsSound};
-    ghost use Rattle.metainfo.specs.Refusals.{told};
+    ghost use Rattle.metainfo.specs.Refusals.{refusal_of};
     ghost use Rattle.metainfo.specs.declared.refusals.MetaErr.{MetaErr};
     ghost use Rattle.metainfo.specs.Rules.{metainfo_of};
     ghost use Rattle.metainfo.specs.Urls.{seed_url_of};
@@ -54,7 +54,7 @@ impl Meta {
     pub fn read(alloc: Global, bytes: &[u8]) -> Result<Meta, MetaErr>
         requires { length bytes.now < 2 ^ 32 }
         // What the bytes say, or the first rule that they break, unless memory runs out.
-        ensures exact { Gives info_of told result (metainfo_of bytes.now) }
+        ensures exact { Gives info_of refusal_of result (metainfo_of bytes.now) }
         // Bytes that say something are refused only for want of memory.
         ensures said { (info : Info) → metainfo_of bytes.now ≡ Ok info → IsOkUnless result MetaErr.NoMemory }
         // The first rule that they break is answered, unless memory runs out.

@@ -3,7 +3,7 @@ ghost use Rattle.std.specs.Prelude.{◌≡◌, ◌^◌, ◌<◌, length, IfOk};
 ghost use Rattle.dl_words.specs.Answers.{Gives};
 ghost use Rattle.span_map.specs.Layout.{total_of};
 ghost use Rattle.metainfo.specs.Info.{info_of};
-ghost use Rattle.metainfo.specs.Refusals.{told};
+ghost use Rattle.metainfo.specs.Refusals.{refusal_of};
 ghost use Rattle.metainfo.specs.Rules as specs;
 
 use crate::files::layout_in;
@@ -17,7 +17,7 @@ use std::alloc::Global;
 #[tactic(auto, unfolding(crate::specs::Rules::metainfo_of))]
 pub(crate) fn meta_of(alloc: Global, bytes: &[u8]) -> Result<Meta, MetaErr>
     requires { length bytes.now < 2 ^ 32 }
-    ensures exact { Gives info_of told result (specs.metainfo_of bytes.now) }
+    ensures exact { Gives info_of refusal_of result (specs.metainfo_of bytes.now) }
     ensures total { IfOk result (λ meta. total_of meta.layout ≡ meta.plan.total) }
     ensures digests { IfOk result (λ meta. length meta.digests ≡ meta.plan.pieces) }
 {

@@ -4,7 +4,7 @@ ghost use Rattle.std.specs.Str.{is_utf8};
 ghost use Rattle.dl_words.specs.Answers.{Gives};
 ghost use Rattle.bencode_core.specs.Value.{Spells, spelling};
 ghost use Rattle.bencode_core.specs.Placed.{StandsIn};
-ghost use Rattle.metainfo.specs.Refusals.{told};
+ghost use Rattle.metainfo.specs.Refusals.{refusal_of};
 ghost use Rattle.metainfo.specs.Rules as specs;
 ghost use Rattle.metainfo.specs.Tests.{is_part};
 
@@ -25,7 +25,7 @@ const DIGEST: usize = 20;
 #[tactic(auto, unfolding(crate::specs::Rules::file_of))]
 pub(crate) fn file_of(alloc: Global, bytes: &[u8]) -> Result<Ben, MetaErr>
     requires { length bytes.now < 2 ^ 32 }
-    ensures exact { Gives (λ file. file) told result (specs.file_of bytes.now) }
+    ensures exact { Gives (λ file. file) refusal_of result (specs.file_of bytes.now) }
     ensures spelled { IfOk result (λ file. Spells file.value bytes.now) }
     ensures place { IfOk result (λ file. file.place ≡ 0) }
 {
@@ -37,7 +37,7 @@ pub(crate) fn file_of(alloc: Global, bytes: &[u8]) -> Result<Ben, MetaErr>
 }
 
 fn dict_of(found: &Ben) -> Result<&Ben, MetaErr>
-    ensures exact { Gives (λ dict. dict.now) told result (specs.dict_of found.now) }
+    ensures exact { Gives (λ dict. dict.now) refusal_of result (specs.dict_of found.now) }
     ensures same { IfOk result (λ dict. dict.now ≡ found.now) }
 {
     if is_dict(found) {
@@ -49,7 +49,7 @@ fn dict_of(found: &Ben) -> Result<&Ben, MetaErr>
 
 #[tactic(auto, unfolding(crate::specs::Rules::info_in))]
 pub(crate) fn info_in(file: &Ben) -> Result<&Ben, MetaErr>
-    ensures exact { Gives (λ info. info.now) told result (specs.info_in file.now) }
+    ensures exact { Gives (λ info. info.now) refusal_of result (specs.info_in file.now) }
     ensures slice { IfOk result (λ info. StandsIn file.now info.now) }
 {
     dict_of(value_in(dict_of(file)?, Key::Info)?)
@@ -69,7 +69,7 @@ fn part_text(bytes: &[u8]) -> Option<&str>
 /// The name, which is a valid part of a path.
 #[tactic(auto, unfolding(crate::specs::Rules::name_in), using(crate::proofs::Parts::part_is_text))]
 pub(crate) fn name_in(alloc: Global, info: &Ben) -> Result<Text, MetaErr>
-    ensures exact { Gives (λ name. name) told result (specs.name_in info.now) }
+    ensures exact { Gives (λ name. name) refusal_of result (specs.name_in info.now) }
     ensures text { IfOk result (λ name. is_utf8 name ≡ true) }
 {
     match part_text(string_in(info, Key::Name)?) {
@@ -81,7 +81,7 @@ pub(crate) fn name_in(alloc: Global, info: &Ben) -> Result<Text, MetaErr>
 /// The piece length, from 1 to 67,108,864.
 #[tactic(auto, unfolding(crate::specs::Rules::piece_len_in))]
 pub(crate) fn piece_len_in(info: &Ben) -> Result<u32, MetaErr>
-    ensures { Gives (λ len. len) told result (specs.piece_len_in info.now) }
+    ensures { Gives (λ len. len) refusal_of result (specs.piece_len_in info.now) }
 {
     match integer_in(info, Key::PieceLength)? {
         len @ 1..=MAX_PIECE => Ok(len as u32),
@@ -105,7 +105,7 @@ fn digests_of(alloc: Global, bytes: &[u8]) -> Result<Digests, NoMemory>
 #[tactic(auto, unfolding(crate::specs::Rules::digests_in), using(crate::proofs::Lengths::digests_len))]
 pub(crate) fn digests_in(alloc: Global, info: &Ben) -> Result<Digests, MetaErr>
     requires { length (spelling info.now.value) < 2 ^ 32 }
-    ensures exact { Gives (λ digests. digests) told result (specs.digests_in info.now) }
+    ensures exact { Gives (λ digests. digests) refusal_of result (specs.digests_in info.now) }
     ensures few { IfOk result (λ digests. length digests < 2 ^ 32) }
 {
     let bytes = string_in(info, Key::Pieces)?;
@@ -118,7 +118,7 @@ pub(crate) fn digests_in(alloc: Global, info: &Ben) -> Result<Digests, MetaErr>
 /// The plan of a payload, within its limits.
 #[tactic(auto, unfolding(crate::specs::Rules::plan_fits))]
 pub(crate) fn plan_of(total: u64, piece_len: u32) -> Result<Plan, MetaErr>
-    ensures exact { Gives (λ _. tt) told result (specs.plan_fits total piece_len) }
+    ensures exact { Gives (λ _. tt) refusal_of result (specs.plan_fits total piece_len) }
     ensures total { IfOk result (λ plan. plan.total ≡ total) }
     ensures piece_len { IfOk result (λ plan. plan.piece_len ≡ piece_len) }
 {
@@ -128,7 +128,7 @@ pub(crate) fn plan_of(total: u64, piece_len: u32) -> Result<Plan, MetaErr>
 /// As many digests as pieces.
 #[tactic(auto, unfolding(crate::specs::Rules::digests_fit))]
 pub(crate) fn check_count(have: u32, want: u32) -> Result<(), MetaErr>
-    ensures exact { Gives (λ _. tt) told result (specs.digests_fit have want) }
+    ensures exact { Gives (λ _. tt) refusal_of result (specs.digests_fit have want) }
     ensures same { OnOk result (have ≡ want) }
 {
     if have != want {

@@ -3,7 +3,7 @@ ghost use Rattle.std.specs.Prelude.{◌≡◌, ◌≤◌, ◌<◌, ◌^◌, IfSo
 ghost use Rattle.dl_words.specs.Answers.{Gives};
 ghost use Rattle.bencode_core.specs.Placed.{string_of};
 ghost use Rattle.bencode_core.specs.Value.{spelling};
-ghost use Rattle.metainfo.specs.Refusals.{told};
+ghost use Rattle.metainfo.specs.Refusals.{refusal_of};
 ghost use Rattle.metainfo.specs.Rules as specs;
 ghost use Rattle.metainfo.specs.Tests.{is_seed};
 
@@ -70,7 +70,7 @@ fn first_other(items: &[Ben]) -> Option<usize>
 #[tactic(auto, unfolding(crate::specs::Rules::seeds_of), using(crate::proofs::Lengths::items_len))]
 fn seeds_of(alloc: Global, found: &Ben) -> Result<Texts, MetaErr>
     requires { length (spelling found.now.value) < 2 ^ 32 }
-    ensures { Gives (λ seeds. seeds) told result (specs.seeds_of found.now) }
+    ensures { Gives (λ seeds. seeds) refusal_of result (specs.seeds_of found.now) }
 {
     if let Some(url) = found.string() {
         let mut seeds = Texts::new(alloc);
@@ -89,7 +89,7 @@ fn seeds_of(alloc: Global, found: &Ben) -> Result<Texts, MetaErr>
 #[tactic(auto, unfolding(crate::specs::Rules::seeds_in), using(crate::proofs::Lengths::part_len))]
 pub(crate) fn seeds_in(alloc: Global, file: &Ben) -> Result<Texts, MetaErr>
     requires { length (spelling file.now.value) < 2 ^ 32 }
-    ensures { Gives (λ seeds. seeds) told result (specs.seeds_in file.now) }
+    ensures { Gives (λ seeds. seeds) refusal_of result (specs.seeds_in file.now) }
 {
     match sought(file, Key::UrlList) {
         None => Ok(Texts::new(alloc)),

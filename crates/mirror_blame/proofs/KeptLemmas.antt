@@ -11,7 +11,7 @@ use Rattle.mirror_blame.specs.declared.blame.Blame.{Blame}
 use Rattle.mirror_blame.specs.declared.places.Place.{Place}
 use Rattle.mirror_blame.specs.Marks.{is_of, tries_of, IsEligible}
 use Rattle.mirror_blame.specs.Places.{stands_at, ArePlaces}
-use Rattle.mirror_blame.specs.Kept.{AreTotals, AreMarks, spare_of, IsKept}
+use Rattle.mirror_blame.specs.Kept.{AreTotals, AreMarks, spare_of, KeepsMarks}
 use Rattle.mirror_blame.proofs.ListLemmas.{count_by-cons}
 use Rattle.mirror_blame.proofs.Counted.{is_of_same}
 use Rattle.mirror_blame.proofs.Dead.{total_few}
@@ -31,8 +31,8 @@ padded xs k i =
       | inr past ↦ get_or-append_right xs zeros (length xs) i 0 refl past ∙ zero_read k (i - length xs) ∙ sym (get_or-eq_default xs 0 past)
     ]
 
-pub kept_resized : (mirrors max_tries : ℕ) (log : List Blame) (order : List Place) (totals : List ℕ) → IsKept mirrors max_tries log order totals
-    → IsKept mirrors max_tries log order (take mirrors totals ++ replicate (mirrors - length totals) 0)
+pub kept_resized : (mirrors max_tries : ℕ) (log : List Blame) (order : List Place) (totals : List ℕ) → KeepsMarks mirrors max_tries log order totals
+    → KeepsMarks mirrors max_tries log order (take mirrors totals ++ replicate (mirrors - length totals) 0)
 kept_resized mirrors max_tries log order totals kept =
     let same : take mirrors totals ≡ totals = take_all mirrors totals kept.totals_are.few in
     record {
@@ -83,12 +83,12 @@ totals_more mirrors blame marks totals total are within read =
       ];
     }
 
-pub kept_more : (mirrors max_tries : ℕ) (log : List Blame) (order now : List Place) (totals : List ℕ) (blame : Blame) (total : ℕ) → IsKept mirrors max_tries log order totals
+pub kept_more : (mirrors max_tries : ℕ) (log : List Blame) (order now : List Place) (totals : List ℕ) (blame : Blame) (total : ℕ) → KeepsMarks mirrors max_tries log order totals
     → blame.mirror < mirrors → blame.piece < 1048576 → IsEligible max_tries (reverse log) blame.mirror blame.piece → mirrors ≤ length totals
     → IsNonDecreasingBy (λ place. place.piece) now
     → ((piece : ℕ) → filter (stands_at piece) now ≡ (if blame.piece == piece then record { piece = blame.piece; mirror = blame.mirror; at = length log } ∷ filter (stands_at piece) order else filter (stands_at piece) order))
     → total ≡ get_or totals blame.mirror total
-    → IsKept mirrors max_tries (log ++ blame ∷ []) now (set totals blame.mirror (total + 1))
+    → KeepsMarks mirrors max_tries (log ++ blame ∷ []) now (set totals blame.mirror (total + 1))
 kept_more mirrors max_tries log order now totals blame total kept known within left ready sorted each read =
     let marks : reverse (log ++ blame ∷ []) ≡ blame ∷ reverse log = reverse-append log (blame ∷ []) in
     record {
@@ -98,7 +98,7 @@ kept_more mirrors max_tries log order now totals blame total kept known within l
     }
 
 -- no total is so great that one more doesn't fit
-pub total_fits : (mirrors max_tries : ℕ) (log : List Blame) (order : List Place) (totals : List ℕ) (mirror total : ℕ) → IsKept mirrors max_tries log order totals
+pub total_fits : (mirrors max_tries : ℕ) (log : List Blame) (order : List Place) (totals : List ℕ) (mirror total : ℕ) → KeepsMarks mirrors max_tries log order totals
     → mirror < length totals → total ≡ get_or totals mirror total → total + 1 < 2 ^ 32
 total_fits mirrors max_tries log order totals mirror total kept within read =
     let is = read ∙ get_or_default totals mirror total 0 within ∙ kept.totals_are.each mirror in

@@ -1,7 +1,7 @@
 -- Which mirror is chosen for a run of pieces.
 use Rattle.std.specs.Prelude.{◌≡◌, ℕ, ◌<◌, ◌⊎◌, List, slice_index}
 use Rattle.mirror_blame.specs.declared.blame.Blame.{Blame}
-use Rattle.mirror_blame.specs.Marks.{IsEligibleForAll, total_of}
+use Rattle.mirror_blame.specs.Marks.{IsEligibleForAll, total_marks}
 
 -- a mirror that may be chosen for the pieces from `first` to `last`: it is eligible for each, and fewer claims than the limit
 -- stand on its host
@@ -21,4 +21,4 @@ GoesBefore total standing mirror other =
 pub record IsChoice (mirrors max_tries : ℕ) (marks : List Blame) (first last : ℕ) (standing : List ℕ) (limit mirror : ℕ) : Type 0 where
   pub candidate : IsCandidate mirrors max_tries marks first last standing limit mirror
   pub before : (other : ℕ) → IsCandidate mirrors max_tries marks first last standing limit other
-      → (other ≡ mirror) ⊎ GoesBefore (total_of max_tries marks) (slice_index standing) mirror other
+      → (other ≡ mirror) ⊎ GoesBefore (total_marks max_tries marks) (slice_index standing) mirror other

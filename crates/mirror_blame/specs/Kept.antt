@@ -18,7 +18,7 @@ pub record AreMarks (mirrors max_tries : ℕ) (marks : List Blame) : Type 0 wher
   pub within : All (λ blame. blame.piece < 1048576) marks
 
 -- the log has the oldest mark first
-pub record IsKept (mirrors max_tries : ℕ) (log : List Blame) (order : List Place) (totals : List ℕ) : Type 0 where
+pub record KeepsMarks (mirrors max_tries : ℕ) (log : List Blame) (order : List Place) (totals : List ℕ) : Type 0 where
   pub marks : AreMarks mirrors max_tries (reverse log)
   pub places : ArePlaces order (reverse log)
   pub totals_are : AreTotals totals mirrors (reverse log)

@@ -39,5 +39,5 @@ last_mark_of max_tries marks piece =
     option_map (λ blame. blame.mark) (find (λ blame. blame.piece == piece) (counted max_tries marks))
 
 -- the marks of a mirror in all that count
-abbrev pub total_of : ℕ → List Blame → ℕ → ℕ
-total_of max_tries marks mirror = count_by (λ blame. blame.mirror == mirror) (counted max_tries marks)
+abbrev pub total_marks : ℕ → List Blame → ℕ → ℕ
+total_marks max_tries marks mirror = count_by (λ blame. blame.mirror == mirror) (counted max_tries marks)

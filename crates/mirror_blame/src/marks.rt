@@ -1,6 +1,6 @@
 // The marks of mirrors.
 ghost use Rattle.std.specs.Prelude.{◌≡◌, ◌↔◌, ℕ, ◌+◌, ◌-◌, ◌<◌, ◌≤◌, [], ◌∷◌, length, slice_index, Some, IsTrue, IsNone, IfSome, MatchOption, OnOk};
-ghost use Rattle.mirror_blame.specs.Marks.{tries_of, IsEligible, IsEligibleForAll, IsDead, last_mark_of, total_of};
+ghost use Rattle.mirror_blame.specs.Marks.{tries_of, IsEligible, IsEligibleForAll, IsDead, last_mark_of, total_marks};
 ghost use Rattle.mirror_blame.specs.Choice.{GoesBefore, IsCandidate, IsChoice};
 
 use crate::Blame;
@@ -25,7 +25,7 @@ pub struct Marks {
 impl Model for Marks {
     ghost use Rattle.std.specs.Prelude.{◌-◌, length, reverse, vec_len, vec_capacity};
     ghost use Rattle.mirror_blame.specs.Book.{MarkBook};
-    ghost use Rattle.mirror_blame.specs.Kept.{IsKept, spare_of};
+    ghost use Rattle.mirror_blame.specs.Kept.{KeepsMarks, spare_of};
 
     ghost Value = { MarkBook };
 
@@ -36,7 +36,7 @@ impl Model for Marks {
       spare = spare_of m.mirrors (vec_len m.totals) (vec_capacity m.log - vec_len m.log) (vec_capacity m.order - vec_len m.order);
     } };
 
-    ghost invariant = { λ m. IsKept m.mirrors m.max_tries m.log.items m.order.items m.totals.items };
+    ghost invariant = { λ m. KeepsMarks m.mirrors m.max_tries m.log.items m.order.items m.totals.items };
 }
 
 impl Marks {
@@ -120,7 +120,7 @@ impl Marks {
 
     /// How many marks a mirror has in all.
     pub fn total(&self, mirror: u16) -> u32
-        ensures { result ≡ total_of self.now.max_tries self.now.marks mirror }
+        ensures { result ≡ total_marks self.now.max_tries self.now.marks mirror }
     {
         self.totals.get(mirror as usize).copied().unwrap_or(0)
     }
@@ -130,7 +130,7 @@ impl Marks {
         requires mirror { mirror < length standing.now }
         requires best { IfSome best (λ other. other < mirror) }
         ensures { IsTrue result ↔ MatchOption best (Unit {0}) (λ other.
-            GoesBefore (total_of self.now.max_tries self.now.marks) (slice_index standing.now) mirror other) }
+            GoesBefore (total_marks self.now.max_tries self.now.marks) (slice_index standing.now) mirror other) }
     {
         let Some(other) = best else {
             return true;

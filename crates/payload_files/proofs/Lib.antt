@@ -5,3 +5,4 @@ pub mod Lengths
 pub mod ListEdits
 pub mod Places
 pub mod SliceSteps
+pub mod TornFiles

@@ -9,12 +9,12 @@ use Rattle.span_map.specs.Layout.{total_of}
 use Rattle.span_map.specs.Slices.{part_of, parts_from, slice_of}
 use Rattle.span_map.specs.declared.files.FileLen.{FileLen}
 use Rattle.span_map.specs.declared.files.Part.{Part}
-use Rattle.payload_files.specs.Payload.{place_of}
+use Rattle.payload_files.specs.Payload.{part_start}
 
 -- the first part begins here, and each other where the one before it ends
 abbrev FollowOn : List FileLen → ℕ → List Part → Type 0
 FollowOn files at [] = Unit {0}
-FollowOn files at (part ∷ parts) = (place_of files part ≡ at) × FollowOn files (at + part.len) parts
+FollowOn files at (part ∷ parts) = (part_start files part ≡ at) × FollowOn files (at + part.len) parts
 
 -- ---- the part of one file
 
@@ -63,16 +63,16 @@ module _ (files : List FileLen) (low high : ℕ) where
       (cases_lt (max start low) (min (start + x.len) high))
 
 place_in : (files : List FileLen) (at : ℕ) (parts : List Part) (k : ℕ) (part : Part) → FollowOn files at parts → slice_get parts k ≡ Some part
-    → place_of files part ≡ at + sum_by (λ (p : Part). p.len) (take k parts)
+    → part_start files part ≡ at + sum_by (λ (p : Part). p.len) (take k parts)
 place_in files at [] k part follow at_k = absurd (none-some part at_k)
-place_in files at (p ∷ parts) zero part follow at_k = ap (place_of files) (sym (same_Some p part at_k)) ∙ follow.0 ∙ (let e : at ≡ at + 0 = omega arith in e)
+place_in files at (p ∷ parts) zero part follow at_k = ap (part_start files) (sym (same_Some p part at_k)) ∙ follow.0 ∙ (let e : at ≡ at + 0 = omega arith in e)
 place_in files at (p ∷ parts) (suc k) part follow at_k =
     let rest = place_in files (at + p.len) parts k part follow.1 at_k in
     omega (arith, rest, sum_by-cons (λ (q : Part). q.len) p (take k parts))
 
 -- each part of a slice begins behind those before it
 pub part_place : (files : List FileLen) (at len k : ℕ) (part : Part) → slice_get (slice_of files at len) k ≡ Some part
-    → place_of files part ≡ at + sum_by (λ (p : Part). p.len) (take k (slice_of files at len))
+    → part_start files part ≡ at + sum_by (λ (p : Part). p.len) (take k (slice_of files at len))
 part_place files at len k part at_k =
     place_in files at (slice_of files at len) k part
     (subst (λ (from : ℕ). FollowOn files from (slice_of files at len)) (let e : max 0 at ≡ at = omega arith in e) (follow_from files at (at + len) [] files 0 0 refl refl refl)) at_k

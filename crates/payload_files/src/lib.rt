@@ -1,16 +1,18 @@
-//! The files of a payload on a disk: they and their folders are made, slices of the payload are written into them, and
-//! they are made to last.
+//! The files of a payload on a disk, in a folder: they and their folders are made, slices of the payload are read and
+//! written, and the files are made to last.
 #![tactic(auto)]
 
-mod making;
+mod fitting;
+mod folders;
+mod laws;
 mod names;
-mod payload;
 mod syncing;
 mod writing;
 
-pub use making::make_files;
-pub use names::{file_name, names_differ};
-pub use payload::{files_fill, same_files_hold};
+pub use fitting::fit_files;
+pub use folders::make_folders;
+pub use laws::{files_fill, names_differ, same_files_hold};
+pub use names::file_name;
 pub use std::alloc::AllocError as NoMemory;
 pub use syncing::sync_files;
 pub use writing::write_slice;

@@ -1,9 +1,15 @@
 // Names of files and folders on the disk.
 ghost use Rattle.std.specs.Prelude.{◌≡◌, ◌≤◌, ◌<◌, ◌+◌, Some, length, take, slice_get, option_map, string_bytes, IfOk, OnOk};
-ghost use Rattle.payload_files.specs.Names.{name_of, folder_of, NamesDiffer};
+ghost use Rattle.payload_files.specs.Names.{path_text, root_of, name_of, folder_of};
 
 use dl_kinds::Texts;
 use std::alloc::{AllocError, Global};
+
+/// The byte `.`, which alone is the name of the folder in which the program runs.
+pub const DOT: u8 = 46;
+
+/// The byte `/`, which stands between the parts of a path.
+pub const SLASH: u8 = 47;
 
 fn part(path: &Texts, place: usize) -> &str
     requires { place < length path.now }
@@ -12,51 +18,76 @@ fn part(path: &Texts, place: usize) -> &str
     path.get(place).unwrap().as_str()
 }
 
-// Adds the part at this place to the name of those before it.
-fn add_part(name: &mut String, path: &Texts, place: usize) -> Result<(), AllocError>
+// Adds the part at this place to those before it.
+fn add_part(text: &mut String, path: &Texts, place: usize) -> Result<(), AllocError>
     requires within { place < length path.now }
-    requires front { string_bytes name.old ≡ name_of (take place path.now) }
-    ensures { OnOk result (string_bytes name.new ≡ name_of (take (place + 1) path.now)) }
+    requires front { string_bytes text.old ≡ path_text (take place path.now) }
+    ensures { OnOk result (string_bytes text.new ≡ path_text (take (place + 1) path.now)) }
 {
     if place == 0 {
-        return name.push_str(part(path, place));
+        return text.push_str(part(path, place));
     }
-    name.push('/')?;
-    name.push_str(part(path, place))
+    text.push('/')?;
+    text.push_str(part(path, place))
+}
+
+// The parts at the front of a path.
+fn front(alloc: Global, path: &Texts, count: usize) -> Result<String, AllocError>
+    requires { count ≤ length path.now }
+    ensures { IfOk result (λ text. string_bytes text ≡ path_text (take count path.now)) }
+{
+    let mut text = String::new(alloc);
+    for place in 0..count {
+        add_part(&mut text, path, place)?;
+    }
+    Ok(text)
+}
+
+// What stands before the names in a folder.
+fn root(alloc: Global, dir: &str) -> Result<String, AllocError>
+    ensures { IfOk result (λ root. string_bytes root ≡ root_of dir.now) }
+{
+    let mut root = String::new(alloc);
+    if dir != "." {
+        root.push_str(dir)?;
+        root.push('/')?;
+    }
+    Ok(root)
 }
 
 // The name of the parts at the front of a path.
-fn front_name(alloc: Global, path: &Texts, count: usize) -> Result<String, AllocError>
+fn front_name(alloc: Global, dir: &str, path: &Texts, count: usize) -> Result<String, AllocError>
     requires { count ≤ length path.now }
-    ensures { IfOk result (λ name. string_bytes name ≡ name_of (take count path.now)) }
+    ensures { IfOk result (λ name. string_bytes name ≡ name_of dir.now (take count path.now)) }
 {
-    let mut name = String::new(alloc);
-    for place in 0..count {
-        add_part(&mut name, path, place)?;
-    }
+    let mut name = root(alloc, dir)?;
+    name.push_str(front(alloc, path, count)?.as_str())?;
     Ok(name)
 }
 
-/// The name on the disk of the file of a path: the parts of the path with `/` between them.
-pub fn file_name(alloc: Global, path: &Texts) -> Result<String, AllocError>
-    ensures { IfOk result (λ name. string_bytes name ≡ name_of path.now) }
+/// The name on the disk of the file of a path in a folder: the folder and the parts of the path with `/` between them,
+/// and the path alone in the folder `.`.
+pub fn file_name(alloc: Global, dir: &str, path: &Texts) -> Result<String, AllocError>
+    ensures { IfOk result (λ name. string_bytes name ≡ name_of dir.now path.now) }
 {
-    front_name(alloc, path, path.len())
+    front_name(alloc, dir, path, path.len())
 }
 
-/// The name of the folder of a path, which a path of one part lacks.
-pub(crate) fn folder_name(alloc: Global, path: &Texts) -> Result<Option<String>, AllocError>
-    ensures { IfOk result (λ folder. option_map string_bytes folder ≡ folder_of path.now) }
+/// The name of the folder of a path, which a path of one part in `.` lacks.
+pub(crate) fn folder_name(
+    alloc: Global,
+    dir: &str,
+    path: &Texts,
+) -> Result<Option<String>, AllocError>
+    ensures { IfOk result (λ folder. option_map string_bytes folder ≡ folder_of dir.now path.now) }
 {
     if path.len() > 1 {
-        let folder = front_name(alloc, path, path.len() - 1)?;
-        Ok(Some(folder))
-    } else {
-        Ok(None)
+        let folder = front_name(alloc, dir, path, path.len() - 1)?;
+        return Ok(Some(folder));
     }
+    if dir == "." {
+        return Ok(None);
+    }
+    let folder = String::from_str(alloc, dir)?;
+    Ok(Some(folder))
 }
-
-/// Two files of a layout have different names on the disk.
-pub fn names_differ()
-    ensures { NamesDiffer }
-{}

@@ -7,7 +7,7 @@ use Rattle.std.proofs.lemmas.List.Elements.{All-replicate}
 use Rattle.std.proofs.lemmas.Option.{slice_get_within, same_Some}
 use Rattle.dl_kinds.specs.Plan.{full_blocks, blocks_of, blocks_of_piece}
 use Rattle.piece_table.specs.declared.giver.Giver.TheVariants.{Nobody}
-use Rattle.piece_table.specs.Kept.{IsKept}
+use Rattle.piece_table.specs.Kept.{KeepsTable}
 use Rattle.piece_table.specs.Progress.{Progress, piece_part}
 use Rattle.piece_table.specs.Steps.{filled, cleared}
 use Rattle.piece_table.specs.Sums.{block_bytes, sum_where}
@@ -16,10 +16,10 @@ use Rattle.piece_table.proofs.Fills.{length-filled}
 use Rattle.piece_table.proofs.Landing.{slice_get-set_same, slice_get-set_other}
 use Rattle.piece_table.proofs.Parts.{part_filled, part_filled_elsewhere}
 
-clears_row : (p : Progress) (held : List ℕ) (completed verified_bytes piece bytes : ℕ) → IsKept p held completed verified_bytes
+clears_row : (p : Progress) (held : List ℕ) (completed verified_bytes piece bytes : ℕ) → KeepsTable p held completed verified_bytes
     → slice_get p.verified piece ≡ Some false → piece * full_blocks p.piece_len + blocks_of_piece p.total p.piece_len piece ≤ blocks_of p.total p.piece_len
     → bytes + sum_where (block_bytes p.total p.piece_len) (cleared p piece).landed ≡ sum_where (block_bytes p.total p.piece_len) p.landed
-    → IsKept (cleared p piece) (set held piece 0) (completed - bytes) verified_bytes
+    → KeepsTable (cleared p piece) (set held piece 0) (completed - bytes) verified_bytes
 clears_row p held completed verified_bytes piece bytes kept is within sum =
     let v = kept.valid in
     let after = (cleared p piece).landed in
@@ -70,15 +70,15 @@ clears_row p held completed verified_bytes piece bytes kept is within sum =
     }
 
 -- the same, as the code reads and writes
-pub clears : (p : Progress) (held : List ℕ) (completed verified_bytes piece first count bytes : ℕ) (landed : List Bool) → IsKept p held completed verified_bytes
+pub clears : (p : Progress) (held : List ℕ) (completed verified_bytes piece first count bytes : ℕ) (landed : List Bool) → KeepsTable p held completed verified_bytes
     → slice_get p.verified piece ≡ Some false
     → first ≡ piece * full_blocks p.piece_len → count ≡ blocks_of_piece p.total p.piece_len piece → first + count ≤ blocks_of p.total p.piece_len
     → landed ≡ filled false first count p.landed
     → bytes + sum_where (block_bytes p.total p.piece_len) landed ≡ sum_where (block_bytes p.total p.piece_len) p.landed
-    → IsKept (record p { landed = landed; givers = set p.givers piece Nobody }) (set held piece 0) (completed - bytes) verified_bytes
+    → KeepsTable (record p { landed = landed; givers = set p.givers piece Nobody }) (set held piece 0) (completed - bytes) verified_bytes
 clears p held completed verified_bytes piece first count bytes landed kept is first_is count_is within landed_is sum =
     let row : landed ≡ (cleared p piece).landed =
     landed_is ∙ ap (λ n. filled false n count p.landed) first_is ∙ ap (λ n. filled false (piece * full_blocks p.piece_len) n p.landed) count_is in
-    subst (λ (x : List Bool). IsKept (record p { landed = x; givers = set p.givers piece Nobody }) (set held piece 0) (completed - bytes) verified_bytes) (sym row)
+    subst (λ (x : List Bool). KeepsTable (record p { landed = x; givers = set p.givers piece Nobody }) (set held piece 0) (completed - bytes) verified_bytes) (sym row)
     (clears_row p held completed verified_bytes piece bytes kept is (omega arith)
     (ap (λ x. bytes + sum_where (block_bytes p.total p.piece_len) x) (sym row) ∙ sum))

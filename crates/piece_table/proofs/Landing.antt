@@ -9,7 +9,7 @@ use Rattle.std.proofs.lemmas.Option.{slice_get_within, get_or_from_slice_get, sa
 use Rattle.dl_kinds.specs.Plan.{full_blocks, blocks_of_piece, pieces_of, piece_of, place_of, block_start, block_end, IsPlan}
 use Rattle.piece_table.specs.declared.giver.Giver.{Giver}
 use Rattle.piece_table.specs.declared.giver.Giver.TheVariants.{Nobody}
-use Rattle.piece_table.specs.Kept.{IsKept}
+use Rattle.piece_table.specs.Kept.{KeepsTable}
 use Rattle.piece_table.specs.Progress.{Progress, IsValid, piece_part, landed_count}
 use Rattle.piece_table.specs.Steps.{filled, with_giver, givers_after, landed_by}
 use Rattle.piece_table.specs.Sums.{block_bytes, sum_where}
@@ -86,7 +86,7 @@ pub record LandsOne (p : Progress) (held : List ℕ) (completed verified_bytes b
   pub few : get_or held (piece_of p.piece_len block) 0 < 4096
   pub sum : completed + block_bytes p.total p.piece_len block < 2 ^ 64
   pub after : touched p block mirror ≡ landed_by p (record { first = block; count = 1 }) mirror
-  pub kept : IsKept (touched p block mirror) (set held (piece_of p.piece_len block) (get_or held (piece_of p.piece_len block) 0 + 1))
+  pub kept : KeepsTable (touched p block mirror) (set held (piece_of p.piece_len block) (get_or held (piece_of p.piece_len block) 0 + 1))
       (completed + block_bytes p.total p.piece_len block) verified_bytes
 
 valid : (p : Progress) (block mirror : ℕ) → IsValid p → piece_of p.piece_len block < pieces_of p.total p.piece_len
@@ -142,7 +142,7 @@ same_progress p landed landed' givers givers' l g =
     let h : List Giver → Progress = λ x. record p { landed = landed'; givers = x } in
     ap f l ∙ ap h g
 
-pub lands_one : (p : Progress) (held : List ℕ) (completed verified_bytes block mirror : ℕ) → IsKept p held completed verified_bytes
+pub lands_one : (p : Progress) (held : List ℕ) (completed verified_bytes block mirror : ℕ) → KeepsTable p held completed verified_bytes
     → IsPlan p.total p.piece_len → piece_of p.piece_len block < pieces_of p.total p.piece_len
     → place_of p.piece_len block < blocks_of_piece p.total p.piece_len (piece_of p.piece_len block) → slice_get p.landed block ≡ Some false
     → LandsOne p held completed verified_bytes block mirror
@@ -199,10 +199,10 @@ pub record LandsAt (p : Progress) (held : List ℕ) (completed verified_bytes bl
   pub few : count + 1 < 2 ^ 16
   pub sum : completed + size < 2 ^ 64
   pub after : ◌≡◌ {A = Progress} (record p { landed = landed; givers = set p.givers piece giver }) (landed_by p (record { first = block; count = 1 }) mirror)
-  pub kept : IsKept (record p { landed = landed; givers = set p.givers piece giver }) (set held piece (count + 1)) (completed + size) verified_bytes
+  pub kept : KeepsTable (record p { landed = landed; givers = set p.givers piece giver }) (set held piece (count + 1)) (completed + size) verified_bytes
 
 pub lands_at : (p : Progress) (held : List ℕ) (completed verified_bytes block mirror : ℕ) (landed : List Bool) (pieces piece : ℕ) (was giver : Giver) (count start size : ℕ)
-    → IsKept p held completed verified_bytes → IsPlan p.total p.piece_len
+    → KeepsTable p held completed verified_bytes → IsPlan p.total p.piece_len
     → pieces ≡ pieces_of p.total p.piece_len → piece ≡ piece_of p.piece_len block → piece < pieces → place_of p.piece_len block < blocks_of_piece p.total p.piece_len piece
     → slice_get p.landed block ≡ Some false → landed ≡ set p.landed block true
     → was ≡ get_or p.givers piece was → giver ≡ with_giver was mirror → count ≡ get_or held piece count

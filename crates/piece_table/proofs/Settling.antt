@@ -6,7 +6,7 @@ use Rattle.std.proofs.lemmas.Bool.{cases_eq, eqb-true, eq-eqb}
 use Rattle.std.proofs.lemmas.List.{length-set, get_or_default}
 use Rattle.std.proofs.lemmas.Option.{slice_get_within, get_or_from_slice_get}
 use Rattle.dl_kinds.specs.Plan.{full_blocks, blocks_of, blocks_of_piece, pieces_of, piece_start, piece_end, IsPlan}
-use Rattle.piece_table.specs.Kept.{IsKept}
+use Rattle.piece_table.specs.Kept.{KeepsTable}
 use Rattle.piece_table.specs.Progress.{Progress, IsFull, piece_part, landed_count}
 use Rattle.piece_table.specs.Sums.{piece_bytes, sum_where}
 use Rattle.piece_table.proofs.Counts.{all_true, count_all}
@@ -15,7 +15,7 @@ use Rattle.piece_table.proofs.Parts.{length-part}
 use Rattle.piece_table.proofs.Weights.{sum_where-set, sum_where-le, piece_bytes-le}
 
 -- the number of landed blocks, as it was read, is that of all blocks
-pub full_test : (p : Progress) (held : List ℕ) (completed verified_bytes piece count blocks : ℕ) → IsKept p held completed verified_bytes
+pub full_test : (p : Progress) (held : List ℕ) (completed verified_bytes piece count blocks : ℕ) → KeepsTable p held completed verified_bytes
     → piece < pieces_of p.total p.piece_len → count ≡ get_or held piece count → blocks ≡ blocks_of_piece p.total p.piece_len piece
     → piece * full_blocks p.piece_len + blocks ≤ blocks_of p.total p.piece_len
     → (IsTrue (eqb count blocks) → IsFull p.total p.piece_len p.landed piece) × (IsFull p.total p.piece_len p.landed piece → IsTrue (eqb count blocks))
@@ -29,11 +29,11 @@ full_test p held completed verified_bytes piece count blocks kept below count_is
     )
 
 -- a piece is found right
-pub settles_right : (p : Progress) (held : List ℕ) (completed verified_bytes piece start size : ℕ) (verified wrong : List Bool) → IsKept p held completed verified_bytes
+pub settles_right : (p : Progress) (held : List ℕ) (completed verified_bytes piece start size : ℕ) (verified wrong : List Bool) → KeepsTable p held completed verified_bytes
     → IsPlan p.total p.piece_len → slice_get p.verified piece ≡ Some false → IsFull p.total p.piece_len p.landed piece
     → verified ≡ set p.verified piece true → wrong ≡ set p.wrong piece false
     → start ≡ piece_start p.piece_len piece → start + size ≡ piece_end p.total p.piece_len piece
-    → (verified_bytes + size < 2 ^ 64) × IsKept (record p { verified = verified; wrong = wrong }) held completed (verified_bytes + size)
+    → (verified_bytes + size < 2 ^ 64) × KeepsTable (record p { verified = verified; wrong = wrong }) held completed (verified_bytes + size)
 settles_right p held completed verified_bytes piece start size verified wrong kept plan is full verified_is wrong_is start_is end_is =
     let v = kept.valid in
     let inside : piece < length p.verified = slice_get_within p.verified piece false is in

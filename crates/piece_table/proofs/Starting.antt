@@ -8,7 +8,7 @@ use Rattle.std.proofs.lemmas.Option.{slice_get-get_or, same_Some}
 use Rattle.dl_kinds.specs.Plan.{pieces_of}
 use Rattle.piece_table.specs.declared.giver.Giver.{Giver}
 use Rattle.piece_table.specs.declared.giver.Giver.TheVariants.{Nobody, Mixed}
-use Rattle.piece_table.specs.Kept.{AreCounts, IsKept}
+use Rattle.piece_table.specs.Kept.{AreCounts, KeepsTable}
 use Rattle.piece_table.specs.Progress.{Progress, IsStart, piece_part, landed_count}
 use Rattle.piece_table.specs.Steps.{giver_at_start, started}
 use Rattle.piece_table.specs.Sums.{block_bytes, piece_bytes, sum_where}
@@ -29,7 +29,7 @@ giver_there total len verified landed piece within =
     ∙ ap Some (get_or-map-range_with_len f 0 (length verified) piece piece Nobody within (zero-add piece))
 
 pub starts : (total len : ℕ) (verified landed : List Bool) (held : List ℕ) → IsStart total len verified landed → AreCounts total len landed held
-    → IsKept (started total len verified landed) held (sum_where (block_bytes total len) landed) (sum_where (piece_bytes total len) verified)
+    → KeepsTable (started total len verified landed) held (sum_where (block_bytes total len) landed) (sum_where (piece_bytes total len) verified)
 starts total len verified landed held start counts =
     let f : ℕ → Giver = λ k. giver_at_start (landed_count total len landed k) in
     record {
@@ -69,7 +69,7 @@ pub starts_so : (total len pieces : ℕ) (verified landed sole wrong : List Bool
     → completed ≡ sum_where (block_bytes total len) landed → verified_bytes ≡ sum_where (piece_bytes total len) verified
     → (p : Progress)
     → p ≡ record { total = total; piece_len = len; landed = landed; verified = verified; sole = sole; wrong = wrong; givers = givers }
-    → (p ≡ started total len verified landed) × IsKept p held completed verified_bytes
+    → (p ≡ started total len verified landed) × KeepsTable p held completed verified_bytes
 starts_so total len pieces verified landed sole wrong held givers completed verified_bytes start pieces_are counts sole_is wrong_is givers_is completed_is verified_is p p_is =
     let many : pieces ≡ length verified = pieces_are ∙ sym start.pieces in
     let f : List Bool → List Bool → List Giver → Progress =
@@ -79,8 +79,8 @@ starts_so total len pieces verified landed sole wrong held givers completed veri
     ∙ ap (λ w. f (replicate (length verified) false) w givers) (wrong_is ∙ ap (λ n. replicate n false) many)
     ∙ ap (f (replicate (length verified) false) (replicate (length verified) false)) (givers_is ∙ givers_are total len verified landed held start counts) in (
       is,
-      subst (λ (q : Progress). IsKept q held completed verified_bytes) (sym is)
-          (subst (λ (x : ℕ). IsKept (started total len verified landed) held x verified_bytes) (sym completed_is)
-          (subst (λ (x : ℕ). IsKept (started total len verified landed) held (sum_where (block_bytes total len) landed) x) (sym verified_is)
+      subst (λ (q : Progress). KeepsTable q held completed verified_bytes) (sym is)
+          (subst (λ (x : ℕ). KeepsTable (started total len verified landed) held x verified_bytes) (sym completed_is)
+          (subst (λ (x : ℕ). KeepsTable (started total len verified landed) held (sum_where (block_bytes total len) landed) x) (sym verified_is)
           (starts total len verified landed held start counts))),
     )

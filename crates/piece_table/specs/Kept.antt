@@ -10,7 +10,7 @@ pub record AreCounts (total piece_len : ℕ) (landed : List Bool) (held : List �
   pub each : (piece : ℕ) → piece < pieces_of total piece_len → slice_index held piece ≡ landed_count total piece_len landed piece
 
 -- those numbers, and the sums of the sizes
-pub record IsKept (p : Progress) (held : List ℕ) (completed verified_bytes : ℕ) : Type 0 where
+pub record KeepsTable (p : Progress) (held : List ℕ) (completed verified_bytes : ℕ) : Type 0 where
   pub valid : IsValid p
   pub counts : AreCounts p.total p.piece_len p.landed held
   pub landed_sum : completed ≡ completed_of p

@@ -1,5 +1,5 @@
 -- What a table tells.
-use Rattle.piece_table.specs.Kept.{IsKept}
+use Rattle.piece_table.specs.Kept.{KeepsTable}
 use Rattle.piece_table.specs.Progress.{Progress}
 use Rattle.piece_table.specs.declared.table.Table.TheInside.{Inside}
 
@@ -15,5 +15,5 @@ progress_of t =
       givers = t.givers.items;
     }
 
-abbrev pub IsSound : Inside → Type 0
-IsSound t = IsKept (progress_of t) t.held.items t.completed t.verified_bytes
+abbrev pub IsSoundTable : Inside → Type 0
+IsSoundTable t = KeepsTable (progress_of t) t.held.items t.completed t.verified_bytes

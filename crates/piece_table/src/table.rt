@@ -37,11 +37,11 @@ impl Model for Table {
 
     ghost Value = { Progress };
 
-    ghost use Rattle.piece_table.specs.View.{progress_of, IsSound};
+    ghost use Rattle.piece_table.specs.View.{progress_of, IsSoundTable};
 
     ghost view = { progress_of };
 
-    ghost invariant = { IsSound };
+    ghost invariant = { IsSoundTable };
 }
 
 impl Table {

@@ -7,3 +7,4 @@ mod NumberLemmas
 mod RangeLemmas
 mod RequestLemmas
 mod Room
+mod TableLemmas

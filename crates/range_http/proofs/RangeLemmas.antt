@@ -11,7 +11,7 @@ use Rattle.std.specs.List.{position_or_len}
 use Rattle.std.specs.Prelude.{Option, Some, None, option_map, position, codes, bytes_eq, nat_le, ◌==◌, not, ⊤, ◌≢◌, ◌↔◌}
 use Rattle.std.specs.Str.Parse.{AllDigits, digits_value}
 use Rattle.range_http.specs.declared.range.ContentRange.{ContentRange}
-use Rattle.range_http.specs.Range.{IsNumber, IsSpan, IsStarOr, IsContentRange, ◌>>=◌, is_number, number_of, without_prefix, parts_at, starred, span_of, is_range, unitless_range_of, range_of}
+use Rattle.range_http.specs.Range.{WritesNumber, IsSpan, IsStarOr, IsContentRange, ◌>>=◌, is_number, number_of, without_prefix, parts_at, starred, span_of, is_range, unitless_range_of, range_of}
 use Rattle.range_http.proofs.NumberLemmas.{is_number-true, number_of-some}
 
 -- a step that had an answer
@@ -25,7 +25,7 @@ goes first next x y is then = ap (λ o. o >>= next) is ∙ then
 
 -- ---- from the function to the grammar
 
-number-is : (text : List ℕ) (n : ℕ) → number_of text ≡ Some n → IsNumber text n
+number-is : (text : List ℕ) (n : ℕ) → number_of text ≡ Some n → WritesNumber text n
 number-is text n is =
     let both = cond_some (is_number text) (digits_value 10 text) n is in
     let parts = is_number-true text both.0 in
@@ -94,14 +94,14 @@ range-is text range is =
       is = prefix-is (codes "bytes ") text unit.0 unit.1 ∙ ap (λ behind. codes "bytes " ++ behind) (parts-are 47 unit.0 cut.0 cut.1)
           ∙ regroup (codes "bytes ") cut.0.0 (47 ∷ []) cut.0.1;
       span_is = star-is span_of IsSpan span-is cut.0.0 span.0 span.1;
-      total_is = star-is number_of IsNumber number-is cut.0.1 total.0 total.1;
+      total_is = star-is number_of WritesNumber number-is cut.0.1 total.0 total.1;
       told = both.0;
     } in
     subst (IsContentRange text) both.1 spells
 
 -- ---- from the grammar to the function
 
-number-from : (text : List ℕ) (n : ℕ) → IsNumber text n → number_of text ≡ Some n
+number-from : (text : List ℕ) (n : ℕ) → WritesNumber text n → number_of text ≡ Some n
 number-from text n is = number_of-some text is.digits (omega (arith, is.small, is.value)) ∙ ap Some is.value
 
 prefix-from : (prefix rest : List ℕ) → without_prefix prefix (prefix ++ rest) ≡ Some rest
@@ -175,11 +175,11 @@ range-from text range is =
     goes (without_prefix (codes "bytes ") text) unitless_range_of behind range unit
     (goes (parts_at 47 behind) _ (is.span, is.total) range (parts-from 47 is.span is.total (span-avoids is.span range.span is.span_is))
     (goes (starred span_of is.span) _ range.span range (star-from span_of IsSpan refl span-from is.span range.span is.span_is)
-    (goes (starred number_of is.total) _ range.total range (star-from number_of IsNumber refl number-from is.total range.total is.total_is)
+    (goes (starred number_of is.total) _ range.total range (star-from number_of WritesNumber refl number-from is.total range.total is.total_is)
     (cond-true _ _ _ is.told))))
 
 pub range_exact : (text : List ℕ) (range : ContentRange) → (range_of text ≡ Some range) ↔ IsContentRange text range
 range_exact text range = (range-is text range, range-from text range)
 
-pub number_exact : (text : List ℕ) (number : ℕ) → (number_of text ≡ Some number) ↔ IsNumber text number
+pub number_exact : (text : List ℕ) (number : ℕ) → (number_of text ≡ Some number) ↔ WritesNumber text number
 number_exact text number = (number-is text number, number-from text number)

@@ -7,4 +7,5 @@ pub mod Range
 pub mod RangeLaws
 pub mod Request
 pub mod Spans
+pub mod Table
 pub mod Verdict

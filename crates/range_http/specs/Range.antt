@@ -5,7 +5,7 @@ use Rattle.std.specs.Str.Parse.{IsNumeral, digits_value}
 use Rattle.range_http.specs.declared.range.ContentRange.{ContentRange}
 
 -- 1*DIGIT, a number below 2 ^ 63
-pub record IsNumber (text : List ℕ) (number : ℕ) : Type 0 where
+pub record WritesNumber (text : List ℕ) (number : ℕ) : Type 0 where
   pub digits : IsNumeral 10 text
   pub value : digits_value 10 text ≡ number
   pub small : number < 2 ^ 63
@@ -15,8 +15,8 @@ pub record IsSpan (text : List ℕ) (span : ℕ × ℕ) : Type 0 where
   pub first : List ℕ
   pub last : List ℕ
   pub is : text ≡ first ++ codes "-" ++ last
-  pub first_is : IsNumber first span.0
-  pub last_is : IsNumber last span.1
+  pub first_is : WritesNumber first span.0
+  pub last_is : WritesNumber last span.1
   pub order : span.0 ≤ span.1
 
 -- a star stands for what isn't told
@@ -37,7 +37,7 @@ pub record IsContentRange (text : List ℕ) (range : ContentRange) : Type 0 wher
   pub total : List ℕ
   pub is : text ≡ codes "bytes " ++ span ++ codes "/" ++ total
   pub span_is : IsStarOr IsSpan span range.span
-  pub total_is : IsStarOr IsNumber total range.total
+  pub total_is : IsStarOr WritesNumber total range.total
   pub told : IsTrue (is_range range.span range.total)
 
 -- ---- the same as a function

@@ -1,5 +1,6 @@
 // What the head of a reply means.
 ghost use Rattle.std.specs.Prelude.{◌≡◌, ◌+◌, ◌-◌};
+ghost use Rattle.range_http.specs.Table.{HasOneVerdict};
 ghost use Rattle.range_http.specs.Verdict.{told_range, is_empty_range, is_empty, is_encoded, told_length, is_told, sized, ranged_verdict, whole_verdict, content_verdict, verdict_of};
 
 use crate::fields::sole_value;
@@ -146,8 +147,7 @@ fn content_verdict(head: &Head, asked: &Asked) -> Verdict
     }
 }
 
-/// What the reply is for what was asked. It asks for nothing of the allocator.
-pub fn classify(head: &Head, asked: &Asked) -> Verdict
+fn first_line(head: &Head, asked: &Asked) -> Verdict
     ensures { result ≡ verdict_of head.now asked.now }
 {
     match head.status {
@@ -159,4 +159,12 @@ pub fn classify(head: &Head, asked: &Asked) -> Verdict
         200 | 206 => content_verdict(head, asked),
         _ => UNEXPECTED,
     }
+}
+
+/// What the reply is for what was asked. It asks for nothing of the allocator.
+pub fn classify(head: &Head, asked: &Asked) -> Verdict
+    ensures table { HasOneVerdict head.now asked.now result }
+    ensures value { result ≡ verdict_of head.now asked.now }
+{
+    first_line(head, asked)
 }

@@ -4,11 +4,11 @@ use Rattle.std.specs.Prelude.{nat_le, ◌&&◌, if◌then◌else◌}
 use Rattle.std.specs.List.{AllByRecursion}
 use Rattle.std.proofs.lemmas.List.Elements.{recursion_from_All}
 use Rattle.std.proofs.lemmas.Bool.Decides.{nat_tests}
-use Rattle.rate_tokens.specs.Calls.{BucketCall, Taken, RateSet, capacity_of, filled, answer_of, bytes_of, left_by, rate_after, moment_after, held_after}
+use Rattle.rate_tokens.specs.Calls.{BucketCall, Taken, RateSet, capacity_of, refilled, answer_of, granted_bytes, left_by, rate_after, moment_after, held_after}
 use Rattle.rate_tokens.specs.Rates.{KeepsRate, gone_between, RateIsKept}
 
 -- a take at a rate leaves the rest of what is held
-taken_left : (r level want now : ℕ) → 0 < r → left_by (Taken want now) r level + 1000 * bytes_of (answer_of r level want) ≤ level
+taken_left : (r level want now : ℕ) → 0 < r → left_by (Taken want now) r level + 1000 * granted_bytes (answer_of r level want) ≤ level
 taken_left r level want now some = grind (arith, nat_tests)
 
 -- and the same rate leaves all
@@ -46,7 +46,7 @@ times_later r u m now h =
 times_less : (r a b u : ℕ) → a ≤ b → r * (a - u) ≤ r * (b - u)
 times_less r a b u h = mul-le-mul_left r (omega arith)
 
-bounded_step : (r u v m now held gone bytes left : ℕ) → left + 1000 * bytes ≤ filled r held (now - m) → IsBounded r u v m held gone
+bounded_step : (r u v m now held gone bytes left : ℕ) → left + 1000 * bytes ≤ refilled r held (now - m) → IsBounded r u v m held gone
     → IsBounded r u v (max m now) left (counted u v (max m now) bytes + gone)
 bounded_step r u v m now held gone bytes left takes before =
     let so_far = λ (in_time : max m now ≤ v). so_far_step (capacity_of r) u v m (max m now) held gone bytes left (r * (m - u)) (r * (now - m)) (r * (max m now - u)) (omega arith) in_time takes before.none before.so_far (times_later r u m now) in
@@ -80,22 +80,22 @@ bounded first begun r u v before (Taken want now ∷ stretch) some rate keeps =
     let rate_now : ℕ = rate_after first calls in
     let moment : ℕ = moment_after begun calls in
     let held : ℕ = held_after first begun calls in
-    let level : ℕ = filled rate_now held (now - moment) in
-    let bytes : ℕ = bytes_of (answer_of rate_now level want) in
+    let level : ℕ = refilled rate_now held (now - moment) in
+    let bytes : ℕ = granted_bytes (answer_of rate_now level want) in
     let left : ℕ = left_by (Taken want now) rate_now level in
     let same : rate_now ≡ r = rate_stays first r before stretch rate keeps.1 in
-    let takes = subst (λ (x : ℕ). left + 1000 * bytes ≤ filled x held (now - moment)) same (taken_left rate_now level want now (omega arith)) in
+    let takes = subst (λ (x : ℕ). left + 1000 * bytes ≤ refilled x held (now - moment)) same (taken_left rate_now level want now (omega arith)) in
     bounded_step r u v moment now held (gone_between first begun before stretch u v) bytes left takes (bounded first begun r u v before stretch some rate keeps.1)
 bounded first begun r u v before (RateSet new now ∷ stretch) some rate keeps =
     let calls : List BucketCall = stretch ++ before in
     let rate_now : ℕ = rate_after first calls in
     let moment : ℕ = moment_after begun calls in
     let held : ℕ = held_after first begun calls in
-    let level : ℕ = filled rate_now held (now - moment) in
+    let level : ℕ = refilled rate_now held (now - moment) in
     let left : ℕ = left_by (RateSet new now) rate_now level in
     let same : rate_now ≡ r = rate_stays first r before stretch rate keeps.1 in
     let leaves : left ≤ level = subst (λ (x : ℕ). left_by (RateSet x now) rate_now level ≤ level) (same ∙ sym keeps.0) (set_left rate_now level now (omega arith)) in
-    let takes = subst (λ (x : ℕ). left + 1000 * 0 ≤ filled x held (now - moment)) same (omega arith) in
+    let takes = subst (λ (x : ℕ). left + 1000 * 0 ≤ refilled x held (now - moment)) same (omega arith) in
     bounded_step r u v moment now held (gone_between first begun before stretch u v) 0 left takes (bounded first begun r u v before stretch some rate keeps.1)
 
 whole_bytes : (gone most gives : ℕ) → 1000 * gone ≤ 1000 * most + gives → gone ≤ most + gives / 1000

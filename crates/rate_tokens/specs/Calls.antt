@@ -19,8 +19,8 @@ abbrev pub capacity_of : ℕ → ℕ
 capacity_of rate = 1000 * max rate 16384
 
 -- what it holds once so many milliseconds have passed
-abbrev pub filled : ℕ → ℕ → ℕ → ℕ
-filled rate held passed = min (capacity_of rate) (held + rate * passed)
+abbrev pub refilled : ℕ → ℕ → ℕ → ℕ
+refilled rate held passed = min (capacity_of rate) (held + rate * passed)
 
 -- its credit in whole bytes. A rate of 0 limits nothing
 abbrev pub credit_of : ℕ → ℕ → ℕ
@@ -34,13 +34,13 @@ answer_of rate held want =
     if bytes == 0 then Hold (div_ceil (1000 - held) rate) else Go bytes
 
 -- the bytes that an answer lets go
-abbrev pub bytes_of : Take → ℕ
-bytes_of (Go bytes) = bytes
-bytes_of (Hold milliseconds) = 0
+abbrev pub granted_bytes : Take → ℕ
+granted_bytes (Go bytes) = bytes
+granted_bytes (Hold milliseconds) = 0
 
 -- what a call leaves of what was held at its moment. A new rate adds nothing, but a limit where there was none starts full
 abbrev pub left_by : BucketCall → ℕ → ℕ → ℕ
-left_by (Taken want now) rate held = if rate == 0 then held else held - 1000 * bytes_of (answer_of rate held want)
+left_by (Taken want now) rate held = if rate == 0 then held else held - 1000 * granted_bytes (answer_of rate held want)
 left_by (RateSet new now) rate held = if rate == 0 then capacity_of new else min (capacity_of new) held
 
 -- The calls are those of a bucket that was made with the rate `first` at the moment `begun`. Its rate after them: the last
@@ -60,12 +60,12 @@ abbrev pub held_after : ℕ → ℕ → List BucketCall → ℕ
 held_after first begun [] = capacity_of first
 held_after first begun (call ∷ earlier) =
     let rate = rate_after first earlier in
-    left_by call rate (filled rate (held_after first begun earlier) (moment_of call - moment_after begun earlier))
+    left_by call rate (refilled rate (held_after first begun earlier) (moment_of call - moment_after begun earlier))
 
 -- what it holds at a moment after them
 abbrev pub held_at : ℕ → ℕ → List BucketCall → ℕ → ℕ
 held_at first begun calls now =
-    filled (rate_after first calls) (held_after first begun calls) (now - moment_after begun calls)
+    refilled (rate_after first calls) (held_after first begun calls) (now - moment_after begun calls)
 
 -- its credit then, in whole bytes
 abbrev pub credit_at : ℕ → ℕ → List BucketCall → ℕ → ℕ

@@ -1,11 +1,11 @@
 -- How much a bucket lets go in a time, and when it lets go again.
 use Rattle.std.specs.Prelude.{◌≡◌, ℕ, ◌+◌, ◌*◌, ◌-◌, ◌/◌, ◌<◌, ◌≤◌, ◌&&◌, nat_le, max, if◌then◌else◌, List, [], ◌∷◌, ◌++◌, All}
 use Rattle.rate_tokens.specs.declared.bucket.Take.TheVariants.{Hold}
-use Rattle.rate_tokens.specs.Calls.{BucketCall, Taken, RateSet, bytes_of, rate_after, moment_after, held_at, answer_at, credit_at}
+use Rattle.rate_tokens.specs.Calls.{BucketCall, Taken, RateSet, granted_bytes, rate_after, moment_after, held_at, answer_at, credit_at}
 
 -- the bytes that a call lets go after the earlier ones
 abbrev pub gone_by : ℕ → ℕ → BucketCall → List BucketCall → ℕ
-gone_by first begun (Taken want now) earlier = bytes_of (answer_at first begun earlier want now)
+gone_by first begun (Taken want now) earlier = granted_bytes (answer_at first begun earlier want now)
 gone_by first begun (RateSet rate now) earlier = 0
 
 -- the bytes that the calls of `stretch`, which come after those `before`, let go from moment u to moment v. A call counts

@@ -1,6 +1,6 @@
 // A token bucket.
 ghost use Rattle.std.specs.Prelude.{◌≡◌, ◌↔◌, ℕ, ◌-◌, ◌^◌, ◌<◌, ◌≤◌, max, List, [], ◌∷◌};
-ghost use Rattle.rate_tokens.specs.Calls.{BucketCall, Taken, RateSet, capacity_of, filled, credit_at, answer_at, IsHold, IfGo, IfHold};
+ghost use Rattle.rate_tokens.specs.Calls.{BucketCall, Taken, RateSet, capacity_of, refilled, credit_at, answer_at, IsHold, IfGo, IfHold};
 
 use dl_kinds::Moment;
 use std::marker::Model;
@@ -65,7 +65,7 @@ impl Bucket {
 
     // What it holds at this moment.
     fn held_at(&self, now: Moment) -> u128
-        ensures { result ≡ filled self.now.rate self.now.held (now.0 - self.now.moment) }
+        ensures { result ≡ refilled self.now.rate self.now.held (now.0 - self.now.moment) }
     {
         let passed = now.0.saturating_sub(self.moment.0);
         capacity(self.rate).min(self.held + self.rate as u128 * passed as u128)
@@ -75,7 +75,7 @@ impl Bucket {
     fn pass(&mut self, now: Moment)
         ensures rate { self.new.rate ≡ self.old.rate }
         ensures moment { self.new.moment ≡ max self.old.moment now.0 }
-        ensures held { self.new.held ≡ filled self.old.rate self.old.held (now.0 - self.old.moment) }
+        ensures held { self.new.held ≡ refilled self.old.rate self.old.held (now.0 - self.old.moment) }
     {
         self.held = self.held_at(now);
         self.moment = Moment(self.moment.0.max(now.0));

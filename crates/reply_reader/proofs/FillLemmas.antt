@@ -11,7 +11,7 @@ use Rattle.range_http.specs.declared.verdict.Verdict.{Verdict}
 use Rattle.range_http.specs.declared.verdict.Verdict.TheVariants.{Part, Whole, Empty, WrongLength, Moved, NotFound, Refused}
 use Rattle.range_http.specs.Verdict.{verdict_of}
 use Rattle.reply_reader.specs.Answers.{Turn, Due, Given, Away, Lost, Answer, without_bytes, slice_answer, size_to, part_slice, whole_slice, answer_by, head_due, Answers}
-use Rattle.reply_reader.specs.Fills.{Fills, AnswersFill}
+use Rattle.reply_reader.specs.Fills.{AnswerFills, AnswersFill}
 use Rattle.reply_reader.specs.Slices.{Slice, framing_told, came_of, has_come, goes_wrong, is_over}
 use Rattle.reply_reader.specs.declared.loss.Loss.TheVariants as losses
 use Rattle.reply_reader.proofs.VerdictLemmas.{PartFits}
@@ -42,7 +42,7 @@ sizes : (first last place n : ℕ) → first ≤ last → last ≤ place → n �
 sizes first last place n begins ends few full = (omega arith, omega arith)
 
 slice_fills : (asked : Asked) (framing : Framing) (skip last : ℕ) (stream : List ℕ) (ended : Bool) → asked.first ≤ last → last ≤ asked.last
-    → Fills asked (slice_answer (record { framing = framing; skip = skip; len = size_to asked last }) last stream ended)
+    → AnswerFills asked (slice_answer (record { framing = framing; skip = skip; len = size_to asked last }) last stream ended)
 slice_fills asked framing skip last stream ended begins ends =
     let slice : Slice = record { framing = framing; skip = skip; len = size_to asked last } in
     let came : List ℕ = came_of slice stream in
@@ -65,7 +65,7 @@ some_asked : (first last : ℕ) → first ≤ last → 0 ≡ last + 1 - first �
 some_asked first last ordered none = omega arith
 
 -- an answer without bytes, whose turn gives none
-nothing_fills : (asked : Asked) (turn : Turn) → asked.first ≤ asked.last → ((last : ℕ) → turn ≡ Given last → ⊥) → Fills asked (without_bytes turn)
+nothing_fills : (asked : Asked) (turn : Turn) → asked.first ≤ asked.last → ((last : ℕ) → turn ≡ Given last → ⊥) → AnswerFills asked (without_bytes turn)
 nothing_fills asked turn ordered other = record {
   few = zero-le;
   given = λ last is. absurd (other last is);
@@ -74,7 +74,7 @@ nothing_fills asked turn ordered other = record {
 }
 
 by_fills : (head : Head) (asked : Asked) (verdict : Verdict) (stream : List ℕ) (ended : Bool) → asked.first ≤ asked.last → PartFits asked verdict
-    → Fills asked (answer_by head asked verdict stream ended)
+    → AnswerFills asked (answer_by head asked verdict stream ended)
 by_fills head asked (Part last total framing) stream ended ordered fits = slice_fills asked (framing_told framing) 0 last stream ended (fits.part last total framing refl).0 (fits.part last total framing refl).1
 by_fills head asked (Whole total framing) stream ended ordered fits = slice_fills asked (framing_told framing) asked.first asked.last stream ended ordered (omega arith)
 by_fills head asked Empty stream ended ordered fits = nothing_fills asked _ ordered (λ last is. cc)
@@ -83,13 +83,13 @@ by_fills head asked Moved stream ended ordered fits = nothing_fills asked _ orde
 by_fills head asked NotFound stream ended ordered fits = nothing_fills asked _ ordered (λ last is. cc)
 by_fills head asked (Refused code) stream ended ordered fits = nothing_fills asked _ ordered (λ last is. cc)
 
-due_fills : (asked : Asked) (ended : Bool) → asked.first ≤ asked.last → Fills asked (head_due ended)
+due_fills : (asked : Asked) (ended : Bool) → asked.first ≤ asked.last → AnswerFills asked (head_due ended)
 due_fills asked true ordered = nothing_fills asked _ ordered (λ last is. cc)
 due_fills asked false ordered = nothing_fills asked _ ordered (λ last is. cc)
 
 pub answers_fill : ((head : Head) (asked : Asked) → PartFits asked (verdict_of head asked)) → AnswersFill
 answers_fill fits = λ asked received ended answer ordered answers.
-    let P : Answer → Type 0 = Fills asked in
+    let P : Answer → Type 0 = AnswerFills asked in
     elim answers [
       | inl due ↦ subst P (sym due.1) (due_fills asked ended ordered)
       | inr (inl none) ↦ subst P (sym none.1) (nothing_fills asked _ ordered (λ last is. cc))

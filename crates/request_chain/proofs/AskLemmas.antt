@@ -11,7 +11,7 @@ use Rattle.reply_reader.specs.declared.heads.HeadReader.{HeadReader}
 use Rattle.reply_reader.specs.declared.loss.Loss.{Loss}
 use Rattle.reply_reader.specs.declared.loss.Loss.TheVariants as losses
 use Rattle.request_chain.specs.Chains.{Gains, received_by, TellsLoss, IsChain}
-use Rattle.request_chain.specs.Courses.{plan_now, Leads, IsAsking, IfAsking}
+use Rattle.request_chain.specs.Courses.{plan_now, CarriesOn, IsAsking, IfAsking}
 use Rattle.request_chain.specs.Exchanges.{IsExchange}
 use Rattle.request_chain.specs.Fetched.{Fetched}
 use Rattle.request_chain.specs.Plans.{Plan, Ask, Over, Ending, Open, Lost as Gone, plan_of, asked_of, unusable}
@@ -45,9 +45,9 @@ pub asking_in : (plan : Plan) (part : JobPart) (others : List JobPart) (url : Li
     → plan ≡ Ask part others url count status → P part others url count status → IfAsking plan P
 asking_in plan part others url count status P is holds = subst (λ (p : Plan). IfAsking p P) (sym is) holds
 
-module _ (parts : List JobPart) (before used now new : List Stream) (plan : Plan) (bytes : List ℕ) (asks : Asks plan) (leads : Leads (plan_of parts) used bytes plan) (gains : Gains before now used) where
-  asking : Leads (plan_of parts) used bytes (Ask asks.part asks.others asks.url asks.count asks.status)
-  asking = subst (λ (p : Plan). Leads (plan_of parts) used bytes p) asks.is leads
+module _ (parts : List JobPart) (before used now new : List Stream) (plan : Plan) (bytes : List ℕ) (asks : Asks plan) (leads : CarriesOn (plan_of parts) used bytes plan) (gains : Gains before now used) where
+  asking : CarriesOn (plan_of parts) used bytes (Ask asks.part asks.others asks.url asks.count asks.status)
+  asking = subst (λ (p : Plan). CarriesOn (plan_of parts) used bytes p) asks.is leads
 
   -- the request was sent
   pub opened_head : (course : Course) → plan ≡ plan_now course → (reader : HeadReader) → IsAtHead [] reader → (asked : Asked) → asked ≡ asked_of asks.part → (url : List ℕ) → url ≡ asks.url
@@ -131,7 +131,7 @@ module _ (parts : List JobPart) (before used now new : List Stream) (plan : Plan
           let stream = dialled.0 in
           let none : stream.received ≡ [] = ap (λ (s : Stream). s.received) dialled.1.is in
           let on = leads_on (plan_of parts) used bytes asks.part asks.others asks.url asks.count asks.status stream (without_bytes Due) asking (inl (dialled.1, refl)) in
-          let P : List ℕ → Type 0 = λ came. Leads (plan_of parts) (used ++ stream ∷ []) came (Over Open) in
+          let P : List ℕ → Type 0 = λ came. CarriesOn (plan_of parts) (used ++ stream ∷ []) came (Over Open) in
           lose_on (losses.Link count) stream dialled.2 none (over_open parts (used ++ stream ∷ []) bytes (subst P (append-nil bytes) on), is)
     ]
 

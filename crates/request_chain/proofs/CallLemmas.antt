@@ -7,7 +7,7 @@ use Rattle.span_map.specs.declared.jobs.JobPart.{JobPart}
 use Rattle.reply_reader.specs.Answers.{Lost}
 use Rattle.reply_reader.specs.declared.loss.Loss.{Loss}
 use Rattle.reply_reader.specs.declared.loss.Loss.TheVariants as losses
-use Rattle.request_chain.specs.Chains.{Gains, received_by, IsChain, HasBrought, TellsLoss, Reads, Loses}
+use Rattle.request_chain.specs.Chains.{Gains, received_by, IsChain, HasBrought, TellsLoss, ReadsChain, Loses}
 use Rattle.request_chain.specs.Courses.{plan_now, IsAsking}
 use Rattle.request_chain.specs.Fetched.{FetchedBy, Fetched}
 use Rattle.request_chain.specs.Plans.{Plan, Ask, Over, Done}
@@ -89,7 +89,7 @@ pub call_reads : (parts : List JobPart) (before used now new : List Stream) (byt
     → ((plan_now chain.course ≡ Over Done) ⊎ ((room ≤ gained) ⊎ ((allow ≤ chain.taken) × (chain.room.inbox ≡ []))))
     → (done ≡ true → plan_now chain.course ≡ Over Done) → (done ≡ false → IsAsking (plan_now chain.course))
     → (more : List ℕ) × HasBrought parts steps.later (bytes ++ added) more × (chain.room.inbox ≡ [] → more ≡ [])
-    → Reads parts before used bytes new added room allow (record { taken = chain.taken; done = done }) chain
+    → ReadsChain parts before used bytes new added room allow (record { taken = chain.taken; done = done }) chain
 call_reads parts before used now new bytes added room allow gained chain done steps same few within gain stopped over asking brought =
     let P : List Stream → Type 0 = λ streams. Gains before streams steps.later in
     let came : plan_now chain.course ≡ Over Done → (chain.room.inbox ≡ []) × Fetched parts steps.later (bytes ++ added) Done [] =

@@ -18,7 +18,7 @@ use Rattle.reply_reader.specs.declared.loss.Loss.{Loss}
 use Rattle.reply_reader.specs.declared.loss.Loss.TheVariants as losses
 use Rattle.request_chain.specs.Chains.{TellsLoss}
 use Rattle.request_chain.specs.Contents.{IsBegun, IsOwn}
-use Rattle.request_chain.specs.Courses.{plan_now, Leads}
+use Rattle.request_chain.specs.Courses.{plan_now, CarriesOn}
 use Rattle.request_chain.specs.Plans.{plan_of, plan_at, asked_of, next_plan}
 use Rattle.request_chain.specs.Redirects.{moved_to, redirect_limit}
 use Rattle.request_chain.specs.Stages.{IsReadingHead, IsReadingContent}
@@ -126,7 +126,7 @@ module _ (parts : List JobPart) (used : List Stream) (course : Course) (waiting 
   -- the plan, where the resource was moved
   pub moved_leads : FinalHeadStays → (head : Head) → (read : HeadIsRead parts used course waiting bytes head) → (moved : HasMoved course head)
       → (text : List ℕ) × (sole (values_of head (codes "location")) ≡ Some text)
-      × Leads (plan_of parts) used bytes (next_plan read.sent.part read.sent.others read.sent.url read.sent.count (Away head.status text))
+      × CarriesOn (plan_of parts) used bytes (next_plan read.sent.part read.sent.others read.sent.url read.sent.count (Away head.status text))
   unfolding head_answer
   moved_leads stays head read moved =
       let asked = asked_of read.sent.part in

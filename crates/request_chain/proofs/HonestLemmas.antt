@@ -4,7 +4,7 @@ use Rattle.std.proofs.lemmas.List.{take_all, take-append-drop}
 use Rattle.std.proofs.lemmas.List.Elements.{All-nil, All-cons}
 use Rattle.std.specs.Prelude.{Option, Some, None, option_and_then}
 use Rattle.link_source.specs.BadAnswers.{next_bad}
-use Rattle.link_source.specs.Mirrors.{Content, Answers, AddsReply, bad_at, number_at}
+use Rattle.link_source.specs.Mirrors.{Content, HasReply, AddsReply, bad_at, number_at}
 use Rattle.link_source.specs.Streams.{Stream, TakesDue, dialled, with_sent, with_received}
 use Rattle.link_source.specs.declared.bad_answers.Bad.{Bad}
 use Rattle.span_map.specs.declared.jobs.JobPart.{JobPart}
@@ -54,7 +54,7 @@ module _ (content : Content) (before now : List Stream) where
       let reply = subst P on_is (subst R content_is adds) in
       let past = honest_dialled due is in
       let stays : new_content ≡ content = reply.1.stays (none_at content host port none) in
-      let Q : Content → Type 0 = λ c. Answers content host port request reply.0 c in
+      let Q : Content → Type 0 = λ c. HasReply content host port request reply.0 c in
       let stream : Stream = record { host = host; port = port; sent = (0, request) ∷ []; received = []; ended = false } in
       let due_is : new_due ≡ reply.0 = reply.2 ∙ ap (λ d. d ++ reply.0) none_is in
       let gave : GaveOf content stream new_due = record {

@@ -11,26 +11,26 @@ use Rattle.url.specs.Parts.{Parts}
 use Rattle.url.specs.declared.error.ParseError.{ParseError}
 use Rattle.span_map.specs.declared.jobs.JobPart.{JobPart}
 use Rattle.reply_reader.specs.Answers.{Answer}
-use Rattle.request_chain.specs.Courses.{Leads}
+use Rattle.request_chain.specs.Courses.{CarriesOn}
 use Rattle.request_chain.specs.Exchanges.{Replies}
 use Rattle.request_chain.specs.Fetched.{FetchedBy, Fetched}
 use Rattle.request_chain.specs.Plans.{Ending, Done, Open, Lost, Plan, Ask, Over, plan_of, asked_of, next_plan, unusable}
 
-pub leads_none : (plan : Plan) → Leads plan [] [] plan
+pub leads_none : (plan : Plan) → CarriesOn plan [] [] plan
 leads_none plan = λ streams rest more ending fetched. fetched
 
 -- one stream more, with its answer
 pub leads_on : (plan : Plan) (older : List Stream) (brought : List ℕ) (part : JobPart) (parts : List JobPart) (url : List ℕ) (count status : ℕ)
     (stream : Stream) (answer : Answer)
-    → Leads plan older brought (Ask part parts url count status) → Replies url (asked_of part) stream answer
-    → Leads plan (older ++ stream ∷ []) (brought ++ answer.got) (next_plan part parts url count answer.turn)
+    → CarriesOn plan older brought (Ask part parts url count status) → Replies url (asked_of part) stream answer
+    → CarriesOn plan (older ++ stream ∷ []) (brought ++ answer.got) (next_plan part parts url count answer.turn)
 leads_on plan older brought part parts url count status stream answer leads replies = λ streams rest more ending fetched.
     rw (append_assoc older (stream ∷ []) streams, append_assoc brought answer.got more)
     (leads (stream ∷ streams) rest (answer.got ++ more) ending (answer, more, replies, refl, fetched))
 
 -- they tell what the next plan tells without more streams
 pub leads_end : (parts : List JobPart) (used : List Stream) (bytes : List ℕ) (next : Plan) (ending : Ending)
-    → Leads (plan_of parts) used bytes next → FetchedBy next [] [] ending [] → Fetched parts used bytes ending []
+    → CarriesOn (plan_of parts) used bytes next → FetchedBy next [] [] ending [] → Fetched parts used bytes ending []
 leads_end parts used bytes next ending leads fetched =
     let P : List Stream → List ℕ → Type 0 = λ streams came. FetchedBy (plan_of parts) streams came ending [] in
     let all : P (used ++ []) (bytes ++ []) = leads [] [] [] ending fetched in

@@ -9,7 +9,7 @@ use Rattle.reply_reader.specs.declared.loss.Loss.{Loss}
 use Rattle.reply_reader.specs.declared.loss.Loss.TheVariants as losses
 use Rattle.request_chain.specs.Chains.{HasBrought, TellsLoss}
 use Rattle.request_chain.specs.Contents.{IsReadTo, IsOwn}
-use Rattle.request_chain.specs.Courses.{plan_now, Leads}
+use Rattle.request_chain.specs.Courses.{plan_now, CarriesOn}
 use Rattle.request_chain.specs.Fetched.{Fetched}
 use Rattle.request_chain.specs.Plans.{Open, Lost as Gone, Over, plan_of, asked_of, next_plan}
 use Rattle.request_chain.specs.Stages.{IsSent, IsReadingHead, IsReadingContent, IsReading, IsBehindHead, IsDueAt, IsNoHeadAt, got_at}
@@ -28,9 +28,9 @@ module _ (parts : List JobPart) (used : List Stream) (course : Course) (bytes : 
       × Answers (asked_of sent.part) sent.newest.received ended (record { got = got; turn = turn })
 
   pub answer_leads : (turn : Turn) → (has : HasAnswer false turn)
-      → Leads (plan_of parts) used bytes (next_plan has.0.part has.0.others has.0.url has.0.count turn)
+      → CarriesOn (plan_of parts) used bytes (next_plan has.0.part has.0.others has.0.url has.0.count turn)
   answer_leads turn has =
-      let P : List ℕ → Type 0 = λ came. Leads (plan_of parts) used came (next_plan has.0.part has.0.others has.0.url has.0.count turn) in
+      let P : List ℕ → Type 0 = λ came. CarriesOn (plan_of parts) used came (next_plan has.0.part has.0.others has.0.url has.0.count turn) in
       subst P (sym has.2) (told_now parts used course has.0 (record { got = has.1; turn = turn }) has.3)
 
   pub answer_open : HasAnswer false Due → Fetched parts used bytes Open []
@@ -44,7 +44,7 @@ module _ (parts : List JobPart) (used : List Stream) (course : Course) (bytes : 
       → Fetched parts (has.0.older ++ with_bytes has.0.newest has.0.newest.received true ∷ []) bytes (Gone loss) []
   answer_ended loss has =
       let streams = has.0.older ++ with_bytes has.0.newest has.0.newest.received true ∷ [] in
-      let P : List ℕ → Type 0 = λ came. Leads (plan_of parts) streams came (Over (Gone loss)) in
+      let P : List ℕ → Type 0 = λ came. CarriesOn (plan_of parts) streams came (Over (Gone loss)) in
       over_lost parts streams bytes loss (subst P (sym has.2) (told parts used course has.0 has.0.newest.received true (record { got = has.1; turn = Lost loss }) has.3))
 
   -- more is due
@@ -93,7 +93,7 @@ module _ (parts : List JobPart) (used : List Stream) (course : Course) (bytes : 
       )
 
   -- what all streams tell has these bytes at its front
-  pub brought_by : (waiting more : List ℕ) (leads : (next : _) × Leads (plan_of parts) used (bytes ++ more) next) → HasBrought parts used bytes more
+  pub brought_by : (waiting more : List ℕ) (leads : (next : _) × CarriesOn (plan_of parts) used (bytes ++ more) next) → HasBrought parts used bytes more
   brought_by waiting more leads =
       let end = ends leads.0 in
       record { ending = end.0; fetched = leads_end parts used (bytes ++ more) leads.0 end.0 leads.1 end.1 }
@@ -138,12 +138,12 @@ module _ (grow : AnswersGrow) (stays : FinalHeadStays) (parts : List JobPart) (u
   pub reading_brought : (stage : Stage) (waiting : List ℕ) → IsReading stage course waiting parts used bytes → IsBehindHead stage waiting → IsDueAt stage
       → (more : List ℕ) × HasBrought parts used bytes more × (waiting ≡ [] → more ≡ [])
   reading_brought Asking waiting reading behind due =
-      let P : List ℕ → Type 0 = λ came. Leads (plan_of parts) used came (plan_now course) in
+      let P : List ℕ → Type 0 = λ came. CarriesOn (plan_of parts) used came (plan_now course) in
       ([], brought_by parts used course bytes waiting [] (plan_now course, subst P (sym (append-nil bytes)) reading.0), λ none. refl)
   reading_brought (InHead reader) waiting reading behind due =
       let Q : List ℕ → Type 0 = λ w. IsReadingHead parts used course w bytes reader in
       let has = due_answer parts used course bytes (InHead reader) (subst Q behind reading) due (λ is. cc) in
-      let P : List ℕ → Type 0 = λ came. Leads (plan_of parts) used came (Over Open) in
+      let P : List ℕ → Type 0 = λ came. CarriesOn (plan_of parts) used came (Over Open) in
       ([], brought_by parts used course bytes waiting [] (Over Open, subst P (sym (append-nil bytes)) (answer_leads parts used course bytes Due has)), λ none. refl)
   reading_brought (InContent content) waiting reading behind due =
       let sent = reading.sent in
@@ -151,5 +151,5 @@ module _ (grow : AnswersGrow) (stays : FinalHeadStays) (parts : List JobPart) (u
       let all : bytes ++ grown.1 ≡ sent.brought ++ grown.0.got =
       ap (λ b. b ++ grown.1) reading.bytes_are ∙ append_assoc sent.brought reading.got grown.1 ∙ ap (λ b. sent.brought ++ b) (sym grown.3) in
       let next = next_plan sent.part sent.others sent.url sent.count grown.0.turn in
-      let P : List ℕ → Type 0 = λ came. Leads (plan_of parts) used came next in
+      let P : List ℕ → Type 0 = λ came. CarriesOn (plan_of parts) used came next in
       (grown.1, brought_by parts used course bytes waiting grown.1 (next, subst P (sym all) (told_now parts used course sent grown.0 grown.2)), grown.4)

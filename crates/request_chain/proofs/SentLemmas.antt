@@ -10,7 +10,7 @@ use Rattle.reply_reader.specs.Slices.{came_of, has_come, goes_wrong, is_over}
 use Rattle.reply_reader.specs.declared.loss.Loss.{Loss}
 use Rattle.reply_reader.specs.declared.loss.Loss.TheVariants as losses
 use Rattle.request_chain.specs.Contents.{IsReadTo}
-use Rattle.request_chain.specs.Courses.{Leads}
+use Rattle.request_chain.specs.Courses.{CarriesOn}
 use Rattle.request_chain.specs.Exchanges.{IsExchange}
 use Rattle.request_chain.specs.Fetched.{Fetched}
 use Rattle.request_chain.specs.Plans.{Open, Lost as Gone, Over, plan_of, asked_of, next_plan}
@@ -29,24 +29,24 @@ same_exchange url asked stream received ended is = record { endpoint = is.endpoi
 module _ (parts : List JobPart) (used : List Stream) (course : Course) where
   -- where the newest stream received these bytes and answers so, this plan is next
   pub told : (sent : IsSent parts used course) (received : List ℕ) (ended : Bool) (answer : Answer) → Answers (asked_of sent.part) received ended answer
-      → Leads (plan_of parts) (sent.older ++ with_bytes sent.newest received ended ∷ []) (sent.brought ++ answer.got)
+      → CarriesOn (plan_of parts) (sent.older ++ with_bytes sent.newest received ended ∷ []) (sent.brought ++ answer.got)
       (next_plan sent.part sent.others sent.url sent.count answer.turn)
   told sent received ended answer answers =
       leads_on (plan_of parts) sent.older sent.brought sent.part sent.others sent.url sent.count sent.status (with_bytes sent.newest received ended) answer
       sent.leads (inr (same_exchange sent.url (asked_of sent.part) sent.newest received ended sent.exchange, answers))
 
   pub told_now : (sent : IsSent parts used course) (answer : Answer) → Answers (asked_of sent.part) sent.newest.received false answer
-      → Leads (plan_of parts) used (sent.brought ++ answer.got) (next_plan sent.part sent.others sent.url sent.count answer.turn)
+      → CarriesOn (plan_of parts) used (sent.brought ++ answer.got) (next_plan sent.part sent.others sent.url sent.count answer.turn)
   told_now sent answer answers =
-      let P : List Stream → Type 0 = λ streams. Leads (plan_of parts) streams (sent.brought ++ answer.got) (next_plan sent.part sent.others sent.url sent.count answer.turn) in
+      let P : List Stream → Type 0 = λ streams. CarriesOn (plan_of parts) streams (sent.brought ++ answer.got) (next_plan sent.part sent.others sent.url sent.count answer.turn) in
       let same : sent.older ++ with_bytes sent.newest sent.newest.received false ∷ [] ≡ used =
       ap (λ (ended : Bool). sent.older ++ with_bytes sent.newest sent.newest.received ended ∷ []) (sym sent.not_ended) ∙ sym sent.used_is in
       subst P same (told sent sent.newest.received false answer answers)
 
-pub over_open : (parts : List JobPart) (used : List Stream) (bytes : List ℕ) → Leads (plan_of parts) used bytes (Over Open) → Fetched parts used bytes Open []
+pub over_open : (parts : List JobPart) (used : List Stream) (bytes : List ℕ) → CarriesOn (plan_of parts) used bytes (Over Open) → Fetched parts used bytes Open []
 over_open parts used bytes leads = leads_end parts used bytes (Over Open) Open leads (refl, refl, refl, refl)
 
-pub over_lost : (parts : List JobPart) (used : List Stream) (bytes : List ℕ) (loss : Loss) → Leads (plan_of parts) used bytes (Over (Gone loss)) → Fetched parts used bytes (Gone loss) []
+pub over_lost : (parts : List JobPart) (used : List Stream) (bytes : List ℕ) (loss : Loss) → CarriesOn (plan_of parts) used bytes (Over (Gone loss)) → Fetched parts used bytes (Gone loss) []
 over_lost parts used bytes loss leads = leads_end parts used bytes (Over (Gone loss)) (Gone loss) leads (refl, refl, refl, refl)
 
 -- ---- the content

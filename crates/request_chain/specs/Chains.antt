@@ -5,7 +5,7 @@ use Rattle.span_map.specs.declared.jobs.JobPart.{JobPart}
 use Rattle.reply_reader.specs.declared.loss.Loss.{Loss}
 use Rattle.reply_reader.specs.declared.loss.Loss.TheVariants.{Link, NoMemory}
 use Rattle.request_chain.specs.Fetched.{Fetched}
-pub use Rattle.request_chain.specs.Parts.{IsPart}
+pub use Rattle.request_chain.specs.Parts.{IsJobPart}
 use Rattle.request_chain.specs.Stages.{IsReading, IsBehindHead}
 use Rattle.request_chain.specs.Plans.{Ending, Done, Open, Lost}
 use Rattle.request_chain.specs.declared.chain.Chain.{Chain}
@@ -31,7 +31,7 @@ pub record HasBrought (parts : List JobPart) (used : List Stream) (bytes waiting
   pub fetched : Fetched parts used (bytes ++ waiting) ending []
 
 -- what was gained by a call
-pub record Reads (parts : List JobPart) (before : List Stream) (used : List Stream) (bytes : List ℕ) (now : List Stream) (added : List ℕ) (room allow : ℕ) (read : ChainRead) (chain : Chain) : Type 0 where
+pub record ReadsChain (parts : List JobPart) (before : List Stream) (used : List Stream) (bytes : List ℕ) (now : List Stream) (added : List ℕ) (room allow : ℕ) (read : ChainRead) (chain : Chain) : Type 0 where
   pub later : List Stream
   pub gains : Gains before now later
   pub waiting : List ℕ

@@ -38,6 +38,6 @@ IfAsking (Ask part parts url count status) P = P part parts url count status
 IfAsking (Over ending) P = ⊤
 
 -- By the plan these streams brought these bytes, and the next plan is this one: whatever comes by it comes behind them.
-abbrev pub Leads : Plan → List Stream → List ℕ → Plan → Type 0
-Leads plan used bytes next = (streams rest : List Stream) (more : List ℕ) (ending : Ending)
+abbrev pub CarriesOn : Plan → List Stream → List ℕ → Plan → Type 0
+CarriesOn plan used bytes next = (streams rest : List Stream) (more : List ℕ) (ending : Ending)
     → FetchedBy next streams more ending rest → FetchedBy plan (used ++ streams) (bytes ++ more) ending rest

@@ -1,6 +1,6 @@
 -- Streams that gave what mirrors in memory reply.
 use Rattle.std.specs.Prelude.{◌≡◌, ◌⊎◌, ℕ, true, List, [], ◌∷◌, ◌++◌, All}
-use Rattle.link_source.specs.Mirrors.{Content, Answers}
+use Rattle.link_source.specs.Mirrors.{Content, HasReply}
 use Rattle.link_source.specs.Streams.{Stream}
 
 -- Nothing was sent in it and nothing came, or one request was sent, and what came is the front of its reply, behind which
@@ -9,7 +9,7 @@ pub record GaveOf (content : Content) (stream : Stream) (due : List ℕ) : Type 
   pub request : List ℕ
   pub sent_is : stream.sent ≡ (0, request) ∷ []
   pub reply : List ℕ
-  pub answers : Answers content stream.host stream.port request reply content
+  pub answers : HasReply content stream.host stream.port request reply content
   pub whole : stream.received ++ due ≡ reply
   pub last : stream.ended ≡ true → due ≡ []
 

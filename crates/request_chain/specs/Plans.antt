@@ -30,13 +30,13 @@ abbrev pub asked_of : JobPart → Asked
 asked_of part = record { first = part.at; last = part.at + part.len - 1; total = Some part.total }
 
 -- the part behind this place
-abbrev pub behind : JobPart → ℕ → JobPart
-behind part last = record part { at = last + 1; len = part.at + part.len - 1 - last }
+abbrev pub rest_behind : JobPart → ℕ → JobPart
+rest_behind part last = record part { at = last + 1; len = part.at + part.len - 1 - last }
 
 -- all came of the part up to this place, which may be before its end: the rest of it is asked for on its own
 abbrev pub plan_behind : JobPart → List JobPart → ℕ → Plan
 plan_behind part parts last =
-    if nat_lt last (part.at + part.len - 1) then plan_of (behind part last ∷ parts) else plan_of parts
+    if nat_lt last (part.at + part.len - 1) then plan_of (rest_behind part last ∷ parts) else plan_of parts
 
 -- lost for a URL that is no `http` URL, by a reply of this status
 abbrev pub unusable : ℕ → Loss

@@ -6,13 +6,13 @@ use Rattle.url.specs.Parts.{Parts, serialize}
 use Rattle.url.specs.declared.error.ParseError.{ParseError}
 
 -- the URL of a parser's result
-abbrev pub text_of : Result Parts ParseError → Option (List ℕ)
-text_of (Ok url) = Some (serialize url)
-text_of (Err e) = None
+abbrev pub location_text : Result Parts ParseError → Option (List ℕ)
+location_text (Ok url) = Some (serialize url)
+location_text (Err e) = None
 
 -- the location, joined to the URL that the parser found
 abbrev pub joined_to : Result Parts ParseError → List ℕ → Option (List ℕ)
-joined_to (Ok base) location = text_of (parse_url (Some base) location)
+joined_to (Ok base) location = location_text (parse_url (Some base) location)
 joined_to (Err e) location = None
 
 -- the location, which is a reference relative to the URL by which the resource was asked for; none where it is no text

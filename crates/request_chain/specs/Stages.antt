@@ -6,7 +6,7 @@ use Rattle.reply_reader.specs.Answers.{Due}
 use Rattle.reply_reader.specs.Heads.{IsHeadDue, HasNoFinalHead, IsAtHead}
 use Rattle.reply_reader.specs.declared.heads.HeadReader.{HeadReader}
 use Rattle.request_chain.specs.Contents.{IsReadTo}
-use Rattle.request_chain.specs.Courses.{plan_now, Leads}
+use Rattle.request_chain.specs.Courses.{plan_now, CarriesOn}
 use Rattle.request_chain.specs.Exchanges.{IsExchange}
 use Rattle.request_chain.specs.Plans.{Ask, plan_of, asked_of}
 use Rattle.request_chain.specs.declared.content.Content.{Content}
@@ -25,7 +25,7 @@ pub record IsSent (parts : List JobPart) (used : List Stream) (course : Course) 
   pub older : List Stream
   pub newest : Stream
   pub brought : List ℕ
-  pub leads : Leads (plan_of parts) older brought (Ask part others url count status)
+  pub leads : CarriesOn (plan_of parts) older brought (Ask part others url count status)
   pub used_is : used ≡ older ++ newest ∷ []
   pub exchange : IsExchange url (asked_of part) newest
   pub not_ended : newest.ended ≡ false
@@ -47,7 +47,7 @@ pub record IsReadingContent (parts : List JobPart) (used : List Stream) (course 
 
 -- the stage says so
 abbrev pub IsReading : Stage → Course → List ℕ → List JobPart → List Stream → List ℕ → Type 0
-IsReading Asking course waiting parts used bytes = Leads (plan_of parts) used bytes (plan_now course) × (waiting ≡ [])
+IsReading Asking course waiting parts used bytes = CarriesOn (plan_of parts) used bytes (plan_now course) × (waiting ≡ [])
 IsReading (InHead reader) course waiting parts used bytes = IsReadingHead parts used course waiting bytes reader
 IsReading (InContent content) course waiting parts used bytes = IsReadingContent parts used course waiting bytes content
 

@@ -7,7 +7,7 @@ ghost use Rattle.span_map.specs.declared.jobs.JobPart.{JobPart};
 ghost use Rattle.reply_reader.specs.Heads.{HasFinalHead};
 ghost use Rattle.reply_reader.specs.Losses.{IsKnown};
 ghost use Rattle.reply_reader.specs.declared.loss.Loss.TheVariants.{Link};
-ghost use Rattle.request_chain.specs.Chains.{IsPart, IsChain, HasBrought, TellsLoss, Gains, Reads, Loses};
+ghost use Rattle.request_chain.specs.Chains.{IsPart, IsChain, HasBrought, TellsLoss, Gains, ReadsChain, Loses};
 ghost use Rattle.request_chain.specs.Courses.{plan_now, IsAsking};
 ghost use Rattle.request_chain.specs.Honest.{AreHonest};
 ghost use Rattle.request_chain.specs.Plans.{Over, Done};
@@ -363,7 +363,7 @@ impl Chain {
         ensures reads { IsTrue L.tells → (parts : List JobPart) (before used : List Stream) (bytes : List ℕ)
             → IsChain parts used bytes self.old → Gains before (L.streams link.old) used
             → (added : List ℕ) × (out.new.items ≡ out.old.items ++ added) × MatchResult result
-            (λ read. Reads parts before used bytes (L.streams link.new) added room allow read self.new)
+            (λ read. ReadsChain parts before used bytes (L.streams link.new) added room allow read self.new)
             (Loses parts before used bytes (L.streams link.new) added allow (L.faults link.new) self.new) }
 
         // Also of a link that tells nothing.

@@ -1,7 +1,7 @@
 // Which request is next.
 ghost use Rattle.std.specs.Prelude.{◌≡◌, ◌<◌, ◌≤◌, ◌+◌, ◌^◌, ℕ, List, None, Some, All, IsTrue, IsFalse, nat_le, length, slice_get};
 ghost use Rattle.span_map.specs.declared.jobs.JobPart.{JobPart};
-ghost use Rattle.request_chain.specs.Parts.{IsPart};
+ghost use Rattle.request_chain.specs.Parts.{IsJobPart};
 
 use dl_kinds::Text;
 use range_http::Asked;
@@ -25,8 +25,8 @@ pub(crate) struct Course {
     moved: Option<Moved>,
     /// How often it was moved.
     redirects: u32,
-    ghost valid: { (place : ℕ) (part : JobPart) → slice_get parts place ≡ Some part → IsPart part },
-    ghost current: { (part : JobPart) → slice_get parts place ≡ Some part → IsPart (record part { at = at; len = len }) },
+    ghost valid: { (place : ℕ) (part : JobPart) → slice_get parts place ≡ Some part → IsJobPart part },
+    ghost current: { (part : JobPart) → slice_get parts place ≡ Some part → IsJobPart (record part { at = at; len = len }) },
 }
 
 /// How often the resource of one request may be moved.
@@ -48,7 +48,7 @@ impl Course {
     ghost use Rattle.request_chain.specs.Redirects.{redirect_limit};
 
     pub fn new(parts: JobParts) -> Self
-        requires { All IsPart parts }
+        requires { All IsJobPart parts }
         ensures { plan_now result ≡ plan_of parts }
     {
         let (at, len) = bounds(&parts, 0);

@@ -2,7 +2,7 @@
 ghost use Rattle.std.specs.Prelude.{◌≡◌, List, ℕ, None, Some, IfOk, codes};
 ghost use Rattle.url.specs.Parser.{parse_url};
 ghost use Rattle.range_http.specs.Fields.{values_of, sole};
-ghost use Rattle.request_chain.specs.Redirects.{text_of, joined_to, moved_to};
+ghost use Rattle.request_chain.specs.Redirects.{location_text, joined_to, moved_to};
 
 use dl_kinds::{NoMemory, Text};
 use range_http::{Head, location};
@@ -11,7 +11,7 @@ use url::{ParseError, Url};
 
 /// The reference, joined to the URL.
 fn join(alloc: Global, base: &Url, reference: &str) -> Result<Option<Text>, NoMemory>
-    ensures { IfOk result (λ joined. joined ≡ text_of (parse_url (Some base.now) reference.now)) }
+    ensures { IfOk result (λ joined. joined ≡ location_text (parse_url (Some base.now) reference.now)) }
 {
     match base.join(reference) {
         Ok(joined) => Ok(Some(Text::of(alloc, joined.as_str())?)),

@@ -5,7 +5,7 @@ use Rattle.std.proofs.lemmas.List.{take_all, drop_all, take_min, get_or_at}
 use Rattle.std.proofs.lemmas.List.Concat.{flat_map-append}
 use Rattle.std.proofs.lemmas.Bool.{cases_lt}
 use Rattle.dl_words.specs.Lists.{part_at}
-use Rattle.span_map.specs.Slices.{part_of, parts_from, bytes_of, Fills, PartsHoldSlices}
+use Rattle.span_map.specs.Slices.{part_of, parts_from, part_bytes, Fills, PartsHoldSlices}
 use Rattle.span_map.specs.declared.files.FileLen.{FileLen}
 use Rattle.span_map.specs.declared.files.Part.{Part}
 use Rattle.span_map.proofs.Windows.{part_none, part_some}
@@ -34,17 +34,17 @@ cut_file c start low high =
     ∙ take_min (high - max start low) (drop (low - start) c)
 
 file_bytes : (contents : List (List ℕ)) (c : List ℕ) (n start low high : ℕ) → get_or contents n [] ≡ c
-    → bytes_of contents (part_of n start (length c) low high) ≡ take (high - max start low) (drop (low - start) c)
+    → part_bytes contents (part_of n start (length c) low high) ≡ take (high - max start low) (drop (low - start) c)
 file_bytes contents c n start low high is =
     ⊎_elim
     (λ (meet : max start low < min (start + length c) high).
-    ap (bytes_of contents) (part_some n start (length c) low high meet)
+    ap (part_bytes contents) (part_some n start (length c) low high meet)
     ∙ append-nil (part_at (get_or contents n []) (max start low - start) (min (start + length c) high - max start low))
     ∙ ap (λ l. part_at l (max start low - start) (min (start + length c) high - max start low)) is
     ∙ ap (λ k. take (min (start + length c) high - max start low) (drop k c)) (let e : max start low - start ≡ low - start = omega arith in e)
     ∙ cut_file c start low high)
     (λ (apart : min (start + length c) high ≤ max start low).
-    ap (bytes_of contents) (part_none n start (length c) low high apart)
+    ap (part_bytes contents) (part_none n start (length c) low high apart)
     ∙ ap (λ k. take k (drop (low - start) c)) (let e : 0 ≡ min (start + length c) high - max start low = omega arith in e)
     ∙ cut_file c start low high)
     (cases_lt (max start low) (min (start + length c) high))
@@ -63,15 +63,15 @@ then_rest c rest start low high =
     ∙ ap (take (high - max start low)) (sym (drop-append (low - start) c rest))
 
 bytes_from : (contents before cs : List (List ℕ)) (fs : List FileLen) (n start low high : ℕ) → contents ≡ before ++ cs → length before ≡ n → Fills fs cs
-    → bytes_of contents (parts_from n start fs low high) ≡ take (high - max start low) (drop (low - start) (concat cs))
+    → part_bytes contents (parts_from n start fs low high) ≡ take (high - max start low) (drop (low - start) (concat cs))
 bytes_from contents before [] [] n start low high is count fills = nothing_left (high - max start low) (low - start)
 bytes_from contents before [] (f ∷ fs) n start low high is count fills = absurd fills
 bytes_from contents before (c ∷ cs) [] n start low high is count fills = absurd fills
 bytes_from contents before (c ∷ cs) (f ∷ fs) n start low high is count fills =
     let here : get_or contents n [] ≡ c = ap (λ l. get_or l n []) is ∙ get_or_at before c cs [] n count in
     flat_map-append (bytes_in contents) (part_of n start f.len low high) (parts_from (n + 1) (start + f.len) fs low high)
-    ∙ ap (λ k. bytes_of contents (part_of n start k low high) ++ bytes_of contents (parts_from (n + 1) (start + k) fs low high)) (sym fills.0)
-    ∙ ap (λ l. l ++ bytes_of contents (parts_from (n + 1) (start + length c) fs low high)) (file_bytes contents c n start low high here)
+    ∙ ap (λ k. part_bytes contents (part_of n start k low high) ++ part_bytes contents (parts_from (n + 1) (start + k) fs low high)) (sym fills.0)
+    ∙ ap (λ l. l ++ part_bytes contents (parts_from (n + 1) (start + length c) fs low high)) (file_bytes contents c n start low high here)
     ∙ ap (λ l. take (high - max start low) (drop (low - start) c) ++ l)
     (bytes_from contents (before ++ c ∷ []) cs fs (n + 1) (start + length c) low high (is ∙ sym (append_assoc before (c ∷ []) cs)) (omega (arith, count, length-append before (c ∷ []))) fills.1)
     ∙ then_rest c (concat cs) start low high

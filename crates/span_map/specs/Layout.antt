@@ -43,7 +43,7 @@ pub record AreStarts (files : List FileLen) (starts : List ℕ) : Type 0 where
   pub each : (k : ℕ) → k < length files → slice_index starts k ≡ total_of (take k files)
 
 -- what a Layout keeps
-pub record IsKept (files : List FileLen) (offsets : List ℕ) (payload_len : ℕ) : Type 0 where
+pub record KeepsLayout (files : List FileLen) (offsets : List ℕ) (payload_len : ℕ) : Type 0 where
   pub layout : IsLayout files
   pub few : length files < 2 ^ 32
   pub starts : AreStarts files offsets

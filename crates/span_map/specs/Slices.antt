@@ -29,8 +29,8 @@ pub record IsPart (files : List FileLen) (part : Part) : Type 0 where
   pub within : IsSomeAnd (slice_get files part.file) (λ file. part.at + part.len ≤ file.len)
 
 -- the bytes of parts, where the files hold these contents
-abbrev pub bytes_of : List (List ℕ) → List Part → List ℕ
-bytes_of contents parts =
+abbrev pub part_bytes : List (List ℕ) → List Part → List ℕ
+part_bytes contents parts =
     flat_map (λ part. part_at (slice_index_or contents part.file []) part.at part.len) parts
 
 -- the contents have the lengths of the files
@@ -41,4 +41,4 @@ Fills files contents = AllZip (λ file content. length content ≡ file.len) fil
 abbrev pub PartsHoldSlices : Type 0
 PartsHoldSlices =
     (files : List FileLen) (contents : List (List ℕ)) (at len : ℕ) → Fills files contents
-    → bytes_of contents (slice_of files at len) ≡ part_at (concat contents) at len
+    → part_bytes contents (slice_of files at len) ≡ part_at (concat contents) at len

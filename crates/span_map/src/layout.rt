@@ -84,13 +84,13 @@ pub struct Layout {
 impl Model for Layout {
     ghost use Rattle.std.specs.Prelude.{List};
     ghost use Rattle.span_map.specs.declared.files.FileLen.{FileLen};
-    ghost use Rattle.span_map.specs.Layout.{IsKept};
+    ghost use Rattle.span_map.specs.Layout.{KeepsLayout};
 
     ghost Value = { List FileLen };
 
     ghost view = { λ l. l.files.items };
 
-    ghost invariant = { λ l. IsKept l.files.items l.starts.items l.total };
+    ghost invariant = { λ l. KeepsLayout l.files.items l.starts.items l.total };
 }
 
 impl Layout {

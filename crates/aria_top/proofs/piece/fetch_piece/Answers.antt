@@ -7,7 +7,7 @@ use Rattle.fetch_session.specs.Blocks.{cut}
 use Rattle.fetch_session.specs.Fetches.{rest_of}
 use Rattle.request_chain.specs.Fetched.{Fetched}
 use Rattle.request_chain.specs.Plans.{Done}
-use Rattle.serving_laws.specs.Serving.{GivesAll}
+use Rattle.memory_serving_laws.specs.Serving.{GivesAll}
 use Rattle.span_map.specs.declared.jobs.JobPart.{JobPart}
 use Rattle.aria_top.specs.Askings.{start_of, size_of}
 use Rattle.aria_top.specs.Fetched.{EndsIn, ending_of}

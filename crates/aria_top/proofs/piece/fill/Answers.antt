@@ -2,7 +2,7 @@ use Rattle.std.proofs.Common.{◌≡◌, ◌+◌, ◌∙◌, Ok, length, ap, sub
 use Rattle.std.proofs.lemmas.Result.{err_from_is_err_and}
 use Rattle.dl_kinds.specs.declared.plan.Plan.{Plan}
 use Rattle.fetch_session.specs.Blocks.{cut}
-use Rattle.fetch_session.specs.Fetches.{plan_of, rest_of}
+use Rattle.fetch_session.specs.Fetches.{fetch_plan, rest_of}
 use Rattle.aria_top.proofs.Losses.{held_on}
 use Rattle.aria_top.proofs.Served.{honest_on}
 use Rattle.aria_top.proofs.piece.fill.Goals as goal
@@ -22,7 +22,7 @@ returns-then-branch-clause-ends g c told job begun =
 pub returns-then-branch-clause-len : goal.returns-then-branch-clause-len
 returns-then-branch-clause-len g c =
     let none : (rest_of c.fetch_on.new.fetch).count ≡ 0 = c.in_ok-fetch_on.ensures.all (ap Ok c.if-branch.true) in
-    let P = plan_of c.args.fetch.now in
+    let P = fetch_plan c.args.fetch.now in
     let was = c.turns.invariant.place in
     let step : cut P (rest_of c.turns.fetch).first + length c.fetch_on.new.piece.items ≡ cut P (rest_of c.fetch_on.new.fetch).first + length c.turns.piece.items =
     subst (λ (p : Plan). cut p (rest_of c.turns.fetch).first + length c.fetch_on.new.piece.items ≡ cut p (rest_of c.fetch_on.new.fetch).first + length c.turns.piece.items)
@@ -37,7 +37,7 @@ turns-preserved g c = record {
   plan = c.fetch_on.ensures.plan ∙ c.turns.invariant.plan;
   end = c.fetch_on.ensures.end ∙ c.turns.invariant.end;
   place =
-      let P = plan_of c.args.fetch.now in
+      let P = fetch_plan c.args.fetch.now in
       let was = c.turns.invariant.place in
       let step : cut P (rest_of c.turns.fetch).first + length c.fetch_on.new.piece.items ≡ cut P (rest_of c.fetch_on.new.fetch).first + length c.turns.piece.items =
       subst (λ (p : Plan). cut p (rest_of c.turns.fetch).first + length c.fetch_on.new.piece.items ≡ cut p (rest_of c.fetch_on.new.fetch).first + length c.turns.piece.items)

@@ -1,7 +1,7 @@
 use Rattle.std.proofs.Common.{◌≡◌, ◌≤◌, ◌+◌, ◌-◌, ◌*◌, ◌∙◌, ℕ, sum_by, sym, ap, subst, arith}
 use Rattle.dl_kinds.specs.Plan.{blocks_of, full_blocks, block_start, block_end, piece_start, piece_end}
 use Rattle.metainfo.specs.Info.{info_of}
-use Rattle.fetch_session.specs.Jobs.{len_of}
+use Rattle.fetch_session.specs.Jobs.{parts_len}
 use Rattle.aria_top.proofs.Lengths.{asked_len}
 use Rattle.aria_top.proofs.piece.piece_job.Goals as goal
 
@@ -28,8 +28,8 @@ returns-clause-sound c =
     let end : block_end plan.total plan.piece_len (first + count - 1) ≡ piece_end plan.total plan.piece_len c.args.piece =
     ap (block_end plan.total plan.piece_len) last ∙ c.blocks_in-count.ensures.end in
     let start : block_start plan.piece_len first ≡ piece_start plan.piece_len c.args.piece = ap (block_start plan.piece_len) same ∙ c.blocks_in-count.ensures.start in
-    let sum : len_of c.in_ok-asked_parts.field-0 ≡ c.piece_span-start.result.1 =
-    ap len_of c.in_ok-asked_parts.ensures.asked ∙ asked_len (info_of c.args.meta.now) c.deref.result.now ∙ ap (sum_by (λ part. part.len)) c.deref.ensures.value ∙ c.in_ok-parts.ensures.len in
+    let sum : parts_len c.in_ok-asked_parts.field-0 ≡ c.piece_span-start.result.1 =
+    ap parts_len c.in_ok-asked_parts.ensures.asked ∙ asked_len (info_of c.args.meta.now) c.deref.result.now ∙ ap (sum_by (λ part. part.len)) c.deref.ensures.value ∙ c.in_ok-parts.ensures.len in
     record {
       some = some;
       within = subst (λ (n : ℕ). n + count ≤ blocks_of plan.total plan.piece_len) (sym same) c.blocks_in-count.ensures.within;

@@ -6,7 +6,7 @@ use Rattle.aria_top.specs.Askings.{piece_count}
 use Rattle.request_chain.specs.Chains.{Gains}
 use Rattle.aria_top.specs.Payload.{PiecesStand}
 use Rattle.aria_top.specs.Serving.{KeepsContent}
-use Rattle.aria_top.specs.Worked.{Ending, WorkedFrom, Worked}
+use Rattle.aria_top.specs.Worked.{WorkEnding, WorkedFrom, Worked}
 use Rattle.aria_top.proofs.work.complete_pieces.Given as goal
 
 abbrev pub invariant-each : goal.invariant-each
@@ -14,7 +14,7 @@ invariant-each g l = record {
   serving : IsTrue g.L.Links.tells → KeepsContent (g.L.Links.content l.fn.link) (g.L.Links.content l.link);
   link_later : g.L.Links.faults l.fn.link ≤ g.L.Links.faults l.link;
   came : IsTrue g.L.Links.tells → (gained : List Stream) × Gains (g.L.Links.streams l.fn.link) (g.L.Links.streams l.link) gained
-      × ((more : List Stream) (right : ℕ) (ending : Ending) → WorkedFrom (info_of l.meta) l.piece (piece_count (info_of l.meta) - l.piece) more right ending
+      × ((more : List Stream) (right : ℕ) (ending : WorkEnding) → WorkedFrom (info_of l.meta) l.piece (piece_count (info_of l.meta) - l.piece) more right ending
       → Worked (info_of l.meta) (gained ++ more) right ending);
   stand : IsTrue g.D.Disk.tells → PiecesStand (info_of l.meta) (g.D.Disk.seen l.disk) l.piece;
   others : IsTrue g.D.Disk.tells → KeepsOthers l.meta.layout (g.D.Disk.seen l.fn.disk) (g.D.Disk.seen l.disk) (g.D.Disk.may_leave l.fn.disk) (g.D.Disk.may_leave l.disk);

@@ -1,9 +1,12 @@
-use Rattle.std.proofs.Common.{◌≡◌, ◌∙◌, ap, ℕ, length, take, arith}
+use Rattle.std.proofs.Common.{◌≡◌, ◌∙◌, ap, ℕ, ◌+◌, List, length, take, refl, arith}
 use Rattle.std.specs.List.{sum_by}
 use Rattle.std.proofs.lemmas.List.{take_all}
+use Rattle.dl_disk.specs.State.{DiskState}
+use Rattle.dl_disk.specs.Passes.{Performs, performs_none, performs_on, performs_wider}
 use Rattle.span_map.specs.Slices.{slice_of}
 use Rattle.span_map.specs.declared.files.Part.{Part}
-use Rattle.payload_files.proofs.SliceSteps.{next_sum, next_fits, next_torn, next_crash, next_written, torn_wider, crash_wider, held_all}
+use Rattle.payload_files.specs.Changes.{TornSlice}
+use Rattle.payload_files.proofs.SliceSteps.{next_sum, next_fits, next_torn, next_written, torn_none, torn_wider, held_all}
 use Rattle.payload_files.proofs.writing.write_slice.Goals as goal
 
 abbrev first_of : Part
@@ -14,59 +17,47 @@ len_of part = part.len
 
 pub loop-part-preserved : goal.loop-part-preserved
 loop-part-preserved g c =
+    let d = g.D.Disk in
+    let dir = c.args.dir.now in
     let files = c.args.layout.now in
     let bytes = c.args.bytes.now in
     let parts = c.deref-part-items.result.now in
     let slice : parts ≡ slice_of files c.args.at (length bytes) = c.deref-part-items.ensures.value ∙ c.in_ok-parts.ensures.parts in
     let sum : sum_by len_of parts ≡ length bytes = ap (sum_by len_of) c.deref-part-items.ensures.value ∙ c.in_ok-parts.ensures.len in
     let k = c.loop-part.part-index in
-    let start = g.D.Disk.seen c.args.disk.now in
-    let before = g.D.Disk.seen c.loop-part.disk in
-    let after = g.D.Disk.seen c.write_part.new.disk in
     let was = c.loop-part.invariant in
+    let so_far = c.loop-part.written in
+    let start = d.state c.args.disk.now in
+    let before = d.state c.loop-part.disk in
+    let after = d.state c.write_part.new.disk in
     record {
-      sum = next_sum files c.args.at bytes parts slice sum k first_of c.loop-part-test.true c.loop-part.written was.sum;
-      made = λ told has. next_written files c.args.at bytes parts slice sum k first_of c.loop-part-test.true c.loop-part.written was.sum start before after
-          c.requires has (was.torn told) (was.made told) (c.in_ok-write_part.ensures.written told);
-      torn = λ told. next_torn files c.args.at bytes parts slice sum k first_of c.loop-part-test.true c.loop-part.written was.sum start before after (was.torn told) (c.write_part.ensures.torn told);
-      crash = λ told. next_crash files c.args.at bytes parts slice sum k first_of c.loop-part-test.true c.loop-part.written was.sum
-          (g.D.Disk.may_leave c.args.disk.now) (g.D.Disk.may_leave c.loop-part.disk) (g.D.Disk.may_leave c.write_part.new.disk) (was.crash told) (c.write_part.ensures.crash told);
+      sum = next_sum dir files c.args.at bytes parts slice sum k first_of c.loop-part-test.true so_far was.sum;
+      made = λ told has. next_written dir files c.args.at bytes parts slice sum k first_of c.loop-part-test.true so_far was.sum start.seen before.seen after.seen
+          c.requires has (was.performs told).seen (was.made told) (c.in_ok-write_part.ensures.written told);
+      performs = λ told. performs_on (TornSlice dir files c.args.at so_far) _ _ start before after
+          (λ x y torn. torn_wider dir files c.args.at so_far _ x y (omega arith) torn)
+          (next_torn dir files c.args.at bytes parts slice sum k first_of c.loop-part-test.true so_far was.sum)
+          (was.performs told) (c.write_part.ensures.performs told);
       folders = λ told. c.write_part.ensures.folders told ∙ was.folders told;
-      reads = λ told name. c.write_part.ensures.reads told name ∙ was.reads told name;
-      later = omega (arith, was.later, c.write_part.ensures.cause.later);
+      faults = c.in_ok-write_part.ensures.cause.done ∙ was.faults;
     }
 
-pub returns-in_err-write_part-clause-torn : goal.returns-in_err-write_part-clause-torn
-returns-in_err-write_part-clause-torn g c told =
+pub returns-in_err-write_part-clause-performs : goal.returns-in_err-write_part-clause-performs
+returns-in_err-write_part-clause-performs g c told =
+    let d = g.D.Disk in
+    let dir = c.args.dir.now in
     let files = c.args.layout.now in
     let bytes = c.args.bytes.now in
     let parts = c.deref-part-items.result.now in
     let slice : parts ≡ slice_of files c.args.at (length bytes) = c.deref-part-items.ensures.value ∙ c.in_ok-parts.ensures.parts in
     let sum : sum_by len_of parts ≡ length bytes = ap (sum_by len_of) c.deref-part-items.ensures.value ∙ c.in_ok-parts.ensures.len in
     let k = c.loop-part.part-index in
-    torn_wider files c.args.at _ (length bytes) (g.D.Disk.seen c.args.disk.now) (g.D.Disk.seen c.write_part.new.disk)
-    (next_fits files c.args.at bytes parts slice sum k first_of c.loop-part-test.true c.loop-part.written c.loop-part.invariant.sum)
-    (next_torn files c.args.at bytes parts slice sum k first_of c.loop-part-test.true c.loop-part.written c.loop-part.invariant.sum
-    (g.D.Disk.seen c.args.disk.now) (g.D.Disk.seen c.loop-part.disk) (g.D.Disk.seen c.write_part.new.disk) (c.loop-part.invariant.torn told) (c.write_part.ensures.torn told))
-
-pub returns-in_err-write_part-clause-crash : goal.returns-in_err-write_part-clause-crash
-returns-in_err-write_part-clause-crash g c told =
-    let files = c.args.layout.now in
-    let bytes = c.args.bytes.now in
-    let parts = c.deref-part-items.result.now in
-    let slice : parts ≡ slice_of files c.args.at (length bytes) = c.deref-part-items.ensures.value ∙ c.in_ok-parts.ensures.parts in
-    let sum : sum_by len_of parts ≡ length bytes = ap (sum_by len_of) c.deref-part-items.ensures.value ∙ c.in_ok-parts.ensures.len in
-    let k = c.loop-part.part-index in
-    crash_wider files c.args.at _ (length bytes) (g.D.Disk.may_leave c.args.disk.now) (g.D.Disk.may_leave c.write_part.new.disk)
-    (next_fits files c.args.at bytes parts slice sum k first_of c.loop-part-test.true c.loop-part.written c.loop-part.invariant.sum)
-    (next_crash files c.args.at bytes parts slice sum k first_of c.loop-part-test.true c.loop-part.written c.loop-part.invariant.sum
-    (g.D.Disk.may_leave c.args.disk.now) (g.D.Disk.may_leave c.loop-part.disk) (g.D.Disk.may_leave c.write_part.new.disk) (c.loop-part.invariant.crash told) (c.write_part.ensures.crash told))
-
-pub returns-clause-held : goal.returns-clause-held
-returns-clause-held g c told has =
-    let bytes = c.args.bytes.now in
-    let parts = c.deref-part-items.result.now in
-    let sum : sum_by len_of parts ≡ length bytes = ap (sum_by len_of) c.deref-part-items.ensures.value ∙ c.in_ok-parts.ensures.len in
-    let all : take c.loop-part.part-index parts ≡ parts = take_all c.loop-part.part-index parts c.loop-part-test.false in
-    let written : c.loop-part.written ≡ length bytes = c.loop-part.invariant.sum ∙ ap (sum_by len_of) all ∙ sum in
-    held_all c.args.layout.now c.args.at c.loop-part.written bytes _ (g.D.Disk.seen c.args.disk.now) c.requires (omega (arith, written)) has (c.loop-part.invariant.made told has)
+    let was = c.loop-part.invariant in
+    let so_far = c.loop-part.written in
+    let fits = next_fits dir files c.args.at bytes parts slice sum k first_of c.loop-part-test.true so_far was.sum in
+    performs_on (TornSlice dir files c.args.at so_far) _ (TornSlice dir files c.args.at (length bytes))
+    (d.state c.args.disk.now) (d.state c.loop-part.disk) (d.state c.write_part.new.disk)
+    (λ x y torn. torn_wider dir files c.args.at so_far (length bytes) x y (omega (arith, fits)) torn)
+    (λ x y z one two. torn_wider dir files c.args.at _ (length bytes) x z fits
+    (next_torn dir files c.args.at bytes parts slice sum k first_of c.loop-part-test.true so_far was.sum x y z one two))
+    (was.performs told) (c.write_part.ensures.performs told)

@@ -1,5 +1,5 @@
 use Rattle.std.proofs.Common.{◌<◌, ℕ, Fits, w8, get_or, arith, rules, sym, ap, ◌∙◌}
-use Rattle.bit_rows.specs.Row.{bytes_of}
+use Rattle.bit_rows.specs.Row.{row_bytes}
 use Rattle.bit_rows.proofs.Rows.{packed}
 use Rattle.bit_rows.proofs.row.BitRow.bytes.Goals as goal
 
@@ -14,4 +14,4 @@ returns-clause-packed c =
     in
     value
     ∙ sym (packed r.bytes.items r.len c.self.invariant.fits c.self.invariant.spare small)
-    ∙ ap bytes_of c.self.view_is
+    ∙ ap row_bytes c.self.view_is

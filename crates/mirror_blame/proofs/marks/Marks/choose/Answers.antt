@@ -2,7 +2,7 @@ use Rattle.std.proofs.Common.{◌<◌, subst, arith}
 use Rattle.std.specs.Prelude.{slice_index}
 use Rattle.std.proofs.lemmas.Bool.{both_ways}
 use Rattle.mirror_blame.specs.Book.{MarkBook}
-use Rattle.mirror_blame.specs.Marks.{total_of}
+use Rattle.mirror_blame.specs.Marks.{total_marks}
 use Rattle.mirror_blame.specs.Choice.{IsCandidate}
 use Rattle.mirror_blame.proofs.Best.{best_skip, best_stays, best_takes}
 use Rattle.mirror_blame.proofs.marks.Marks.choose.Goals as goal
@@ -11,7 +11,7 @@ use Rattle.mirror_blame.proofs.marks.Marks.choose.Goals.{then-standing-mirror+th
 pub loop-mirror-preserved : goal.loop-mirror-preserved
 loop-mirror-preserved c =
     let Able = IsCandidate c.args.self.now.mirrors c.args.self.now.max_tries c.args.self.now.marks c.args.first c.args.last c.args.standing.now c.args.limit in
-    let total = total_of c.args.self.now.max_tries c.args.self.now.marks in
+    let total = total_marks c.args.self.now.max_tries c.args.self.now.marks in
     let standing = slice_index c.args.standing.now in
     let known : c.loop-mirror.mirror < c.args.self.now.mirrors = subst (λ (b : MarkBook). c.loop-mirror.mirror < b.mirrors) c.self.view_is c.loop-mirror-test.true in
     elim c.if-standing-mirror.branch [

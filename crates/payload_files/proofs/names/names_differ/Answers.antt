@@ -1,5 +1,0 @@
-use Rattle.payload_files.proofs.FileNames.{names_differ}
-use Rattle.payload_files.proofs.names.names_differ.Goals as goal
-
-pub returns : goal.returns
-returns c = names_differ

@@ -1,5 +1,0 @@
-use Rattle.payload_files.proofs.Contents.{files_fill}
-use Rattle.payload_files.proofs.payload.files_fill.Goals as goal
-
-pub returns : goal.returns
-returns c = files_fill
