@@ -4,7 +4,7 @@ use Rattle.std.proofs.lemmas.List.{drop-drop, length-take, length-drop, length-a
 use Rattle.std.proofs.lemmas.List.FromFn.{length-map-range_with_len}
 use Rattle.std.proofs.lemmas.Bool.{cases_lt, false≢true}
 use Rattle.std.specs.List.{range_with_len}
-use Rattle.bit_rows.specs.Row.{bits_of_byte, bits_of, bytes_for, bytes_of, filled, number_of, spare_of}
+use Rattle.bit_rows.specs.Row.{bits_of_byte, bits_of, bytes_for, row_bytes, padded, bits_number, spare_bits}
 use Rattle.bit_rows.specs.RowLaws.{ReadsBack, HoldsRow}
 use Rattle.bit_rows.proofs.Rows.{packed, length-row_of, spare_from_none}
 
@@ -50,7 +50,7 @@ module _ (a b c d e f g h : ℕ) (small_a : a ≤ 1) (small_b : b ≤ 1) (small_
   digit_h : eight a b c d e f g h / 1 % 2 ≡ h
   digit_h = omega arith
 
-byte_back : (bits : List Bool) → length bits ≡ 8 → bits_of_byte (number_of bits) ≡ bits
+byte_back : (bits : List Bool) → length bits ≡ 8 → bits_of_byte (bits_number bits) ≡ bits
 byte_back [] long = absurd (omega (arith, long))
 byte_back (a ∷ []) long = absurd (omega (arith, long))
 byte_back (a ∷ b ∷ []) long = absurd (omega (arith, long))
@@ -75,21 +75,21 @@ byte_back (a ∷ b ∷ c ∷ d ∷ e ∷ f ∷ g ∷ h ∷ []) long =
 
 -- from the byte of this number on
 from_here : (xs : List Bool) (n a : ℕ) → length xs ≡ 8 * (a + n)
-    → bits_of (map (λ at. number_of (take 8 (drop (8 * at) xs))) (range_with_len a n)) ≡ drop (8 * a) xs
+    → bits_of (map (λ at. bits_number (take 8 (drop (8 * at) xs))) (range_with_len a n)) ≡ drop (8 * a) xs
 from_here xs zero a long = sym (nil_from_length (drop (8 * a) xs) (omega (arith, length-drop (8 * a) xs, long)))
 from_here xs (suc n) a long =
     let rest = drop (8 * a) xs in
     let here : length (take 8 rest) ≡ 8 = omega (arith, length-take 8 rest, length-drop (8 * a) xs, long) in
     let next : drop (8 * (a + 1)) xs ≡ drop 8 rest = ap (λ k. drop k xs) (omega arith) ∙ sym (drop-drop 8 (8 * a) xs) in
-    ap (λ bits. bits ++ bits_of (map (λ at. number_of (take 8 (drop (8 * at) xs))) (range_with_len (a + 1) n))) (byte_back (take 8 rest) here)
+    ap (λ bits. bits ++ bits_of (map (λ at. bits_number (take 8 (drop (8 * at) xs))) (range_with_len (a + 1) n))) (byte_back (take 8 rest) here)
     ∙ ap (λ bits. take 8 rest ++ bits) (from_here xs n (a + 1) (omega (arith, long)) ∙ next)
     ∙ take-append-drop 8 rest
 
-bits_back : (row : List Bool) → bits_of (bytes_of row) ≡ filled row
+bits_back : (row : List Bool) → bits_of (row_bytes row) ≡ padded row
 bits_back row =
     let n = bytes_for (length row) in
     let spare = 8 * n - length row in
-    from_here (filled row) n 0 (length-append row (replicate spare false) ∙ omega (arith, length-replicate {A = Bool} spare false))
+    from_here (padded row) n 0 (length-append row (replicate spare false) ∙ omega (arith, length-replicate {A = Bool} spare false))
 
 none_false : (n : ℕ) → Contains (replicate n false) true → ⊥
 none_false n (k, within, is) =
@@ -112,7 +112,7 @@ below_256 bytes small i = elim (cases_lt i (length bytes)) [
 ]
 
 pub holds_row : (n : ℕ) (bytes : List ℕ) → All (λ byte. byte < 256) bytes → length bytes ≡ bytes_for n
-    → (Contains (spare_of n bytes) true → ⊥) → HoldsRow n bytes
+    → (Contains (spare_bits n bytes) true → ⊥) → HoldsRow n bytes
 holds_row n bytes small fits none = record {
   long = length-row_of bytes n fits;
   same = packed bytes n fits (spare_from_none bytes n none) (λ i. below_256 bytes small i);

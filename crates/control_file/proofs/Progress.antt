@@ -7,7 +7,7 @@ use Rattle.std.proofs.lemmas.Bool.{eqb-true, leb-true, le-leb}
 use Rattle.std.proofs.lemmas.Grind.{div_ceil_times}
 use Rattle.std.proofs.lemmas.List.{append-nil, nil_from_length, length-set}
 use Rattle.std.proofs.lemmas.List.Elements.{All-from_recursion, recursion_from_All}
-use Rattle.bit_rows.specs.Row.{bytes_for, bytes_of}
+use Rattle.bit_rows.specs.Row.{bytes_for, row_bytes}
 use Rattle.bit_rows.specs.RowLaws.{RowsAreReadBack, BytesHoldRows}
 use Rattle.dl_kinds.specs.Plan.{IsPlan, pieces_of, blocks_of_piece, piece_start, piece_end}
 use Rattle.control_file.specs.declared.control.Control.{Control}
@@ -69,7 +69,7 @@ module _ (order : ByteOrder) (total piece_len : ℕ) where
   in_flight_again back taken piece rest at few short is =
       let index = piece.index in
       let len = piece.length in
-      let text = counted_bytes order (bytes_of piece.blocks) in
+      let text = counted_bytes order (row_bytes piece.blocks) in
       let small : bytes_of_piece total piece_len index ≤ piece_len = short_piece index in
       let parts : in_flight_bytes order piece ++ rest ≡ number_bytes order w32 index ++ (number_bytes order w32 len ++ (text ++ rest)) = simp append_assoc in
       let first = field_again order w32 (2 ^ 32) (wide32 order) (may_be_in_flight taken) index (number_bytes order w32 len ++ (text ++ rest)) at (omega (arith, free_within taken index is.free)) (ap not is.free) in
@@ -89,7 +89,7 @@ module _ (order : ByteOrder) (total piece_len : ℕ) where
       (others.0, rw (parts, first.1, others.1) refl)
 
   progress_takes : BytesHoldRows → (from : Unread) (x : List Bool × List InFlight × Unread) → IsBytes from.bytes → progress_at order total piece_len from ≡ Ok x
-      → Takes from (counted_bytes order (bytes_of x.0) ++ number_bytes order w32 (length x.1) ++ flat_map (in_flight_bytes order) x.1) x.2
+      → Takes from (counted_bytes order (row_bytes x.0) ++ number_bytes order w32 (length x.1) ++ flat_map (in_flight_bytes order) x.1) x.2
       × (length x.0 ≡ pieces_of total piece_len) × (length x.1 ≤ length x.0) × AreOpen total piece_len x.0 x.1
   unfolding progress_at
   progress_takes held from x small e =
@@ -102,16 +102,16 @@ module _ (order : ByteOrder) (total piece_len : ℕ) where
       let count = field_takes order w32 (2 ^ 32) (wide32 order) (λ count. leb count (length a.0.0)) a.0.1 b.0 pieces.0.small b.1 in
       let flight = flight_takes held b.0.0 a.0.0 b.0.1 c.0 count.0.small c.1 in
       let all = Takes-then from _ b.0.1 _ c.0.1 (Takes-then from _ a.0.1 _ b.0.1 pieces.0 count.0) flight.0 in
-      let text = λ (n : ℕ). Takes from (counted_bytes order (bytes_of a.0.0) ++ number_bytes order w32 n ++ flat_map (in_flight_bytes order) c.0.0) c.0.1 in
+      let text = λ (n : ℕ). Takes from (counted_bytes order (row_bytes a.0.0) ++ number_bytes order w32 n ++ flat_map (in_flight_bytes order) c.0.0) c.0.1 in
       let few : length c.0.0 ≤ length a.0.0 = omega (arith, leb-true _ _ count.2, flight.1) in
       subst (λ (y : List Bool × List InFlight × Unread).
-        Takes from (counted_bytes order (bytes_of y.0) ++ number_bytes order w32 (length y.1) ++ flat_map (in_flight_bytes order) y.1) y.2
+        Takes from (counted_bytes order (row_bytes y.0) ++ number_bytes order w32 (length y.1) ++ flat_map (in_flight_bytes order) y.1) y.2
         × (length y.0 ≡ pieces_of total piece_len) × (length y.1 ≤ length y.0) × AreOpen total piece_len y.0 y.1)
       (ok_is (a.0.0, c.0.0, c.0.1) x c.2) (subst text (sym flight.1) all, pieces.1, few, flight.2)
 
   progress_again : RowsAreReadBack → (pieces : List Bool) (flight : List InFlight) (at : ℕ) → IsPlan total piece_len
       → length pieces ≡ pieces_of total piece_len → length flight ≤ length pieces → AreOpen total piece_len pieces flight
-      → (end : ℕ) × (progress_at order total piece_len (from_at (counted_bytes order (bytes_of pieces) ++ (number_bytes order w32 (length flight) ++ (flat_map (in_flight_bytes order) flight ++ []))) at)
+      → (end : ℕ) × (progress_at order total piece_len (from_at (counted_bytes order (row_bytes pieces) ++ (number_bytes order w32 (length flight) ++ (flat_map (in_flight_bytes order) flight ++ []))) at)
         ≡ Ok (pieces, flight, from_at [] end))
   unfolding progress_at
   progress_again back pieces flight at plan long few all =
@@ -172,11 +172,11 @@ is_found held bytes control small e =
     let it = made b.0 c.0 d.0 in
     let order = a.0.0 in
     let text = version_bytes order ++ (to_be_bytes w32 it.ext ++ counted_bytes order it.info_hash) ++ lengths_bytes order c.0.0
-        ++ (counted_bytes order (bytes_of it.pieces) ++ number_bytes order w32 (length it.flight) ++ flat_map (in_flight_bytes order) it.flight) in
+        ++ (counted_bytes order (row_bytes it.pieces) ++ number_bytes order w32 (length it.flight) ++ flat_map (in_flight_bytes order) it.flight) in
     let number = number_bytes order in
     let same : text ≡ control_bytes order it = grouped (version_bytes order) (to_be_bytes w32 it.ext) (counted_bytes order it.info_hash)
         (number w32 it.piece_len) (number w64 it.total) (number w64 it.uploaded)
-        (counted_bytes order (bytes_of it.pieces)) (number w32 (length it.flight)) (flat_map (in_flight_bytes order) it.flight) in
+        (counted_bytes order (row_bytes it.pieces)) (number w32 (length it.flight)) (flat_map (in_flight_bytes order) it.flight) in
     let spelled : bytes ≡ control_bytes order it = all.parts ∙ ap (λ (rest : List ℕ). text ++ rest) ended ∙ append-nil text ∙ same in
     let flight = each_open it.total it.piece_len it.pieces it.flight progress.3 in
     subst (λ (y : Control). IsControlFile bytes y) r.1 (record {
@@ -204,12 +204,12 @@ again back order control rules =
     let lengths : Lengths = record { piece_len = control.piece_len; total = control.total; uploaded = control.uploaded } in
     let flight = flat_map (in_flight_bytes order) control.flight in
     let number = number_bytes order in
-    let text4 = counted_bytes order (bytes_of control.pieces) ++ (number_bytes order w32 (length control.flight) ++ (flight ++ [])) in
+    let text4 = counted_bytes order (row_bytes control.pieces) ++ (number_bytes order w32 (length control.flight) ++ (flight ++ [])) in
     let text3 = lengths_bytes order lengths ++ text4 in
     let text2 = (to_be_bytes w32 control.ext ++ counted_bytes order control.info_hash) ++ text3 in
     let parts : control_bytes order control ≡ version_bytes order ++ text2 = nested (version_bytes order) (to_be_bytes w32 control.ext) (counted_bytes order control.info_hash)
         (number w32 control.piece_len) (number w64 control.total) (number w64 control.uploaded)
-        (counted_bytes order (bytes_of control.pieces)) (number w32 (length control.flight)) flight in
+        (counted_bytes order (row_bytes control.pieces)) (number w32 (length control.flight)) flight in
     let version = order_again order text2 0 in
     let hash = hash_again order control.ext control.info_hash text3 (0 + 2) fields.ext fields.info_hash in
     let at2 = 0 + 2 + 4 + 4 + length control.info_hash in

@@ -5,7 +5,7 @@ use Rattle.std.specs.List.{list_any}
 use Rattle.std.proofs.lemmas.Bool.{false≢true, eqb-true, leb-true, le-leb}
 use Rattle.std.proofs.Math.Nat.{zero-div, zero-mod}
 use Rattle.std.proofs.lemmas.List.Elements.{All-from_get_or}
-use Rattle.bit_rows.specs.Row.{bytes_for, bytes_of, row_of, spare_of}
+use Rattle.bit_rows.specs.Row.{bytes_for, row_bytes, row_of, spare_bits}
 use Rattle.bit_rows.specs.RowLaws.{RowsAreReadBack, BytesHoldRows}
 use Rattle.dl_kinds.specs.Plan.{IsPlan, pieces_of}
 use Rattle.control_file.specs.declared.fault.ControlErr.{ControlErr}
@@ -25,34 +25,34 @@ not_true true e = absurd cc
 not_true false e = refl
 
 pub row_takes : BytesHoldRows → (order : ByteOrder) (bits : ℕ) (from : Unread) (x : List Bool × Unread) → IsBytes from.bytes → row_at order bits from ≡ Ok x
-    → Takes from (counted_bytes order (bytes_of x.0)) x.1 × (length x.0 ≡ bits)
+    → Takes from (counted_bytes order (row_bytes x.0)) x.1 × (length x.0 ≡ bits)
 unfolding row_at
 row_takes held order bits from x small e =
-    let tail = λ (len : ℕ × Unread) (bytes : List ℕ × Unread). ruled (not (list_any (λ bit. bit) (spare_of bits bytes.0))) len.1.at (row_of bits bytes.0, bytes.1) in
+    let tail = λ (len : ℕ × Unread) (bytes : List ℕ × Unread). ruled (not (list_any (λ bit. bit) (spare_bits bits bytes.0))) len.1.at (row_of bits bytes.0, bytes.1) in
     let a = bind_ok (field_at order w32 (λ len. eqb len (bytes_for bits)) from) (λ len. bytes_at len.0 len.1 >>= tail len) x e in
     let b = bind_ok (bytes_at a.0.0 a.0.1) (tail a.0) x a.2 in
-    let r = ruled_ok (not (list_any (λ bit. bit) (spare_of bits b.0.0))) a.0.1.at (row_of bits b.0.0, b.0.1) x b.2 in
+    let r = ruled_ok (not (list_any (λ bit. bit) (spare_bits bits b.0.0))) a.0.1.at (row_of bits b.0.0, b.0.1) x b.2 in
     let len = field_takes order w32 (2 ^ 32) (wide32 order) (λ len. eqb len (bytes_for bits)) from a.0 small a.1 in
     let bytes = bytes_takes a.0.0 a.0.1 b.0 len.0.small b.1 in
-    let none : Contains (spare_of bits b.0.0) true → ⊥ = λ some. false≢true (sym (not_true (list_any (λ bit. bit) (spare_of bits b.0.0)) r.0) ∙ some_spare (spare_of bits b.0.0) some) in
+    let none : Contains (spare_bits bits b.0.0) true → ⊥ = λ some. false≢true (sym (not_true (list_any (λ bit. bit) (spare_bits bits b.0.0)) r.0) ∙ some_spare (spare_bits bits b.0.0) some) in
     let fits : length b.0.0 ≡ bytes_for bits = bytes.1 ∙ eqb-true _ _ len.2 in
     let row = held bits b.0.0 (All-from_get_or (λ byte. byte < 256) b.0.0 0 (λ i below. bytes.2 i)) fits none in
-    let counted : number_bytes order w32 a.0.0 ++ b.0.0 ≡ counted_bytes order (bytes_of (row_of bits b.0.0)) = rw (row.same, bytes.1) refl in
-    subst (λ (y : List Bool × Unread). Takes from (counted_bytes order (bytes_of y.0)) y.1 × (length y.0 ≡ bits)) r.1
+    let counted : number_bytes order w32 a.0.0 ++ b.0.0 ≡ counted_bytes order (row_bytes (row_of bits b.0.0)) = rw (row.same, bytes.1) refl in
+    subst (λ (y : List Bool × Unread). Takes from (counted_bytes order (row_bytes y.0)) y.1 × (length y.0 ≡ bits)) r.1
     (subst (λ (text : List ℕ). Takes from text b.0.1) counted (Takes-then from _ a.0.1 _ b.0.1 len.0 bytes.0), row.long)
 
 pub row_again : RowsAreReadBack → (order : ByteOrder) (row : List Bool) (rest : List ℕ) (at bits : ℕ) → length row ≡ bits → bytes_for bits < 2 ^ 32
-    → row_at order bits (from_at (counted_bytes order (bytes_of row) ++ rest) at) ≡ Ok (row, from_at rest (at + 4 + bytes_for bits))
+    → row_at order bits (from_at (counted_bytes order (row_bytes row) ++ rest) at) ≡ Ok (row, from_at rest (at + 4 + bytes_for bits))
 unfolding row_at
 row_again back order row rest at bits long small =
     let own = back row in
-    let many : length (bytes_of row) ≡ bytes_for bits = own.many ∙ ap bytes_for long in
-    let parts : counted_bytes order (bytes_of row) ++ rest ≡ number_bytes order w32 (bytes_for bits) ++ (bytes_of row ++ rest) =
-        append_assoc (number_bytes order w32 (length (bytes_of row))) (bytes_of row) rest ∙ ap (λ n. number_bytes order w32 n ++ (bytes_of row ++ rest)) many in
-    let len = field_again order w32 (2 ^ 32) (wide32 order) (λ len. eqb len (bytes_for bits)) (bytes_for bits) (bytes_of row ++ rest) at small (eq-eqb _ _ refl) in
-    let bytes = bytes_again (bytes_of row) rest (bytes_for bits) (at + 4) many in
-    let clear : list_any (λ bit. bit) (spare_of bits (bytes_of row)) ≡ false = none_spare (spare_of bits (bytes_of row)) (λ some. own.clear (subst (λ (n : ℕ). Contains (spare_of n (bytes_of row)) true) (sym long) some)) in
-    let same : row_of bits (bytes_of row) ≡ row = ap (λ n. row_of n (bytes_of row)) (sym long) ∙ own.same in
+    let many : length (row_bytes row) ≡ bytes_for bits = own.many ∙ ap bytes_for long in
+    let parts : counted_bytes order (row_bytes row) ++ rest ≡ number_bytes order w32 (bytes_for bits) ++ (row_bytes row ++ rest) =
+        append_assoc (number_bytes order w32 (length (row_bytes row))) (row_bytes row) rest ∙ ap (λ n. number_bytes order w32 n ++ (row_bytes row ++ rest)) many in
+    let len = field_again order w32 (2 ^ 32) (wide32 order) (λ len. eqb len (bytes_for bits)) (bytes_for bits) (row_bytes row ++ rest) at small (eq-eqb _ _ refl) in
+    let bytes = bytes_again (row_bytes row) rest (bytes_for bits) (at + 4) many in
+    let clear : list_any (λ bit. bit) (spare_bits bits (row_bytes row)) ≡ false = none_spare (spare_bits bits (row_bytes row)) (λ some. own.clear (subst (λ (n : ℕ). Contains (spare_bits n (row_bytes row)) true) (sym long) some)) in
+    let same : row_of bits (row_bytes row) ≡ row = ap (λ n. row_of n (row_bytes row)) (sym long) ∙ own.same in
     rw (parts, len, bytes, clear, same) refl
 
 -- ---- VER

@@ -4,7 +4,7 @@ use Rattle.std.proofs.lemmas.Bool.Decides.{nat_tests}
 use Rattle.std.specs.Prelude.{IfSome}
 use Rattle.std.specs.Int.{w32}
 use Rattle.std.specs.List.{list_any}
-use Rattle.bit_rows.specs.Row.{bytes_for, row_of, spare_of}
+use Rattle.bit_rows.specs.Row.{bytes_for, row_of, spare_bits}
 use Rattle.dl_kinds.specs.Plan.{pieces_of, blocks_of_piece}
 use Rattle.control_file.specs.declared.control.InFlight.{InFlight}
 use Rattle.control_file.specs.declared.fault.ControlErr.{ControlErr}
@@ -24,11 +24,11 @@ passed_on (Some f) step whole leads failed = leads f failed
 module _ (order : ByteOrder) (bits len count : ℕ) (from after rest : Unread) (bytes : List ℕ)
     (counted : field_at order w32 (λ n. eqb n count) from ≡ Ok (len, after)) (as_many : count ≡ bytes_for bits) (taken : bytes_at len after ≡ Ok (bytes, rest)) where
 
-  pub row_is : (row : List Bool) → row ≡ row_of bits bytes → list_any (λ bit. bit) (spare_of bits bytes) ≡ false → row_at order bits from ≡ Ok (row, rest)
+  pub row_is : (row : List Bool) → row ≡ row_of bits bytes → list_any (λ bit. bit) (spare_bits bits bytes) ≡ false → row_at order bits from ≡ Ok (row, rest)
   unfolding row_at
   row_is row is none = rw (is, ← as_many, counted, taken, none) refl
 
-  pub row_wrong : list_any (λ bit. bit) (spare_of bits bytes) ≡ true → row_at order bits from ≡ Err (Wrong after.at)
+  pub row_wrong : list_any (λ bit. bit) (spare_bits bits bytes) ≡ true → row_at order bits from ≡ Err (Wrong after.at)
   unfolding row_at
   row_wrong some = rw (← as_many, counted, taken, some) refl
 

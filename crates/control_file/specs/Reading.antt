@@ -2,7 +2,7 @@
 use Rattle.std.specs.Prelude.{◌≡◌, ℕ, zero, suc, ◌+◌, ◌*◌, ◌&&◌, ◌==◌, nat_le, nat_lt, not, Bool, true, false, if◌then◌else◌, List, [], ◌∷◌, length, take, drop, slice_set, Option, Some, None, Result, Ok, Err}
 use Rattle.std.specs.Int.{Width, w16, w32, w64, byte_len, from_be_bytes, from_le_bytes}
 use Rattle.std.specs.List.{list_any, slice_index_or}
-use Rattle.bit_rows.specs.Row.{bytes_for, row_of, spare_of}
+use Rattle.bit_rows.specs.Row.{bytes_for, row_of, spare_bits}
 use Rattle.dl_kinds.specs.Plan.{pieces_of, blocks_of, blocks_of_piece}
 use Rattle.dl_kinds.specs.declared.plan.Plan.{Plan}
 use Rattle.dl_kinds.specs.declared.plan.TheConstants.{MAX_BLOCKS, MAX_PIECES, MAX_PIECE_LEN}
@@ -53,7 +53,7 @@ unfoldable pub row_at : ByteOrder → ℕ → Unread → Result (List Bool × Un
 row_at order bits from = do
   len ← field_at order w32 (λ len. len == bytes_for bits) from
   bytes ← bytes_at len.0 len.1
-  ruled (not (list_any (λ bit. bit) (spare_of bits bytes.0))) len.1.at (row_of bits bytes.0, bytes.1)
+  ruled (not (list_any (λ bit. bit) (spare_bits bits bytes.0))) len.1.at (row_of bits bytes.0, bytes.1)
 
 -- VER: any version but 0 and 1 is refused by its number
 abbrev pub order_of : ℕ → Unread → Result (ByteOrder × Unread) ControlErr

@@ -5,7 +5,7 @@ use Rattle.std.specs.Prelude.{◌≡◌, ◌≢◌, ◌≤◌, ◌<◌, ℕ, ◌
 use Rattle.std.specs.Int.{Width, w32, w64, to_be_bytes, to_le_bytes}
 use Rattle.std.specs.List.{flat_map}
 use Rattle.std.specs.List.Sorted.{IsStrictlyIncreasing}
-use Rattle.bit_rows.specs.Row.{bytes_of}
+use Rattle.bit_rows.specs.Row.{row_bytes}
 use Rattle.dl_kinds.specs.Plan.{IsPlan, pieces_of, blocks_of_piece, piece_start, piece_end}
 use Rattle.control_file.specs.declared.control.Control.{Control}
 use Rattle.control_file.specs.declared.control.InFlight.{InFlight}
@@ -65,7 +65,7 @@ abbrev pub in_flight_bytes : ByteOrder → InFlight → List ℕ
 in_flight_bytes order piece =
     number_bytes order w32 piece.index
     ++ number_bytes order w32 piece.length
-    ++ counted_bytes order (bytes_of piece.blocks)
+    ++ counted_bytes order (row_bytes piece.blocks)
 
 -- VER, EXT, INFO HASH LENGTH, INFO HASH, PIECE LENGTH, TOTAL LENGTH, UPLOAD LENGTH, BITFIELD LENGTH, BITFIELD,
 -- NUM IN-FLIGHT PIECE, and the pieces in flight. EXT is four bytes in order in both versions.
@@ -77,7 +77,7 @@ control_bytes order control =
     ++ number_bytes order w32 control.piece_len
     ++ number_bytes order w64 control.total
     ++ number_bytes order w64 control.uploaded
-    ++ counted_bytes order (bytes_of control.pieces)
+    ++ counted_bytes order (row_bytes control.pieces)
     ++ number_bytes order w32 (length control.flight)
     ++ flat_map (in_flight_bytes order) control.flight
 

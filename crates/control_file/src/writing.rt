@@ -2,7 +2,7 @@
 ghost use Rattle.std.specs.Prelude.{◌≡◌, ◌<◌, ◌^◌, ◌++◌, Ok, length, OnOk, IfOk};
 ghost use Rattle.std.specs.Int.{w32};
 ghost use Rattle.std.specs.List.{flat_map};
-ghost use Rattle.bit_rows.specs.Row.{bytes_of};
+ghost use Rattle.bit_rows.specs.Row.{row_bytes};
 ghost use Rattle.control_file.specs.Reading.{control_in};
 ghost use Rattle.control_file.specs.Spelling.{IsWritableControl, number_bytes, counted_bytes, in_flight_bytes, control_bytes};
 ghost use Rattle.control_file.specs.declared.fields.ByteOrder.TheVariants.{Big};
@@ -24,13 +24,13 @@ fn put_counted(out: &mut Vec<u8>, bytes: &[u8]) -> Result<(), AllocError>
 
 #[tactic(auto, using(crate::proofs::RowBytes::bytes_of_len))]
 fn bytes_len(row: &BitRow) -> u32
-    ensures { result ≡ length (bytes_of row.now) }
+    ensures { result ≡ length (row_bytes row.now) }
 {
     row.len().div_ceil(8)
 }
 
 fn put_row(out: &mut Vec<u8>, row: &BitRow) -> Result<(), AllocError>
-    ensures { OnOk result (out.new.items ≡ out.old.items ++ counted_bytes Big (bytes_of row.now)) }
+    ensures { OnOk result (out.new.items ≡ out.old.items ++ counted_bytes Big (row_bytes row.now)) }
 {
     out.extend_from_slice(&bytes_len(row).to_be_bytes())?;
     out.extend_from_slice(row.bytes())
