@@ -2,6 +2,7 @@ pub mod Flights
 pub mod Found
 pub mod Numbers
 pub mod Open
+pub mod Ordered
 pub mod Plans
 pub mod Progress
 pub mod RowBytes

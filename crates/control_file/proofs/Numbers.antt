@@ -27,7 +27,8 @@ IsBytes-take n bytes small i = elim (cases_lt i n) [
 -- ---- steps
 
 -- the value of a step that did not fail
-pub bind_ok : {A B : Type 0} (r : Result A ControlErr) (f : A → Result B ControlErr) (y : B) → (r >>= f) ≡ Ok y → (x : A) × (r ≡ Ok x) × (f x ≡ Ok y)
+pub bind_ok : {A B : Type 0} (r : Result A ControlErr) (f : A → Result B ControlErr) (y : B) → (r >>= f) ≡ Ok y
+    → (x : A) × (r ≡ Ok x) × (f x ≡ Ok y)
 bind_ok (Ok x) f y e = (x, refl, e)
 bind_ok (Err d) f y e = absurd cc
 
@@ -47,8 +48,10 @@ pub record Takes (from : Unread) (text : List ℕ) (rest : Unread) : Type 0 wher
   pub parts : from.bytes ≡ text ++ rest.bytes
   pub small : IsBytes rest.bytes
 
-pub Takes-then : (a : Unread) (x : List ℕ) (b : Unread) (y : List ℕ) (c : Unread) → Takes a x b → Takes b y c → Takes a (x ++ y) c
-Takes-then a x b y c p q = record { parts = p.parts ∙ ap (λ (t : List ℕ). x ++ t) q.parts ∙ sym (append_assoc x y c.bytes); small = q.small }
+pub Takes-then : (a : Unread) (x : List ℕ) (b : Unread) (y : List ℕ) (c : Unread) → Takes a x b → Takes b y c
+    → Takes a (x ++ y) c
+Takes-then a x b y c p q = record { parts = p.parts ∙ ap (λ (t : List ℕ). x ++ t) q.parts
+    ∙ sym (append_assoc x y c.bytes); small = q.small }
 
 -- the bytes from here on
 abbrev pub from_at : List ℕ → ℕ → Unread
@@ -56,7 +59,8 @@ from_at bytes at = record { bytes = bytes; at = at }
 
 -- ---- bytes
 
-bytes_guard : {A : Type 0} (short : Bool) (e : ControlErr) (x y : A) → cond short (Err e) (Ok x) ≡ Ok y → (short ≡ false) × (x ≡ y)
+bytes_guard : {A : Type 0} (short : Bool) (e : ControlErr) (x y : A) → cond short (Err e) (Ok x) ≡ Ok y
+    → (short ≡ false) × (x ≡ y)
 bytes_guard true e x y is = absurd cc
 bytes_guard false e x y is = (refl, cc)
 
@@ -72,7 +76,8 @@ bytes_takes len from x small e =
       IsBytes-take len from.bytes small,
     )
 
-pub bytes_again : (text rest : List ℕ) (len at : ℕ) → length text ≡ len → bytes_at len (from_at (text ++ rest) at) ≡ Ok (text, from_at rest (at + len))
+pub bytes_again : (text rest : List ℕ) (len at : ℕ) → length text ≡ len
+    → bytes_at len (from_at (text ++ rest) at) ≡ Ok (text, from_at rest (at + len))
 bytes_again text rest len at is =
     let long : ltb (length (text ++ rest)) len ≡ false = le-ltb _ _ (omega (arith, length-append text rest)) in
     rw (long, take_at text rest len is, drop_at text rest len is) refl
@@ -81,7 +86,8 @@ bytes_again text rest len at is =
 
 pub record IsWide (order : ByteOrder) (w : Width) (limit : ℕ) : Type 0 where
   pub len : (n : ℕ) → length (number_bytes order w n) ≡ byte_len w
-  pub back : (bytes : List ℕ) → length bytes ≡ byte_len w → IsBytes bytes → number_bytes order w (number_from order w bytes) ≡ bytes
+  pub back : (bytes : List ℕ) → length bytes ≡ byte_len w → IsBytes bytes
+      → number_bytes order w (number_from order w bytes) ≡ bytes
   pub again : (n : ℕ) → n < limit → number_from order w (number_bytes order w n) ≡ n
   pub below : (bytes : List ℕ) → IsBytes bytes → number_from order w bytes < limit
 
@@ -130,7 +136,8 @@ module _ (order : ByteOrder) (w : Width) (limit : ℕ) (wide : IsWide order w li
       let b = bind_ok (bytes_at (byte_len w) from) (λ bytes. Ok (number_from order w bytes.0, bytes.1)) x e in
       let t = bytes_takes (byte_len w) from b.0 small b.1 in
       let front : number_bytes order w (number_from order w b.0.0) ≡ b.0.0 = wide.back b.0.0 t.1 t.2 in
-      subst (λ (y : ℕ × Unread). Takes from (number_bytes order w y.0) y.1 × (y.0 < limit)) (ok_is (number_from order w b.0.0, b.0.1) x b.2)
+      subst (λ (y : ℕ × Unread). Takes from (number_bytes order w y.0) y.1 × (y.0 < limit))
+          (ok_is (number_from order w b.0.0, b.0.1) x b.2)
       (subst (λ (text : List ℕ). Takes from text b.0.1) (sym front) t.0, wide.below b.0.0 t.2)
 
   pub number_again : (n : ℕ) (rest : List ℕ) (at : ℕ) → n < limit
@@ -139,14 +146,16 @@ module _ (order : ByteOrder) (w : Width) (limit : ℕ) (wide : IsWide order w li
   number_again n rest at below =
       rw (bytes_again (number_bytes order w n) rest (byte_len w) at (wide.len n), wide.again n below) refl
 
-  pub field_takes : (rule : ℕ → Bool) (from : Unread) (x : ℕ × Unread) → IsBytes from.bytes → field_at order w rule from ≡ Ok x
+  pub field_takes : (rule : ℕ → Bool) (from : Unread) (x : ℕ × Unread) → IsBytes from.bytes
+      → field_at order w rule from ≡ Ok x
       → Takes from (number_bytes order w x.0) x.1 × (x.0 < limit) × (rule x.0 ≡ true)
   unfolding field_at
   field_takes rule from x small e =
       let b = bind_ok (number_at order w from) (λ n. ruled (rule n.0) from.at n) x e in
       let t = number_takes from b.0 small b.1 in
       let r = ruled_ok (rule b.0.0) from.at b.0 x b.2 in
-      subst (λ (y : ℕ × Unread). Takes from (number_bytes order w y.0) y.1 × (y.0 < limit) × (rule y.0 ≡ true)) r.1 (t.0, t.1, r.0)
+      subst (λ (y : ℕ × Unread). Takes from (number_bytes order w y.0) y.1 × (y.0 < limit) × (rule y.0 ≡ true)) r.1
+          (t.0, t.1, r.0)
 
   pub field_again : (rule : ℕ → Bool) (n : ℕ) (rest : List ℕ) (at : ℕ) → n < limit → rule n ≡ true
       → field_at order w rule (from_at (number_bytes order w n ++ rest) at) ≡ Ok (n, from_at rest (at + byte_len w))

@@ -31,12 +31,15 @@ false_is_free taken i is = get_or_from_slice_get taken i false true is
 -- each in turn
 abbrev pub AreOpen : ℕ → ℕ → List Bool → List InFlight → Type 0
 AreOpen total piece_len taken [] = Unit {0}
-AreOpen total piece_len taken (piece ∷ pieces) = IsOpen total piece_len taken piece × AreOpen total piece_len (slice_set taken piece.index true) pieces
+AreOpen total piece_len taken (piece ∷ pieces) = IsOpen total piece_len taken piece
+    × AreOpen total piece_len (slice_set taken piece.index true) pieces
 
 -- what is free behind a taken piece was free before it, and is another
-freed : (taken : List Bool) (i j : ℕ) → i < length taken → get_or (set taken i true) j true ≡ false → (get_or taken j true ≡ false) × (i ≢ j)
+freed : (taken : List Bool) (i j : ℕ) → i < length taken → get_or (set taken i true) j true ≡ false
+    → (get_or taken j true ≡ false) × (i ≢ j)
 freed taken i j within free =
-    let other : j ≢ i = λ same. false≢true (sym free ∙ ap (λ k. get_or (set taken i true) k true) same ∙ get_or-set_same taken i true true within) in
+    let other : j ≢ i = λ same. false≢true (sym free ∙ ap (λ k. get_or (set taken i true) k true) same
+        ∙ get_or-set_same taken i true true within) in
     (sym (get_or-set_other taken i j true true other) ∙ free, λ same. other (sym same))
 
 module _ (total piece_len : ℕ) where
@@ -51,35 +54,46 @@ module _ (total piece_len : ℕ) where
   others taken i [] within all = tt
   others taken i (piece ∷ pieces) within all =
       let f = freed taken i piece.index within all.0.free in
-      (record { is_free = record { free = f.0; size = all.0.size; bits = all.0.bits }; differs = f.1 }, others taken i pieces within all.1)
+      (record { is_free = record { free = f.0; size = all.0.size; bits = all.0.bits }; differs = f.1 }, others taken i
+          pieces within all.1)
 
-  all_free : (taken : List Bool) (i : ℕ) (pieces : List InFlight) → AllByRecursion (IsOther taken i) pieces → AllByRecursion (IsOpen total piece_len taken) pieces
+  all_free : (taken : List Bool) (i : ℕ) (pieces : List InFlight) → AllByRecursion (IsOther taken i) pieces
+      → AllByRecursion (IsOpen total piece_len taken) pieces
   all_free taken i [] all = tt
   all_free taken i (piece ∷ pieces) all = (all.0.is_free, all_free taken i pieces all.1)
 
-  all_differ : (taken : List Bool) (i : ℕ) (pieces : List InFlight) → AllByRecursion (IsOther taken i) pieces → AllByRecursion (λ n. i ≢ n) (map (λ piece. piece.index) pieces)
+  all_differ : (taken : List Bool) (i : ℕ) (pieces : List InFlight) → AllByRecursion (IsOther taken i) pieces
+      → AllByRecursion (λ n. i ≢ n) (map (λ piece. piece.index) pieces)
   all_differ taken i [] all = tt
   all_differ taken i (piece ∷ pieces) all = (all.0.differs, all_differ taken i pieces all.1)
 
-  pub each_open : (taken : List Bool) (pieces : List InFlight) → AreOpen total piece_len taken pieces → AllByRecursion (IsOpen total piece_len taken) pieces
+  pub each_open : (taken : List Bool) (pieces : List InFlight) → AreOpen total piece_len taken pieces
+      → AllByRecursion (IsOpen total piece_len taken) pieces
   each_open taken [] all = tt
   each_open taken (piece ∷ pieces) (one, more) =
       let within = free_within taken piece.index one.free in
-      (one, all_free taken piece.index pieces (others taken piece.index pieces within (each_open (set taken piece.index true) pieces more)))
+      (one, all_free taken piece.index pieces (others taken piece.index pieces within
+          (each_open (set taken piece.index true) pieces more)))
 
-  pub they_differ : (taken : List Bool) (pieces : List InFlight) → AreOpen total piece_len taken pieces → AllPairs (λ a b. a ≢ b) (map (λ piece. piece.index) pieces)
+  pub they_differ : (taken : List Bool) (pieces : List InFlight) → AreOpen total piece_len taken pieces
+      → AllPairs (λ a b. a ≢ b) (map (λ piece. piece.index) pieces)
   they_differ taken [] all = λ i j d before within. absurd (omega arith)
   they_differ taken (piece ∷ pieces) (one, more) =
       let within = free_within taken piece.index one.free in
       let rest = others taken piece.index pieces within (each_open (set taken piece.index true) pieces more) in
-      AllPairs-cons (λ a b. a ≢ b) piece.index (map (λ p. p.index) pieces) (All-from_recursion (λ n. piece.index ≢ n) _ (all_differ taken piece.index pieces rest)) (they_differ (set taken piece.index true) pieces more)
+      AllPairs-cons (λ a b. a ≢ b) piece.index (map (λ p. p.index) pieces)
+          (All-from_recursion (λ n. piece.index ≢ n) _ (all_differ taken piece.index pieces rest))
+          (they_differ (set taken piece.index true) pieces more)
 
   -- and the other way round
-  still_open : (taken : List Bool) (i : ℕ) (pieces : List InFlight) → AllByRecursion (IsOpen total piece_len taken) pieces
-      → AllByRecursion (λ n. i ≢ n) (map (λ piece. piece.index) pieces) → AllByRecursion (IsOpen total piece_len (set taken i true)) pieces
+  still_open : (taken : List Bool) (i : ℕ) (pieces : List InFlight)
+      → AllByRecursion (IsOpen total piece_len taken) pieces
+      → AllByRecursion (λ n. i ≢ n) (map (λ piece. piece.index) pieces)
+          → AllByRecursion (IsOpen total piece_len (set taken i true)) pieces
   still_open taken i [] all differ = tt
   still_open taken i (piece ∷ pieces) all differ =
-      let free : get_or (set taken i true) piece.index true ≡ false = get_or-set_other taken i piece.index true true (λ same. differ.0 (sym same)) ∙ all.0.free in
+      let free : get_or (set taken i true) piece.index true ≡ false =
+          get_or-set_other taken i piece.index true true (λ same. differ.0 (sym same)) ∙ all.0.free in
       (record { free = free; size = all.0.size; bits = all.0.bits }, still_open taken i pieces all.1 differ.1)
 
   tail_differs : (x : ℕ) (xs : List ℕ) → AllPairs (λ a b. a ≢ b) (x ∷ xs) → AllPairs (λ a b. a ≢ b) xs
@@ -94,4 +108,5 @@ module _ (total piece_len : ℕ) where
   open_in_turn taken (piece ∷ pieces) all differ =
       let numbers = map (λ p. p.index) pieces in
       let first = recursion_from_All (λ n. piece.index ≢ n) numbers (head_differs piece.index numbers differ) in
-      (all.0, open_in_turn (set taken piece.index true) pieces (still_open taken piece.index pieces all.1 first) (tail_differs piece.index numbers differ))
+      (all.0, open_in_turn (set taken piece.index true) pieces (still_open taken piece.index pieces all.1 first)
+          (tail_differs piece.index numbers differ))

@@ -15,9 +15,11 @@ each_of_four true false c d e = absurd cc
 each_of_four false b c d e = absurd cc
 
 pub plan_passes : (total piece_len : ℕ) → IsPlan total piece_len → allows_plan total piece_len ≡ true
-plan_passes total piece_len plan = all_four _ _ _ _ (le-leb _ _ plan.some) (le-leb _ _ plan.piece) (le-leb _ _ plan.pieces) (le-leb _ _ plan.blocks)
+plan_passes total piece_len plan = all_four _ _ _ _ (le-leb _ _ plan.some) (le-leb _ _ plan.piece)
+    (le-leb _ _ plan.pieces) (le-leb _ _ plan.blocks)
 
 pub passes_plan : (total piece_len : ℕ) → allows_plan total piece_len ≡ true → IsPlan total piece_len
 passes_plan total piece_len is =
     let each = each_of_four _ _ _ _ is in
-    record { some = leb-true _ _ each.0; piece = leb-true _ _ each.1; pieces = leb-true _ _ each.2; blocks = leb-true _ _ each.3 }
+    record { some = leb-true _ _ each.0; piece = leb-true _ _ each.1; pieces = leb-true _ _ each.2; blocks =
+        leb-true _ _ each.3 }

@@ -22,9 +22,11 @@ passed_on None step whole leads failed = failed
 passed_on (Some f) step whole leads failed = leads f failed
 
 module _ (order : ByteOrder) (bits len count : ℕ) (from after rest : Unread) (bytes : List ℕ)
-    (counted : field_at order w32 (λ n. eqb n count) from ≡ Ok (len, after)) (as_many : count ≡ bytes_for bits) (taken : bytes_at len after ≡ Ok (bytes, rest)) where
+    (counted : field_at order w32 (λ n. eqb n count) from ≡ Ok (len, after)) (as_many : count ≡ bytes_for bits)
+        (taken : bytes_at len after ≡ Ok (bytes, rest)) where
 
-  pub row_is : (row : List Bool) → row ≡ row_of bits bytes → list_any (λ bit. bit) (spare_bits bits bytes) ≡ false → row_at order bits from ≡ Ok (row, rest)
+  pub row_is : (row : List Bool) → row ≡ row_of bits bytes → list_any (λ bit. bit) (spare_bits bits bytes) ≡ false
+      → row_at order bits from ≡ Ok (row, rest)
   unfolding row_at
   row_is row is none = rw (is, ← as_many, counted, taken, none) refl
 
@@ -32,41 +34,52 @@ module _ (order : ByteOrder) (bits len count : ℕ) (from after rest : Unread) (
   unfolding row_at
   row_wrong some = rw (← as_many, counted, taken, some) refl
 
-module _ (order : ByteOrder) (total piece_len index len bytes blocks : ℕ) (taken : List Bool) (from second third : Unread)
-    (open_index : field_at order w32 (may_be_in_flight taken) from ≡ Ok (index, second)) (size : field_at order w32 (λ n. eqb n bytes) second ≡ Ok (len, third))
-    (bytes_is : bytes ≡ bytes_of_piece total piece_len index) (blocks_is : blocks ≡ blocks_of_piece total piece_len index) where
+module _ (order : ByteOrder) (total piece_len index len bytes blocks : ℕ) (taken : List Bool)
+    (from second third : Unread)
+    (open_index : field_at order w32 (may_be_in_flight taken) from ≡ Ok (index, second))
+        (size : field_at order w32 (λ n. eqb n bytes) second ≡ Ok (len, third))
+    (bytes_is : bytes ≡ bytes_of_piece total piece_len index)
+        (blocks_is : blocks ≡ blocks_of_piece total piece_len index) where
 
   pub in_flight_is : (row : List Bool) (rest : Unread) → row_at order blocks third ≡ Ok (row, rest)
       → in_flight_at order total piece_len taken from ≡ Ok (record { index = index; length = len; blocks = row }, rest)
   unfolding in_flight_at
   in_flight_is row rest read = rw (open_index, ← blocks_is, ← bytes_is, size, read) refl
 
-  pub in_flight_wrong : (f : ControlErr) → row_at order blocks third ≡ Err f → in_flight_at order total piece_len taken from ≡ Err f
+  pub in_flight_wrong : (f : ControlErr) → row_at order blocks third ≡ Err f
+      → in_flight_at order total piece_len taken from ≡ Err f
   unfolding in_flight_at
   in_flight_wrong f wrong = rw (open_index, ← blocks_is, ← bytes_is, size, wrong) refl
 
 module _ (order : ByteOrder) (total piece_len pieces count most : ℕ) (row : List Bool) (from second third : Unread)
-    (read : row_at order pieces from ≡ Ok (row, second)) (few : field_at order w32 (λ n. leb n most) second ≡ Ok (count, third))
+    (read : row_at order pieces from ≡ Ok (row, second))
+        (few : field_at order w32 (λ n. leb n most) second ≡ Ok (count, third))
     (pieces_is : pieces ≡ pieces_of total piece_len) (most_is : most ≡ length row) where
 
-  pub progress_is : (flight : List InFlight) (rest : Unread) → flight_at order total piece_len count row third ≡ Ok (flight, rest)
+  pub progress_is : (flight : List InFlight) (rest : Unread)
+      → flight_at order total piece_len count row third ≡ Ok (flight, rest)
       → progress_at order total piece_len from ≡ Ok (row, flight, rest)
   unfolding progress_at
   progress_is flight rest all = rw (← pieces_is, read, ← most_is, few, all) refl
 
-  pub progress_wrong : (f : ControlErr) → flight_at order total piece_len count row third ≡ Err f → progress_at order total piece_len from ≡ Err f
+  pub progress_wrong : (f : ControlErr) → flight_at order total piece_len count row third ≡ Err f
+      → progress_at order total piece_len from ≡ Err f
   unfolding progress_at
   progress_wrong f wrong = rw (← pieces_is, read, ← most_is, few, wrong) refl
 
 not_zero : (n : ℕ) → 0 < n → eqb n 0 ≡ false
 not_zero n more = grind (arith, nat_tests)
 
-module _ (input : List ℕ) (order : ByteOrder) (ext : ℕ) (hash : List ℕ) (lengths : Lengths) (pieces : List Bool) (flight : List InFlight) (second third fourth rest : Unread)
-    (version : order_at (record { bytes = input; at = 0 }) ≡ Ok (order, second)) (hashed : hash_at order second ≡ Ok (ext, hash, third))
-    (sized : lengths_at order third ≡ Ok (lengths, fourth)) (told : progress_at order lengths.total lengths.piece_len fourth ≡ Ok (pieces, flight, rest)) where
+module _ (input : List ℕ) (order : ByteOrder) (ext : ℕ) (hash : List ℕ) (lengths : Lengths) (pieces : List Bool)
+    (flight : List InFlight) (second third fourth rest : Unread)
+    (version : order_at (record { bytes = input; at = 0 }) ≡ Ok (order, second))
+        (hashed : hash_at order second ≡ Ok (ext, hash, third))
+    (sized : lengths_at order third ≡ Ok (lengths, fourth))
+        (told : progress_at order lengths.total lengths.piece_len fourth ≡ Ok (pieces, flight, rest)) where
 
   pub control_is : length rest.bytes ≡ 0
-      → control_in input ≡ Ok (record { ext = ext; info_hash = hash; piece_len = lengths.piece_len; total = lengths.total; uploaded = lengths.uploaded; pieces = pieces; flight = flight })
+      → control_in input ≡ Ok (record { ext = ext; info_hash = hash; piece_len = lengths.piece_len; total =
+          lengths.total; uploaded = lengths.uploaded; pieces = pieces; flight = flight })
   unfolding control_in
   control_is ended = rw (version, hashed, sized, told, ended) refl
 

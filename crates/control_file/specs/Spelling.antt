@@ -41,11 +41,15 @@ pub record IsReadableControl (control : Control) : Type 0 where
   pub fields : IsControl control
   pub distinct : AllPairs (λ a b. a ≢ b) (in_flight control)
 
--- a writer has them in order, each with a block that has come (own)
-pub record IsWritableControl (control : Control) : Type 0 where
-  pub fields : IsControl control
+-- in the order of their numbers, each with a block that has come (own)
+pub record IsInOrder (control : Control) : Type 0 where
   pub ascending : IsStrictlyIncreasing (in_flight control)
   pub some : All (λ piece. Contains piece.blocks true) control.flight
+
+-- a writer has the pieces in flight in order
+pub record IsWritableControl (control : Control) : Type 0 where
+  pub fields : IsControl control
+  pub in_order : IsInOrder control
 
 -- VER
 abbrev pub version_bytes : ByteOrder → List ℕ

@@ -28,7 +28,8 @@ impl<'a> Fields<'a> {
 
     /// The next bytes, so many.
     pub(crate) fn take(&mut self, len: usize) -> Result<&'a [u8], ControlErr>
-        ensures { Gives (λ bytes. (bytes.now, unread self.new)) control_fault result (bytes_at len (unread self.old)) }
+        ensures { Gives (λ bytes. (bytes.now, unread self.new)) control_fault result
+            (bytes_at len (unread self.old)) }
     {
         if self.bytes.len() - self.at < len {
             return Err(ControlErr::Wrong { at: self.at as u64 });
@@ -40,7 +41,8 @@ impl<'a> Fields<'a> {
 
     #[tactic(auto, unfolding(crate::specs::Reading::number_at))]
     pub(crate) fn u16(&mut self) -> Result<u16, ControlErr>
-        ensures { Gives (λ n. (n, unread self.new)) control_fault result (number_at Big w16 (unread self.old)) }
+        ensures { Gives (λ n. (n, unread self.new)) control_fault result
+            (number_at Big w16 (unread self.old)) }
     {
         let bytes = self.take(2)?;
         Ok(u16::from_be_bytes([bytes[0], bytes[1]]))
@@ -48,7 +50,8 @@ impl<'a> Fields<'a> {
 
     #[tactic(auto, unfolding(crate::specs::Reading::number_at))]
     pub(crate) fn u32(&mut self, order: ByteOrder) -> Result<u32, ControlErr>
-        ensures { Gives (λ n. (n, unread self.new)) control_fault result (number_at order w32 (unread self.old)) }
+        ensures { Gives (λ n. (n, unread self.new)) control_fault result
+            (number_at order w32 (unread self.old)) }
     {
         let bytes = self.take(4)?;
         let bytes = [bytes[0], bytes[1], bytes[2], bytes[3]];
@@ -60,7 +63,8 @@ impl<'a> Fields<'a> {
 
     #[tactic(auto, unfolding(crate::specs::Reading::number_at))]
     pub(crate) fn u64(&mut self, order: ByteOrder) -> Result<u64, ControlErr>
-        ensures { Gives (λ n. (n, unread self.new)) control_fault result (number_at order w64 (unread self.old)) }
+        ensures { Gives (λ n. (n, unread self.new)) control_fault result
+            (number_at order w64 (unread self.old)) }
     {
         let b = self.take(8)?;
         let bytes = [b[0], b[1], b[2], b[3], b[4], b[5], b[6], b[7]];

@@ -6,6 +6,7 @@ mod control;
 mod fault;
 mod fields;
 mod laws;
+mod order;
 mod reading;
 mod want;
 mod writing;

@@ -19,7 +19,8 @@ const HASH_LEN: u32 = 20;
 
 #[tactic(auto, unfolding(crate::specs::Reading::order_at))]
 fn read_order(fields: &mut Fields<'_>) -> Result<ByteOrder, ControlErr>
-    ensures { Gives (λ order. (order, unread fields.new)) specs.control_fault result (specs.order_at (unread fields.old)) }
+    ensures { Gives (λ order. (order, unread fields.new)) specs.control_fault result
+        (specs.order_at (unread fields.old)) }
 {
     match fields.u16()? {
         0 => Ok(ByteOrder::Little),
@@ -30,7 +31,8 @@ fn read_order(fields: &mut Fields<'_>) -> Result<ByteOrder, ControlErr>
 
 #[tactic(auto, unfolding(crate::specs::Reading::hash_at))]
 fn read_hash(alloc: Global, order: ByteOrder, fields: &mut Fields<'_>) -> Result<(u32, Blob), ControlErr>
-    ensures { Gives (λ hash. (hash.0, hash.1, unread fields.new)) specs.control_fault result (specs.hash_at order (unread fields.old)) }
+    ensures { Gives (λ hash. (hash.0, hash.1, unread fields.new)) specs.control_fault result
+        (specs.hash_at order (unread fields.old)) }
 {
     let ext = fields.at_most(ByteOrder::Big, 1)?;
     let len = fields.exactly(order, HASH_LEN * ext)?;
@@ -39,7 +41,8 @@ fn read_hash(alloc: Global, order: ByteOrder, fields: &mut Fields<'_>) -> Result
 
 #[tactic(auto, unfolding(crate::specs::Reading::lengths_at, crate::specs::Reading::field_at))]
 fn read_lengths(order: ByteOrder, fields: &mut Fields<'_>) -> Result<(Plan, u64), ControlErr>
-    ensures { Gives (λ lengths. (specs.lengths_of lengths.0 lengths.1, unread fields.new)) specs.control_fault result (specs.lengths_at order (unread fields.old)) }
+    ensures { Gives (λ lengths. (specs.lengths_of lengths.0 lengths.1, unread fields.new)) specs.control_fault result
+        (specs.lengths_at order (unread fields.old)) }
 {
     let at = fields.at;
     let piece_len = fields.u32(order)?;
@@ -62,7 +65,8 @@ fn read_row(
     bits: u32,
     fields: &mut Fields<'_>,
 ) -> Result<BitRow, ControlErr>
-    ensures exact { Gives (λ row. (row, unread fields.new)) specs.control_fault result (specs.row_at order bits (unread fields.old)) }
+    ensures exact { Gives (λ row. (row, unread fields.new)) specs.control_fault result
+        (specs.row_at order bits (unread fields.old)) }
     ensures len { IfOk result (λ row. length row ≡ bits) }
 {
     let len = fields.exactly(order, bits.div_ceil(8))?;
@@ -99,7 +103,8 @@ fn read_in_flight(
     fields: &mut Fields<'_>,
 ) -> Result<InFlight, ControlErr>
     requires { length taken.now ≡ plan.now.pieces }
-    ensures exact { Gives (λ piece. (piece, unread fields.new)) specs.control_fault result (specs.in_flight_at order plan.now.total plan.now.piece_len taken.now (unread fields.old)) }
+    ensures exact { Gives (λ piece. (piece, unread fields.new)) specs.control_fault result
+        (specs.in_flight_at order plan.now.total plan.now.piece_len taken.now (unread fields.old)) }
     ensures within { IfOk result (λ piece. piece.index < length taken.now) }
 {
     let index = fields.open_in(order, taken)?;
@@ -121,7 +126,9 @@ fn read_flight(
     fields: &mut Fields<'_>,
 ) -> Result<InFlights, ControlErr>
     requires { length pieces.now ≡ plan.now.pieces }
-    ensures { Gives (λ flight. (flight, unread fields.new)) specs.control_fault result (specs.flight_at order plan.now.total plan.now.piece_len count pieces.now (unread fields.old)) }
+    ensures { Gives (λ flight. (flight, unread fields.new)) specs.control_fault result
+        (specs.flight_at order plan.now.total plan.now.piece_len count pieces.now
+            (unread fields.old)) }
 {
     let mut taken = pieces.copy(alloc)?;
     let mut flight = InFlights::new(alloc);
@@ -140,7 +147,8 @@ fn read_progress(
     plan: &Plan,
     fields: &mut Fields<'_>,
 ) -> Result<(BitRow, InFlights), ControlErr>
-    ensures { Gives (λ progress. (progress.0, progress.1, unread fields.new)) specs.control_fault result (specs.progress_at order plan.now.total plan.now.piece_len (unread fields.old)) }
+    ensures { Gives (λ progress. (progress.0, progress.1, unread fields.new)) specs.control_fault result
+        (specs.progress_at order plan.now.total plan.now.piece_len (unread fields.old)) }
 {
     let pieces = read_row(alloc, order, plan.pieces, fields)?;
     let count = fields.at_most(order, pieces.len())?;
@@ -181,9 +189,11 @@ impl Control {
         // What is read is what the bytes say.
         ensures found { IfOk result (λ control. IsControlFile bytes.now control) }
         // What the bytes say is read, unless memory runs out.
-        ensures only { (c : Control) → IsControlFile bytes.now c → Gives (λ c. c) specs.control_fault result (Ok c) }
+        ensures only { (c : Control) → IsControlFile bytes.now c → Gives (λ c. c) specs.control_fault result
+            (Ok c) }
         // Which value or fault it is.
-        ensures exact { Gives (λ control. control) specs.control_fault result (specs.control_in bytes.now) }
+        ensures exact { Gives (λ control. control) specs.control_fault result
+            (specs.control_in bytes.now) }
     {
         control_files_are_read();
         read_all(alloc, bytes)

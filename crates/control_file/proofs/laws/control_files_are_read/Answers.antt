@@ -15,5 +15,7 @@ returns-clause-exactly c = λ bytes control small. (
 
 pub returns-clause-back : goal.returns-clause-back
 returns-clause-back c = λ control rules.
-    let rise = AllPairs-from_increasing (in_flight control) rules.ascending in
-    again c.rows_are_their_bytes.ensures.rows Big control (record { fields = rules.fields; distinct = λ i j d before within same. omega (arith, rise i j d before within, same) })
+    let rise = AllPairs-from_increasing (in_flight control) rules.in_order.ascending in
+    again c.rows_are_their_bytes.ensures.rows Big control
+        (record { fields = rules.fields; distinct =
+        λ i j d before within same. omega (arith, rise i j d before within, same) })
