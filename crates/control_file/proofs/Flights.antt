@@ -19,19 +19,18 @@ regroup front piece (Ok x) = ap (λ (pieces : List InFlight). Ok (pieces, x.1)) 
 regroup front piece (Err e) = refl
 
 module _ (order : ByteOrder) (total piece_len : ℕ) where
-
   pub goes_on : (front : List InFlight) (count i : ℕ) (taken : List Bool) (from after : Unread) (piece : InFlight)
       (whole : Result (List InFlight × Unread) ControlErr)
       → i < count → in_flight_at order total piece_len taken from ≡ Ok (piece, after)
       → with_front front (flight_at order total piece_len (count - i) taken from) ≡ whole
       → with_front (front ++ piece ∷ []) (flight_at order total piece_len (count - (i + 1))
-          (slice_set taken piece.index true) after) ≡ whole
+      (slice_set taken piece.index true) after) ≡ whole
   unfolding flight_at
   goes_on front count i taken from after piece whole below read so_far =
       let k : count - i ≡ suc (count - (i + 1)) = omega arith in
       let rest = flight_at order total piece_len (count - (i + 1)) (slice_set taken piece.index true) after in
       let one : with_front front (flight_at order total piece_len (count - i) taken from) ≡ with_front
-          (front ++ piece ∷ []) rest = rw (k, read) (regroup front piece rest) in
+      (front ++ piece ∷ []) rest = rw (k, read) (regroup front piece rest) in
       sym one ∙ so_far
 
   pub ends : (e : ControlErr) (front : List InFlight) (count i : ℕ) (taken : List Bool) (from : Unread)
@@ -48,16 +47,16 @@ module _ (order : ByteOrder) (total piece_len : ℕ) where
       at (Some f) h =
           let k : count - i ≡ suc (count - (i + 1)) = omega arith in
           let one : with_front front (flight_at order total piece_len (count - i) taken from) ≡ Err f =
-              rw (k, h) refl in
+          rw (k, h) refl in
           sym so_far ∙ one
 
   pub is_done : (front : List InFlight) (count i : ℕ) (taken : List Bool) (from : Unread)
       (whole : Result (List InFlight × Unread) ControlErr)
       → count ≤ i → with_front front (flight_at order total piece_len (count - i) taken from) ≡ whole
-          → whole ≡ Ok (front, from)
+      → whole ≡ Ok (front, from)
   unfolding flight_at
   is_done front count i taken from whole past so_far =
       let k : count - i ≡ 0 = omega arith in
       let one : with_front front (flight_at order total piece_len (count - i) taken from) ≡ Ok (front, from) =
-          rw k (ap (λ (pieces : List InFlight). Ok (pieces, from)) (append-nil front)) in
+      rw k (ap (λ (pieces : List InFlight). Ok (pieces, from)) (append-nil front)) in
       sym so_far ∙ one

@@ -12,7 +12,6 @@ use Rattle.control_file.specs.Reading.{control_fault, control_in}
 use Rattle.control_file.specs.Spelling.{IsControlFile, control_bytes}
 
 module _ (law : ControlFilesAreRead) (bytes : List ℕ) (small : All (λ byte. byte < 256) bytes) where
-
   pub found : (answer : Result Control ControlErr)
       → Gives (λ control. control) control_fault answer (control_in bytes) → IfOk answer (IsControlFile bytes)
   found (Ok control) e = (law bytes control small).0 e
@@ -23,12 +22,12 @@ module _ (law : ControlFilesAreRead) (bytes : List ℕ) (small : All (λ byte. b
       → Gives (λ c. c) control_fault answer (Ok control)
   only answer control file exact =
       subst (λ (read : Result Control ControlErr). Gives (λ c. c) control_fault answer read)
-          ((law bytes control small).1 file) exact
+      ((law bytes control small).1 file) exact
 
 -- what was written is read back
 pub read_back : (control : Control) → control_in (control_bytes Big control) ≡ Ok control
     → (answer : Result (Vec ℕ) AllocError)
     → IfOk answer (λ bytes. bytes.items ≡ control_bytes Big control)
-        → IfOk answer (λ bytes. control_in bytes.items ≡ Ok control)
+    → IfOk answer (λ bytes. control_in bytes.items ≡ Ok control)
 read_back control law (Ok bytes) written = ap control_in written ∙ law
 read_back control law (Err e) written = tt

@@ -1,5 +1,5 @@
 -- A number that is read is the number that was written, and what was written is read again.
-use Rattle.std.proofs.Common.{◌≡◌, ℕ, zero, suc, ◌+◌, ◌^◌, ◌<◌, ◌≤◌, Bool, true, false, cond, ltb, List, [], ◌∷◌, ◌++◌, length, get_or, take, drop, All, Result, Ok, Err, refl, sym, ap, subst, ◌∙◌, append_assoc, arith, inl, inr}
+use Rattle.std.proofs.Common.{◌≡◌, ℕ, ◌+◌, ◌^◌, ◌<◌, ◌≤◌, Bool, true, false, cond, ltb, List, ◌++◌, length, get_or, take, drop, All, Result, Ok, Err, refl, sym, ap, subst, ◌∙◌, append_assoc, arith, inl, inr}
 use Rattle.std.specs.Int.{Width, w16, w32, w64, byte_len}
 use Rattle.std.proofs.lemmas.Bool.{cases_lt, ltb-false, le-ltb}
 use Rattle.std.proofs.lemmas.List.{take_at, drop_at, take-append-drop, length-append, length-take, get_or-drop, get_or-take, get_or_past}
@@ -50,8 +50,11 @@ pub record Takes (from : Unread) (text : List ℕ) (rest : Unread) : Type 0 wher
 
 pub Takes-then : (a : Unread) (x : List ℕ) (b : Unread) (y : List ℕ) (c : Unread) → Takes a x b → Takes b y c
     → Takes a (x ++ y) c
-Takes-then a x b y c p q = record { parts = p.parts ∙ ap (λ (t : List ℕ). x ++ t) q.parts
-    ∙ sym (append_assoc x y c.bytes); small = q.small }
+Takes-then a x b y c p q = record {
+  parts = p.parts ∙ ap (λ (t : List ℕ). x ++ t) q.parts
+      ∙ sym (append_assoc x y c.bytes);
+  small = q.small;
+}
 
 -- the bytes from here on
 abbrev pub from_at : List ℕ → ℕ → Unread
@@ -128,7 +131,6 @@ wide64 Little = record {
 }
 
 module _ (order : ByteOrder) (w : Width) (limit : ℕ) (wide : IsWide order w limit) where
-
   pub number_takes : (from : Unread) (x : ℕ × Unread) → IsBytes from.bytes → number_at order w from ≡ Ok x
       → Takes from (number_bytes order w x.0) x.1 × (x.0 < limit)
   unfolding number_at
@@ -137,7 +139,7 @@ module _ (order : ByteOrder) (w : Width) (limit : ℕ) (wide : IsWide order w li
       let t = bytes_takes (byte_len w) from b.0 small b.1 in
       let front : number_bytes order w (number_from order w b.0.0) ≡ b.0.0 = wide.back b.0.0 t.1 t.2 in
       subst (λ (y : ℕ × Unread). Takes from (number_bytes order w y.0) y.1 × (y.0 < limit))
-          (ok_is (number_from order w b.0.0, b.0.1) x b.2)
+      (ok_is (number_from order w b.0.0, b.0.1) x b.2)
       (subst (λ (text : List ℕ). Takes from text b.0.1) (sym front) t.0, wide.below b.0.0 t.2)
 
   pub number_again : (n : ℕ) (rest : List ℕ) (at : ℕ) → n < limit
@@ -155,7 +157,7 @@ module _ (order : ByteOrder) (w : Width) (limit : ℕ) (wide : IsWide order w li
       let t = number_takes from b.0 small b.1 in
       let r = ruled_ok (rule b.0.0) from.at b.0 x b.2 in
       subst (λ (y : ℕ × Unread). Takes from (number_bytes order w y.0) y.1 × (y.0 < limit) × (rule y.0 ≡ true)) r.1
-          (t.0, t.1, r.0)
+      (t.0, t.1, r.0)
 
   pub field_again : (rule : ℕ → Bool) (n : ℕ) (rest : List ℕ) (at : ℕ) → n < limit → rule n ≡ true
       → field_at order w rule (from_at (number_bytes order w n ++ rest) at) ≡ Ok (n, from_at rest (at + byte_len w))

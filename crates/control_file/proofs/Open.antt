@@ -1,11 +1,11 @@
 -- Pieces that are open one after the other, each taken by those before it: they are open at first, and differ.
-use Rattle.std.proofs.Common.{◌≡◌, ◌≢◌, ℕ, zero, suc, ◌+◌, ◌<◌, ◌≤◌, Bool, true, false, not, List, [], ◌∷◌, length, get_or, set, map, All, AllPairs, Some, slice_get, slice_set, refl, sym, ap, subst, ◌∙◌, ⊎_elim, inl, inr, arith}
+use Rattle.std.proofs.Common.{◌≡◌, ◌≢◌, ℕ, suc, ◌<◌, Bool, true, false, List, [], ◌∷◌, length, get_or, set, map, All, AllPairs, Some, slice_get, slice_set, sym, ap, ◌∙◌, inl, inr, arith}
 use Rattle.std.specs.List.{AllByRecursion}
-use Rattle.std.proofs.lemmas.Bool.{cases_eq, cases_lt, false≢true}
-use Rattle.std.proofs.lemmas.List.{get_or-set_same, get_or-set_other, get_or_past, length-set}
+use Rattle.std.proofs.lemmas.Bool.{cases_lt, false≢true}
+use Rattle.std.proofs.lemmas.List.{get_or-set_same, get_or-set_other, get_or_past}
 use Rattle.std.proofs.lemmas.List.Elements.{All-from_recursion, recursion_from_All}
 use Rattle.std.proofs.lemmas.List.Kept.{AllPairs-cons}
-use Rattle.std.proofs.lemmas.Option.{slice_get-get_or, get_or_from_slice_get, slice_get_within}
+use Rattle.std.proofs.lemmas.Option.{slice_get-get_or, get_or_from_slice_get}
 use Rattle.dl_kinds.specs.Plan.{blocks_of_piece}
 use Rattle.control_file.specs.declared.control.InFlight.{InFlight}
 use Rattle.control_file.specs.Spelling.{bytes_of_piece}
@@ -39,11 +39,10 @@ freed : (taken : List Bool) (i j : ℕ) → i < length taken → get_or (set tak
     → (get_or taken j true ≡ false) × (i ≢ j)
 freed taken i j within free =
     let other : j ≢ i = λ same. false≢true (sym free ∙ ap (λ k. get_or (set taken i true) k true) same
-        ∙ get_or-set_same taken i true true within) in
+    ∙ get_or-set_same taken i true true within) in
     (sym (get_or-set_other taken i j true true other) ∙ free, λ same. other (sym same))
 
 module _ (total piece_len : ℕ) where
-
   -- open and other than this one
   record IsOther (taken : List Bool) (i : ℕ) (piece : InFlight) : Type 0 where
     pub is_free : IsOpen total piece_len taken piece
@@ -53,9 +52,11 @@ module _ (total piece_len : ℕ) where
       → AllByRecursion (IsOpen total piece_len (set taken i true)) pieces → AllByRecursion (IsOther taken i) pieces
   others taken i [] within all = tt
   others taken i (piece ∷ pieces) within all =
-      let f = freed taken i piece.index within all.0.free in
-      (record { is_free = record { free = f.0; size = all.0.size; bits = all.0.bits }; differs = f.1 }, others taken i
-          pieces within all.1)
+      let f = freed taken i piece.index within all.0.free in (
+        record { is_free = record { free = f.0; size = all.0.size; bits = all.0.bits }; differs = f.1 },
+        others taken i
+            pieces within all.1,
+      )
 
   all_free : (taken : List Bool) (i : ℕ) (pieces : List InFlight) → AllByRecursion (IsOther taken i) pieces
       → AllByRecursion (IsOpen total piece_len taken) pieces
@@ -71,9 +72,11 @@ module _ (total piece_len : ℕ) where
       → AllByRecursion (IsOpen total piece_len taken) pieces
   each_open taken [] all = tt
   each_open taken (piece ∷ pieces) (one, more) =
-      let within = free_within taken piece.index one.free in
-      (one, all_free taken piece.index pieces (others taken piece.index pieces within
-          (each_open (set taken piece.index true) pieces more)))
+      let within = free_within taken piece.index one.free in (
+        one,
+        all_free taken piece.index pieces (others taken piece.index pieces within
+            (each_open (set taken piece.index true) pieces more)),
+      )
 
   pub they_differ : (taken : List Bool) (pieces : List InFlight) → AreOpen total piece_len taken pieces
       → AllPairs (λ a b. a ≢ b) (map (λ piece. piece.index) pieces)
@@ -82,18 +85,18 @@ module _ (total piece_len : ℕ) where
       let within = free_within taken piece.index one.free in
       let rest = others taken piece.index pieces within (each_open (set taken piece.index true) pieces more) in
       AllPairs-cons (λ a b. a ≢ b) piece.index (map (λ p. p.index) pieces)
-          (All-from_recursion (λ n. piece.index ≢ n) _ (all_differ taken piece.index pieces rest))
-          (they_differ (set taken piece.index true) pieces more)
+      (All-from_recursion (λ n. piece.index ≢ n) _ (all_differ taken piece.index pieces rest))
+      (they_differ (set taken piece.index true) pieces more)
 
   -- and the other way round
   still_open : (taken : List Bool) (i : ℕ) (pieces : List InFlight)
       → AllByRecursion (IsOpen total piece_len taken) pieces
       → AllByRecursion (λ n. i ≢ n) (map (λ piece. piece.index) pieces)
-          → AllByRecursion (IsOpen total piece_len (set taken i true)) pieces
+      → AllByRecursion (IsOpen total piece_len (set taken i true)) pieces
   still_open taken i [] all differ = tt
   still_open taken i (piece ∷ pieces) all differ =
       let free : get_or (set taken i true) piece.index true ≡ false =
-          get_or-set_other taken i piece.index true true (λ same. differ.0 (sym same)) ∙ all.0.free in
+      get_or-set_other taken i piece.index true true (λ same. differ.0 (sym same)) ∙ all.0.free in
       (record { free = free; size = all.0.size; bits = all.0.bits }, still_open taken i pieces all.1 differ.1)
 
   tail_differs : (x : ℕ) (xs : List ℕ) → AllPairs (λ a b. a ≢ b) (x ∷ xs) → AllPairs (λ a b. a ≢ b) xs
@@ -107,6 +110,8 @@ module _ (total piece_len : ℕ) where
   open_in_turn taken [] all differ = tt
   open_in_turn taken (piece ∷ pieces) all differ =
       let numbers = map (λ p. p.index) pieces in
-      let first = recursion_from_All (λ n. piece.index ≢ n) numbers (head_differs piece.index numbers differ) in
-      (all.0, open_in_turn (set taken piece.index true) pieces (still_open taken piece.index pieces all.1 first)
-          (tail_differs piece.index numbers differ))
+      let first = recursion_from_All (λ n. piece.index ≢ n) numbers (head_differs piece.index numbers differ) in (
+        all.0,
+        open_in_turn (set taken piece.index true) pieces (still_open taken piece.index pieces all.1 first)
+            (tail_differs piece.index numbers differ),
+      )

@@ -10,7 +10,6 @@ abbrev pub numbers : List InFlight → List ℕ
 numbers pieces = map (λ piece. piece.index) pieces
 
 module _ (pieces : List InFlight) (i : ℕ) (a b : InFlight) (some : 1 ≤ i) (within : i < length pieces) where
-
   before : get_or (numbers pieces) (i - 1) 0 ≡ (get_or pieces (i - 1) a).index
   before = get_or-map (λ piece. piece.index) pieces (i - 1) a 0 (omega arith)
 
@@ -53,13 +52,13 @@ some_counted (false ∷ row) some =
     (suc rest.0, omega (arith, rest.1), rest.2)
 
 pub has_more : (pieces : List InFlight) (i : ℕ) (piece : InFlight) → piece ≡ get_or pieces i piece → i < length pieces
-      → Contains piece.blocks true
+    → Contains piece.blocks true
     → ((k : ℕ) → k < i → (d : InFlight) → Contains (get_or pieces k d).blocks true)
     → (k : ℕ) → k < i + 1 → (d : InFlight) → Contains (get_or pieces k d).blocks true
 has_more pieces i piece is within some front k below d = ⊎_elim
     (λ (last : k ≡ i).
     let same : piece ≡ get_or pieces k d = is ∙ get_or_default pieces i piece d within
-          ∙ ap (λ n. get_or pieces n d) (sym last) in
+    ∙ ap (λ n. get_or pieces n d) (sym last) in
     subst (λ (p : InFlight). Contains p.blocks true) same some)
     (λ other. front k (omega arith) d)
     (cases_eq k i)

@@ -1,7 +1,7 @@
 -- A plan, by its test.
-use Rattle.std.proofs.Common.{◌≡◌, ℕ, ◌≤◌, Bool, true, false, ◌&&◌, nat_le, refl}
+use Rattle.std.proofs.Common.{◌≡◌, ℕ, Bool, true, false, ◌&&◌, refl}
 use Rattle.std.proofs.lemmas.Bool.{leb-true, le-leb}
-use Rattle.dl_kinds.specs.Plan.{IsPlan, pieces_of, blocks_of}
+use Rattle.dl_kinds.specs.Plan.{IsPlan}
 use Rattle.control_file.specs.Reading.{allows_plan}
 
 all_four : (a b c d : Bool) → a ≡ true → b ≡ true → c ≡ true → d ≡ true → (a && b && c && d) ≡ true
@@ -21,5 +21,10 @@ plan_passes total piece_len plan = all_four _ _ _ _ (le-leb _ _ plan.some) (le-l
 pub passes_plan : (total piece_len : ℕ) → allows_plan total piece_len ≡ true → IsPlan total piece_len
 passes_plan total piece_len is =
     let each = each_of_four _ _ _ _ is in
-    record { some = leb-true _ _ each.0; piece = leb-true _ _ each.1; pieces = leb-true _ _ each.2; blocks =
-        leb-true _ _ each.3 }
+    record {
+      some = leb-true _ _ each.0;
+      piece = leb-true _ _ each.1;
+      pieces = leb-true _ _ each.2;
+      blocks =
+          leb-true _ _ each.3;
+    }

@@ -1,5 +1,5 @@
 -- The bytes of rows.
-use Rattle.std.proofs.Common.{◌≡◌, ℕ, Bool, List, length, ◌∙◌}
+use Rattle.std.proofs.Common.{◌≡◌, Bool, List, length}
 use Rattle.std.proofs.lemmas.List.FromFn.{length-map-range_with_len}
 use Rattle.bit_rows.specs.Row.{bytes_for, row_bytes}
 

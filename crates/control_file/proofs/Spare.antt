@@ -1,5 +1,5 @@
 -- Spare bits, as a test.
-use Rattle.std.proofs.Common.{◌≡◌, ℕ, zero, suc, ◌+◌, ◌<◌, Bool, true, false, List, [], ◌∷◌, length, get_or, Contains, refl, arith}
+use Rattle.std.proofs.Common.{◌≡◌, zero, suc, Bool, true, false, List, [], ◌∷◌, Contains, refl, arith}
 use Rattle.std.specs.List.{list_any}
 
 pub none_spare : (bits : List Bool) → (Contains bits true → ⊥) → list_any (λ bit. bit) bits ≡ false

@@ -1,5 +1,5 @@
 -- Steps of reading, one after the other.
-use Rattle.std.proofs.Common.{◌≡◌, ℕ, ◌+◌, ◌<◌, ◌≤◌, Bool, true, false, eqb, leb, List, Option, Some, None, Result, Ok, Err, length, refl, arith}
+use Rattle.std.proofs.Common.{◌≡◌, ℕ, ◌<◌, Bool, true, false, eqb, leb, List, Option, Some, None, Result, Ok, Err, length, refl, arith}
 use Rattle.std.proofs.lemmas.Bool.Decides.{nat_tests}
 use Rattle.std.specs.Prelude.{IfSome}
 use Rattle.std.specs.Int.{w32}
@@ -12,7 +12,7 @@ use Rattle.control_file.specs.declared.fault.ControlErr.TheVariants.{Wrong}
 use Rattle.control_file.specs.declared.fields.ByteOrder.{ByteOrder}
 use Rattle.control_file.specs.Spelling.{bytes_of_piece}
 use Rattle.control_file.specs.Unread.{Unread}
-use Rattle.control_file.specs.Reading.{control_fault, may_be_in_flight, Lengths, bytes_at, field_at, row_at, order_at, hash_at, lengths_at, in_flight_at, flight_at, progress_at, control_in}
+use Rattle.control_file.specs.Reading.{may_be_in_flight, Lengths, bytes_at, field_at, row_at, order_at, hash_at, lengths_at, in_flight_at, flight_at, progress_at, control_in}
 
 -- a fault of a step is one of the whole
 pub passed_on : {A B : Type 0} (fault : Option ControlErr) (step : Result A ControlErr) (whole : Result B ControlErr)
@@ -23,8 +23,7 @@ passed_on (Some f) step whole leads failed = leads f failed
 
 module _ (order : ByteOrder) (bits len count : ℕ) (from after rest : Unread) (bytes : List ℕ)
     (counted : field_at order w32 (λ n. eqb n count) from ≡ Ok (len, after)) (as_many : count ≡ bytes_for bits)
-        (taken : bytes_at len after ≡ Ok (bytes, rest)) where
-
+    (taken : bytes_at len after ≡ Ok (bytes, rest)) where
   pub row_is : (row : List Bool) → row ≡ row_of bits bytes → list_any (λ bit. bit) (spare_bits bits bytes) ≡ false
       → row_at order bits from ≡ Ok (row, rest)
   unfolding row_at
@@ -37,10 +36,9 @@ module _ (order : ByteOrder) (bits len count : ℕ) (from after rest : Unread) (
 module _ (order : ByteOrder) (total piece_len index len bytes blocks : ℕ) (taken : List Bool)
     (from second third : Unread)
     (open_index : field_at order w32 (may_be_in_flight taken) from ≡ Ok (index, second))
-        (size : field_at order w32 (λ n. eqb n bytes) second ≡ Ok (len, third))
+    (size : field_at order w32 (λ n. eqb n bytes) second ≡ Ok (len, third))
     (bytes_is : bytes ≡ bytes_of_piece total piece_len index)
-        (blocks_is : blocks ≡ blocks_of_piece total piece_len index) where
-
+    (blocks_is : blocks ≡ blocks_of_piece total piece_len index) where
   pub in_flight_is : (row : List Bool) (rest : Unread) → row_at order blocks third ≡ Ok (row, rest)
       → in_flight_at order total piece_len taken from ≡ Ok (record { index = index; length = len; blocks = row }, rest)
   unfolding in_flight_at
@@ -53,9 +51,8 @@ module _ (order : ByteOrder) (total piece_len index len bytes blocks : ℕ) (tak
 
 module _ (order : ByteOrder) (total piece_len pieces count most : ℕ) (row : List Bool) (from second third : Unread)
     (read : row_at order pieces from ≡ Ok (row, second))
-        (few : field_at order w32 (λ n. leb n most) second ≡ Ok (count, third))
+    (few : field_at order w32 (λ n. leb n most) second ≡ Ok (count, third))
     (pieces_is : pieces ≡ pieces_of total piece_len) (most_is : most ≡ length row) where
-
   pub progress_is : (flight : List InFlight) (rest : Unread)
       → flight_at order total piece_len count row third ≡ Ok (flight, rest)
       → progress_at order total piece_len from ≡ Ok (row, flight, rest)
@@ -73,13 +70,20 @@ not_zero n more = grind (arith, nat_tests)
 module _ (input : List ℕ) (order : ByteOrder) (ext : ℕ) (hash : List ℕ) (lengths : Lengths) (pieces : List Bool)
     (flight : List InFlight) (second third fourth rest : Unread)
     (version : order_at (record { bytes = input; at = 0 }) ≡ Ok (order, second))
-        (hashed : hash_at order second ≡ Ok (ext, hash, third))
+    (hashed : hash_at order second ≡ Ok (ext, hash, third))
     (sized : lengths_at order third ≡ Ok (lengths, fourth))
-        (told : progress_at order lengths.total lengths.piece_len fourth ≡ Ok (pieces, flight, rest)) where
-
+    (told : progress_at order lengths.total lengths.piece_len fourth ≡ Ok (pieces, flight, rest)) where
   pub control_is : length rest.bytes ≡ 0
-      → control_in input ≡ Ok (record { ext = ext; info_hash = hash; piece_len = lengths.piece_len; total =
-          lengths.total; uploaded = lengths.uploaded; pieces = pieces; flight = flight })
+      → control_in input ≡ Ok (record {
+        ext = ext;
+        info_hash = hash;
+        piece_len = lengths.piece_len;
+        total =
+            lengths.total;
+        uploaded = lengths.uploaded;
+        pieces = pieces;
+        flight = flight;
+      })
   unfolding control_in
   control_is ended = rw (version, hashed, sized, told, ended) refl
 

@@ -1,7 +1,6 @@
 -- Reading gives what the bytes say, exactly where they are a control file.
 use Rattle.std.specs.Prelude.{◌≡◌, ◌↔◌, ◌<◌, ℕ, List, All, Ok}
 use Rattle.control_file.specs.declared.control.Control.{Control}
-use Rattle.control_file.specs.declared.fields.ByteOrder.{ByteOrder}
 use Rattle.control_file.specs.declared.fields.ByteOrder.TheVariants.{Big}
 use Rattle.control_file.specs.Spelling.{IsControlFile, IsWritableControl, control_bytes}
 use Rattle.control_file.specs.Reading.{control_in}

@@ -1,7 +1,7 @@
 -- What control files say, and how bytes spell it (aria2 manual, Technical Notes, "Control File (*.aria2) Format"): the
 -- fields in order, without gaps. Numbers are big-endian in version 1. In version 0 they are little-endian, which is this
 -- project's profile.
-use Rattle.std.specs.Prelude.{◌≡◌, ◌≢◌, ◌≤◌, ◌<◌, ℕ, ◌*◌, ◌-◌, ◌^◌, Bool, true, false, List, [], ◌∷◌, ◌++◌, length, map, slice_get, Some, All, AllPairs, Contains}
+use Rattle.std.specs.Prelude.{◌≡◌, ◌≢◌, ◌≤◌, ◌<◌, ℕ, ◌*◌, ◌-◌, ◌^◌, true, false, List, [], ◌∷◌, ◌++◌, length, map, slice_get, Some, All, AllPairs, Contains}
 use Rattle.std.specs.Int.{Width, w32, w64, to_be_bytes, to_le_bytes}
 use Rattle.std.specs.List.{flat_map}
 use Rattle.std.specs.List.Sorted.{IsStrictlyIncreasing}

@@ -30,7 +30,11 @@ fn read_order(fields: &mut Fields<'_>) -> Result<ByteOrder, ControlErr>
 }
 
 #[tactic(auto, unfolding(crate::specs::Reading::hash_at))]
-fn read_hash(alloc: Global, order: ByteOrder, fields: &mut Fields<'_>) -> Result<(u32, Blob), ControlErr>
+fn read_hash(
+    alloc: Global,
+    order: ByteOrder,
+    fields: &mut Fields<'_>,
+) -> Result<(u32, Blob), ControlErr>
     ensures { Gives (λ hash. (hash.0, hash.1, unread fields.new)) specs.control_fault result
         (specs.hash_at order (unread fields.old)) }
 {
@@ -128,7 +132,7 @@ fn read_flight(
     requires { length pieces.now ≡ plan.now.pieces }
     ensures { Gives (λ flight. (flight, unread fields.new)) specs.control_fault result
         (specs.flight_at order plan.now.total plan.now.piece_len count pieces.now
-            (unread fields.old)) }
+        (unread fields.old)) }
 {
     let mut taken = pieces.copy(alloc)?;
     let mut flight = InFlights::new(alloc);

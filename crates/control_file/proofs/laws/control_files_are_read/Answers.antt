@@ -1,4 +1,4 @@
-use Rattle.std.proofs.Common.{◌≢◌, ℕ, ap, ◌∙◌, AllPairs, arith}
+use Rattle.std.proofs.Common.{ap, ◌∙◌, arith}
 use Rattle.control_file.specs.Reading.{control_in}
 use Rattle.control_file.specs.Spelling.{in_flight}
 use Rattle.control_file.specs.declared.fields.ByteOrder.TheVariants.{Big}
@@ -17,5 +17,8 @@ pub returns-clause-back : goal.returns-clause-back
 returns-clause-back c = λ control rules.
     let rise = AllPairs-from_increasing (in_flight control) rules.in_order.ascending in
     again c.rows_are_their_bytes.ensures.rows Big control
-        (record { fields = rules.fields; distinct =
-        λ i j d before within same. omega (arith, rise i j d before within, same) })
+    (record {
+      fields = rules.fields;
+      distinct =
+          λ i j d before within same. omega (arith, rise i j d before within, same);
+    })

@@ -1,4 +1,4 @@
-use Rattle.std.proofs.Common.{below_more, refl, sym, ◌∙◌, true, get_or, Contains, ℕ, subst, arith}
+use Rattle.std.proofs.Common.{refl, sym, ◌∙◌, true, Contains, subst, arith}
 use Rattle.std.proofs.lemmas.Bool.{false≢true}
 use Rattle.control_file.specs.declared.control.InFlight.{InFlight}
 use Rattle.control_file.proofs.Ordered.{none_counted, some_counted, has_more}
@@ -8,8 +8,8 @@ pub returns-then-count_ones-eq0 : goal.returns-then-count_ones-eq0
 returns-then-count_ones-eq0 c = (
   λ no. absurd (false≢true no),
   λ all. absurd (none_counted c.piece-item.result.blocks (sym c.count_ones.ensures ∙ c.if-count_ones-eq0.true)
-    (subst (λ (piece : InFlight). Contains piece.blocks true) (sym c.piece-item.is)
-    (all c.loop-piece.piece-index c.piece-item.result c.loop-piece-test.true))),
+      (subst (λ (piece : InFlight). Contains piece.blocks true) (sym c.piece-item.is)
+      (all c.loop-piece.piece-index c.piece-item.result c.loop-piece-test.true))),
 )
 
 pub loop-piece-preserved : goal.loop-piece-preserved

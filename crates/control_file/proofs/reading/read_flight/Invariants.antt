@@ -9,5 +9,5 @@ invariant-loop l = record {
   long : length l.taken ≡ l.plan.pieces;
   so_far : with_front l.flight (flight_at l.order l.plan.total l.plan.piece_len (l.count - l.counter) l.taken
       (unread l.fields))
-    ≡ flight_at l.order l.plan.total l.plan.piece_len l.count l.pieces (unread l.fn.fields);
+      ≡ flight_at l.order l.plan.total l.plan.piece_len l.count l.pieces (unread l.fn.fields);
 }
