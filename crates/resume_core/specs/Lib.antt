@@ -1,0 +1,6 @@
+pub mod Found
+pub mod Laws
+pub mod Listing
+pub mod Resume
+pub mod Steps
+pub mod Wants

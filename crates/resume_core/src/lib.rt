@@ -1,0 +1,6 @@
+//! The store: what is durable of a download is found again, written, and made to last.
+#![tactic(auto)]
+
+mod laws;
+
+pub use laws::{same_files_give_the_same, saved_files_give_what_is_listed};
