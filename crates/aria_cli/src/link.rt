@@ -1,6 +1,6 @@
 // The real link: one TCP connection at a time.
-ghost use Rattle.std.specs.Prelude.{◌≤◌, false, [], length, IfOk};
-ghost use Rattle.link_source.specs.Mirrors.{no_content};
+ghost use Rattle.std.specs.Prelude.{◌≤◌, false, length, IfOk};
+ghost use Rattle.link_source.specs.Link.{no_link};
 
 use crate::faults::Faults;
 use dl_kinds::IoErr;
@@ -54,11 +54,7 @@ impl<'a, R: Net<Stream = TcpStream>> TcpLinks<'a, R> {
 impl<'a, R: Net<Stream = TcpStream>> Links for TcpLinks<'a, R> {
     ghost tells = { false };
 
-    ghost content = { λ _. no_content };
-
-    ghost streams = { λ _. [] };
-
-    ghost due = { λ _. [] };
+    ghost state = { λ _. no_link };
 
     ghost faults = { λ link. link.faults.count };
 

@@ -8,7 +8,8 @@ use Rattle.span_map.specs.declared.files.FileLen.{FileLen}
 use Rattle.span_map.specs.declared.files.Part.{Part}
 use Rattle.span_map.specs.declared.jobs.JobPart.{JobPart}
 use Rattle.metainfo.specs.Info.{Info}
-use Rattle.request_chain.specs.Chains.{IsPart as IsAskedPart}
+use Rattle.request_chain.specs.Chains.{IsJobPart}
+use Rattle.aria_top.specs.Payload.{here}
 use Rattle.aria_top.specs.Askings.{asked_part}
 
 -- what there is of a file is so of the file of the number
@@ -19,7 +20,7 @@ there (f ∷ fs) (suc n) d P some = let r = there fs n d P some in let within = 
 
 -- a part of a file is a range of it
 pub part_is_range : (files : List FileLen) (part : Part) (file : FileLen) (url : List ℕ) → IsPart files part → file ≡ get_or files part.file file
-    → IsAskedPart (record { url = url; at = part.at; len = part.len; total = file.len })
+    → IsJobPart (record { url = url; at = part.at; len = part.len; total = file.len })
 part_is_range files part file url is here =
     let found = there files part.file file (λ f. part.at + part.len ≤ f.len) is.within in
     let same : file.len ≡ (get_or files part.file file).len = ap (λ (f : FileLen). f.len) here in

@@ -6,7 +6,7 @@ use Rattle.link_source.specs.Streams.{Stream}
 use Rattle.metainfo.specs.Info.{Info}
 use Rattle.reply_reader.specs.declared.loss.Loss.{Loss}
 use Rattle.reply_reader.specs.declared.loss.Loss.TheVariants as losses
-use Rattle.request_chain.specs.Chains.{IsPart}
+use Rattle.request_chain.specs.Chains.{IsJobPart}
 use Rattle.request_chain.specs.Fetched.{Fetched}
 use Rattle.request_chain.specs.Honest.{IsHonest, AreHonest}
 use Rattle.request_chain.specs.Plans.{Done, Open, Lost}
@@ -35,7 +35,7 @@ honest_on a b c before middle now was due good (same, honest) then =
     let next = then (subst (λ (content : Content). content.bad ≡ []) (sym same) good) (subst (λ (content : Content). AreHonest content before middle was) (sym same) honest) in
     (next.0 ∙ same, subst (λ (content : Content). AreHonest content before now due) same next.1)
 
-module _ (law : ServedComes) (content : Content) (parts : List JobPart) (bytes : List ℕ) (good : content.bad ≡ []) (ranges : All IsPart parts) (bounded : All (λ part. part.total < 2 ^ 63) parts)
+module _ (law : ServedComes) (content : Content) (parts : List JobPart) (bytes : List ℕ) (good : content.bad ≡ []) (ranges : All IsJobPart parts) (bounded : All (λ part. part.total < 2 ^ 63) parts)
     (gives : GivesAll content parts bytes) (gained : List Stream) (honest : All (IsHonest content) gained) where
   -- nothing that is served is lost
   none_lost : (loss : Loss) → EndsIn parts gained (Lost loss) → ⊥

@@ -7,6 +7,7 @@ use Rattle.std.specs.Int.{w64, to_be_bytes}
 use Rattle.hex.specs.Hex.{encode_lower}
 use Rattle.dl_words.specs.Counts.{Rose}
 use Rattle.dl_disk.specs.Files.{Files}
+use Rattle.dl_disk.specs.State.{DiskState}
 use Rattle.link_source.specs.Streams.{Stream}
 use Rattle.metainfo.specs.Info.{Info}
 use Rattle.aria_top.specs.Askings.{piece_count}
@@ -25,9 +26,9 @@ pub record IsToFetch (words : List (String Global)) (seen : Files) (info : Info)
   pub says : Says (seen name) info
 
 -- no such file stands in what the disk reads, nor in any image
-pub record IsAbsent (name : List ℕ) (seen : Files) (images : Files → Type 0) : Type 0 where
-  pub reads : seen name ≡ None
-  pub images_lack : (image : Files) → images image → image name ≡ None
+pub record IsAbsent (name : List ℕ) (disk : DiskState) : Type 0 where
+  pub reads : disk.seen name ≡ None
+  pub images_lack : (image : Files) → disk.may_leave image → image name ≡ None
 
 -- the line of a run in which nothing was to be fetched
 abbrev pub error_line : ℕ → List ℕ

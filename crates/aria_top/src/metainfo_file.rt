@@ -1,7 +1,7 @@
 // The metainfo file.
 ghost use Rattle.std.specs.Prelude.{◌≡◌, ◌≤◌, ◌<◌, ℕ, List, Option, None, IsTrue, IfOk, IsErrOf, MatchResult, length};
 ghost use Rattle.dl_words.specs.Counts.{Rose};
-ghost use Rattle.dl_disk.specs.Files.{Stays};
+ghost use Rattle.dl_disk.specs.Calls.{Stays};
 ghost use Rattle.metainfo.specs.Info.{info_of};
 ghost use Rattle.aria_top.specs.Load.{IsRead, IsTooLarge};
 ghost use Rattle.aria_top.specs.Metainfo.{Says, TellsStop};
@@ -51,13 +51,13 @@ impl From<AllocError> for LoadErr {
 
 // The bytes of the metainfo file.
 fn load<D: Disk>(alloc: Global, disk: &mut D, name: &str) -> Result<Vec<u8>, LoadErr>
-    ensures ok { IfOk result (λ bytes. IsTrue D.tells → IsRead (D.seen disk.old name.now) bytes.items) }
+    ensures ok { IfOk result (λ bytes. IsTrue D.tells → IsRead ((D.state disk.old).seen name.now) bytes.items) }
     ensures small { IfOk result (λ bytes. length bytes.items ≤ 33554432) }
-    ensures missing { IsErrOf result Missing → IsTrue D.tells → D.seen disk.old name.now ≡ None }
-    ensures too_large { IsErrOf result TooLarge → IsTrue D.tells → IsTooLarge (D.seen disk.old name.now) }
+    ensures missing { IsErrOf result Missing → IsTrue D.tells → (D.state disk.old).seen name.now ≡ None }
+    ensures too_large { IsErrOf result TooLarge → IsTrue D.tells → IsTooLarge ((D.state disk.old).seen name.now) }
     ensures fault { IsErrOf result Fault → Rose (D.faults disk.old) (D.faults disk.new) }
     ensures later { D.faults disk.old ≤ D.faults disk.new }
-    ensures stays { IsTrue D.tells → Stays (D.seen disk.old) (D.seen disk.new) (D.may_leave disk.old) (D.may_leave disk.new) }
+    ensures stays { IsTrue D.tells → Stays (D.state disk.old) (D.state disk.new) }
 {
     let len = match disk.len(name)? {
         None => return Err(LoadErr::Missing),
@@ -101,12 +101,12 @@ fn read_meta(alloc: Global, bytes: &[u8]) -> Result<Meta, Stop>
 
 /// What the metainfo file of this name says.
 pub fn read_metainfo<D: Disk>(alloc: Global, disk: &mut D, name: &str) -> Result<Meta, Stop>
-    ensures told { IsTrue D.tells → MatchResult result (λ meta. Says (D.seen disk.old name.now) (info_of meta)) (TellsStop (D.seen disk.old name.now)) }
+    ensures told { IsTrue D.tells → MatchResult result (λ meta. Says ((D.state disk.old).seen name.now) (info_of meta)) (TellsStop ((D.state disk.old).seen name.now)) }
     ensures fetchable { IfOk result (λ meta. IsFetchable (info_of meta)) }
     ensures words { IsErrOf result (Refused Words) → ⊥ }
     ensures disk { IsErrOf result (Refused DiskRefused) → Rose (D.faults disk.old) (D.faults disk.new) }
     ensures later { D.faults disk.old ≤ D.faults disk.new }
-    ensures stays { IsTrue D.tells → Stays (D.seen disk.old) (D.seen disk.new) (D.may_leave disk.old) (D.may_leave disk.new) }
+    ensures stays { IsTrue D.tells → Stays (D.state disk.old) (D.state disk.new) }
 {
     match load(alloc, disk, name) {
         Ok(bytes) => read_meta(alloc, &bytes),

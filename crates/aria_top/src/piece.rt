@@ -5,7 +5,7 @@ ghost use Rattle.dl_kinds.specs.Plan.{full_blocks, blocks_of_piece};
 ghost use Rattle.span_map.specs.Slices.{IsPart as IsFilePart};
 ghost use Rattle.metainfo.specs.Info.{info_of};
 ghost use Rattle.reply_reader.specs.declared.loss.Loss.TheVariants.{NoMemory as NoMemoryLoss};
-ghost use Rattle.request_chain.specs.Chains.{IsPart};
+ghost use Rattle.request_chain.specs.Chains.{IsJobPart};
 ghost use Rattle.aria_top.specs.Askings.{asked_part, piece_parts, start_of, size_of};
 ghost use Rattle.aria_top.specs.Ends.{loss_status, IsLossStatus, IsLinkLoss};
 ghost use Rattle.aria_top.specs.Fetched.{FetchEnds, IsFetching, IsLost};
@@ -36,7 +36,7 @@ fn asked_part(alloc: Global, meta: &Meta, part: &Part) -> Result<JobPart, NoMemo
     requires fetchable { IsFetchable (info_of meta.now) }
     requires part { IsFilePart meta.now.layout part.now }
     ensures asked { IfOk result (λ asked. asked ≡ asked_part (info_of meta.now) part.now) }
-    ensures range { IfOk result IsPart }
+    ensures range { IfOk result IsJobPart }
     ensures bounded { IfOk result (λ asked. asked.total < 2 ^ 63) }
 {
     let seed = meta.seeds.get(0).unwrap();
@@ -53,7 +53,7 @@ fn asked_parts(alloc: Global, meta: &Meta, parts: &[Part]) -> Result<JobParts, N
     requires fetchable { IsFetchable (info_of meta.now) }
     requires parts { All (IsFilePart meta.now.layout) parts.now }
     ensures asked { IfOk result (λ asked. asked ≡ map (asked_part (info_of meta.now)) parts.now) }
-    ensures ranges { IfOk result (λ asked. All IsPart asked) }
+    ensures ranges { IfOk result (λ asked. All IsJobPart asked) }
     ensures bounded { IfOk result (λ asked. All (λ part. part.total < 2 ^ 63) asked) }
 {
     let mut asked = JobParts::new(alloc);
@@ -71,7 +71,7 @@ fn piece_job(alloc: Global, meta: &Meta, piece: u32) -> Result<Job, NoMemory>
     ensures first { IfOk result (λ job. job.run.first ≡ piece * full_blocks meta.now.plan.piece_len) }
     ensures count { IfOk result (λ job. job.run.count ≡ blocks_of_piece meta.now.plan.total meta.now.plan.piece_len piece) }
     ensures parts { IfOk result (λ job. job.parts ≡ piece_parts (info_of meta.now) piece) }
-    ensures ranges { IfOk result (λ job. All IsPart job.parts) }
+    ensures ranges { IfOk result (λ job. All IsJobPart job.parts) }
     ensures sound { IfOk result IsJob }
     ensures start { IfOk result (λ job. run_start job.plan job.run ≡ start_of (info_of meta.now) piece) }
     ensures end { IfOk result (λ job. run_end job.plan job.run ≡ start_of (info_of meta.now) piece + size_of (info_of meta.now) piece) }
@@ -117,8 +117,8 @@ fn fetch_on<L: Links>(
     piece: &mut Vec<u8>,
 ) -> Result<bool, Loss>
     requires none_ready { (ready_of fetch.old).count ≡ 0 }
-    ensures goes_on { IsTrue L.tells → (job : Job) (before : List Stream) → IsFetching job before (L.streams link.old) piece.old.items fetch.old
-        → MatchResult result (λ _. IsFetching job before (L.streams link.new) piece.new.items fetch.new) (IsLost job.parts before (L.streams link.new)) }
+    ensures goes_on { IsTrue L.tells → (job : Job) (before : List Stream) → IsFetching job before (L.state link.old).streams piece.old.items fetch.old
+        → MatchResult result (λ _. IsFetching job before (L.state link.new).streams piece.new.items fetch.new) (IsLost job.parts before (L.state link.new).streams) }
     ensures all { result ≡ Ok true → (rest_of fetch.new).count ≡ 0 }
     ensures place { OnOk result (cut (fetch_plan fetch.old) (rest_of fetch.old).first + length piece.new.items
         ≡ cut (fetch_plan fetch.old) (rest_of fetch.new).first + length piece.old.items) }
@@ -128,9 +128,9 @@ fn fetch_on<L: Links>(
     ensures held { OnOk result (IfSome (lost_of fetch.new) (λ loss. IsLinkLoss loss → Rose (L.faults link.old) (L.faults link.new))) }
     ensures link { IfErr result (λ loss. IsLinkLoss loss → (lost_of fetch.old ≡ Some loss) ⊎ Rose (L.faults link.old) (L.faults link.new)) }
     ensures known { IfErr result IsKnownLoss }
-    ensures honest { IsTrue L.tells → (L.content link.old).bad ≡ [] → (job : Job) (before : List Stream) → IsFetching job before (L.streams link.old) piece.old.items fetch.old
-        → AreHonest (L.content link.old) before (L.streams link.old) (L.due link.old)
-        → (L.content link.new ≡ L.content link.old) × AreHonest (L.content link.old) before (L.streams link.new) (L.due link.new) }
+    ensures honest { IsTrue L.tells → (L.state link.old).content.bad ≡ [] → (job : Job) (before : List Stream) → IsFetching job before (L.state link.old).streams piece.old.items fetch.old
+        → AreHonest (L.state link.old).content before (L.state link.old).streams (L.state link.old).due
+        → ((L.state link.new).content ≡ (L.state link.old).content) × AreHonest (L.state link.old).content before (L.state link.new).streams (L.state link.new).due }
     ensures later { L.faults link.old ≤ L.faults link.new }
 {
     let got = fetch.step(alloc, link, ALLOW)?;
@@ -153,13 +153,13 @@ fn fill<L: Links>(
     requires begun { piece.old.items ≡ [] }
     requires none_ready { (ready_of fetch.old).count ≡ 0 }
     requires none_lost { lost_of fetch.old ≡ None }
-    ensures ends { IsTrue L.tells → (job : Job) → IsFetch job [] [] fetch.old → FetchEnds job.parts (L.streams link.old) (L.streams link.new) result piece.new.items }
+    ensures ends { IsTrue L.tells → (job : Job) → IsFetch job [] [] fetch.old → FetchEnds job.parts (L.state link.old).streams (L.state link.new).streams result piece.new.items }
     ensures len { OnOk result (cut (fetch_plan fetch.old) (rest_of fetch.old).first + length piece.new.items
         ≡ cut (fetch_plan fetch.old) ((rest_of fetch.old).first + (rest_of fetch.old).count)) }
     ensures link { IfErr result (λ loss. IsLinkLoss loss → Rose (L.faults link.old) (L.faults link.new)) }
     ensures known { IfErr result IsKnownLoss }
-    ensures honest { IsTrue L.tells → (L.content link.old).bad ≡ [] → (job : Job) → IsFetch job [] [] fetch.old
-        → (L.content link.new ≡ L.content link.old) × AreHonest (L.content link.old) (L.streams link.old) (L.streams link.new) (L.due link.new) }
+    ensures honest { IsTrue L.tells → (L.state link.old).content.bad ≡ [] → (job : Job) → IsFetch job [] [] fetch.old
+        → ((L.state link.new).content ≡ (L.state link.old).content) × AreHonest (L.state link.old).content (L.state link.old).streams (L.state link.new).streams (L.state link.new).due }
     ensures later { L.faults link.old ≤ L.faults link.new }
 {
     'turns: for _ in 0..u64::MAX {
@@ -183,11 +183,11 @@ pub fn fetch_piece<L: Links>(
 ) -> Result<FetchRoom, Loss>
     requires fetchable { IsFetchable (info_of meta.now) }
     requires within { number < meta.now.plan.pieces }
-    ensures ends { IsTrue L.tells → FetchEnds (piece_parts (info_of meta.now) number) (L.streams link.old) (L.streams link.new) result piece.new.items }
+    ensures ends { IsTrue L.tells → FetchEnds (piece_parts (info_of meta.now) number) (L.state link.old).streams (L.state link.new).streams result piece.new.items }
     ensures len { OnOk result (length piece.new.items ≡ size_of (info_of meta.now) number) }
-    ensures served { IsTrue L.tells → (L.content link.old).bad ≡ [] → (bytes : List ℕ) → GivesAll (L.content link.old) (piece_parts (info_of meta.now) number) bytes
+    ensures served { IsTrue L.tells → (L.state link.old).content.bad ≡ [] → (bytes : List ℕ) → GivesAll (L.state link.old).content (piece_parts (info_of meta.now) number) bytes
         → ServesFetch result piece.new.items bytes }
-    ensures serving { IsTrue L.tells → KeepsContent (L.content link.old) (L.content link.new) }
+    ensures serving { IsTrue L.tells → KeepsContent (L.state link.old).content (L.state link.new).content }
     ensures known { IfErr result IsKnownLoss }
     ensures link { IfErr result (λ loss. IsLinkLoss loss → Rose (L.faults link.old) (L.faults link.new)) }
     ensures later { L.faults link.old ≤ L.faults link.new }

@@ -2,12 +2,13 @@
 ghost use Rattle.std.specs.Prelude.{◌≡◌, ◌≤◌, ◌<◌, ◌+◌, ◌⊎◌, None, Some, IsTrue, IfErr, IfSome, OnOk, OnErr, IsErrOf, length};
 ghost use Rattle.dl_words.specs.Counts.{Rose};
 ghost use Rattle.sha1.specs.Sha1.{sha1};
+ghost use Rattle.dl_kinds.specs.Causes.{HasCause};
 ghost use Rattle.metainfo.specs.Info.{info_of};
 ghost use Rattle.payload_files.specs.Changes.{KeepsOthers};
 ghost use Rattle.payload_files.specs.Names.{HasFolders};
 ghost use Rattle.payload_files.specs.Payload.{HasFiles};
 ghost use Rattle.aria_top.specs.Askings.{piece_count, size_of, digest_of};
-ghost use Rattle.aria_top.specs.Payload.{IsFetchable, PiecesStand, PayloadStands, AreWritten};
+ghost use Rattle.aria_top.specs.Payload.{here, IsFetchable, PiecesStand, PayloadStands, AreWritten};
 ghost use Rattle.aria_top.specs.Serving.{GivesPiece, Serves, KeepsContent, IsOfOutside};
 ghost use Rattle.aria_top.specs.Ends.{IsOfDisk, IsKnownFailure, IsLinkFailure};
 ghost use Rattle.aria_top.specs.Worked.{PieceEnds, WorkEnds};
@@ -18,10 +19,15 @@ use crate::piece::fetch_piece;
 use dl_disk::Disk;
 use fetch_session::FetchRoom;
 use link_source::Links;
+use dl_kinds::IoErr;
 use metainfo::Meta;
-use payload_files::{make_files, same_files_hold, sync_files, write_slice};
+use payload_files::{fit_files, make_folders, same_files_hold, sync_files, write_slice};
 use sha1::Sha1;
+use span_map::Layout;
 use std::alloc::Global;
+
+// The folder in which the program runs.
+const HERE: &str = ".";
 
 // The digest that is listed of a piece.
 fn listed_digest(meta: &Meta, piece: u32) -> &[u8; 20]
@@ -45,9 +51,9 @@ fn fetch_right<L: Links>(
     requires within { piece < meta.now.plan.pieces }
     ensures len { OnOk result (length into.new.items ≡ size_of (info_of meta.now) piece) }
     ensures right { OnOk result (sha1 into.new.items ≡ digest_of (info_of meta.now) piece) }
-    ensures ends { IsTrue L.tells → PieceEnds (info_of meta.now) piece (L.streams link.old) (L.streams link.new) result }
-    ensures served { IsTrue L.tells → GivesPiece (L.content link.old) (info_of meta.now) piece → IfErr result IsOfOutside }
-    ensures serving { IsTrue L.tells → KeepsContent (L.content link.old) (L.content link.new) }
+    ensures ends { IsTrue L.tells → PieceEnds (info_of meta.now) piece (L.state link.old).streams (L.state link.new).streams result }
+    ensures served { IsTrue L.tells → GivesPiece (L.state link.old).content (info_of meta.now) piece → IfErr result IsOfOutside }
+    ensures serving { IsTrue L.tells → KeepsContent (L.state link.old).content (L.state link.new).content }
     ensures disk { IsErrOf result Disk → ⊥ }
     ensures known { IfErr result IsKnownFailure }
     ensures link { IfErr result (λ failure. IsLinkFailure failure → Rose (L.faults link.old) (L.faults link.new)) }
@@ -73,22 +79,22 @@ fn complete_piece<D: Disk, L: Links>(
 ) -> Result<FetchRoom, Failure>
     requires fetchable { IsFetchable (info_of meta.now) }
     requires within { piece < meta.now.plan.pieces }
-    ensures ends { IsTrue L.tells → PieceEnds (info_of meta.now) piece (L.streams link.old) (L.streams link.new) result }
-    ensures served { IsTrue L.tells → GivesPiece (L.content link.old) (info_of meta.now) piece → IfErr result IsOfOutside }
-    ensures serving { IsTrue L.tells → KeepsContent (L.content link.old) (L.content link.new) }
+    ensures ends { IsTrue L.tells → PieceEnds (info_of meta.now) piece (L.state link.old).streams (L.state link.new).streams result }
+    ensures served { IsTrue L.tells → GivesPiece (L.state link.old).content (info_of meta.now) piece → IfErr result IsOfOutside }
+    ensures serving { IsTrue L.tells → KeepsContent (L.state link.old).content (L.state link.new).content }
     ensures known { IfErr result IsKnownFailure }
     ensures link { IfErr result (λ failure. IsLinkFailure failure → Rose (L.faults link.old) (L.faults link.new)) }
     ensures later { L.faults link.old ≤ L.faults link.new }
-    ensures written { OnOk result (IsTrue D.tells → PiecesStand (info_of meta.now) (D.seen disk.old) piece → PiecesStand (info_of meta.now) (D.seen disk.new) (piece + 1)) }
-    ensures kept { IsTrue D.tells → PiecesStand (info_of meta.now) (D.seen disk.old) piece → PiecesStand (info_of meta.now) (D.seen disk.new) piece }
-    ensures others { IsTrue D.tells → KeepsOthers meta.now.layout (D.seen disk.old) (D.seen disk.new) (D.may_leave disk.old) (D.may_leave disk.new) }
-    ensures folders { IsTrue D.tells → D.folders disk.new ≡ D.folders disk.old }
+    ensures written { OnOk result (IsTrue D.tells → PiecesStand (info_of meta.now) (D.state disk.old).seen piece → PiecesStand (info_of meta.now) (D.state disk.new).seen (piece + 1)) }
+    ensures kept { IsTrue D.tells → PiecesStand (info_of meta.now) (D.state disk.old).seen piece → PiecesStand (info_of meta.now) (D.state disk.new).seen piece }
+    ensures others { IsTrue D.tells → KeepsOthers here meta.now.layout (D.state disk.old) (D.state disk.new) }
+    ensures folders { IsTrue D.tells → (D.state disk.new).folders ≡ (D.state disk.old).folders }
     ensures disk { IsErrOf result Disk → Rose (D.faults disk.old) (D.faults disk.new) }
     ensures disk_later { D.faults disk.old ≤ D.faults disk.new }
 {
     let room = fetch_right(alloc, link, room, meta, piece, buffer)?;
     let (start, _) = meta.plan.piece_span(piece);
-    write_slice(alloc, disk, &meta.layout, start, buffer)?;
+    write_slice(alloc, disk, HERE, &meta.layout, start, buffer)?;
     Ok(room)
 }
 
@@ -112,15 +118,15 @@ fn complete_pieces<D: Disk, L: Links>(
     buffer: &mut Vec<u8>,
 ) -> Progress
     requires fetchable { IsFetchable (info_of meta.now) }
-    requires lengths { IsTrue D.tells → HasFiles meta.now.layout (D.seen disk.old) }
-    ensures ends { IsTrue L.tells → WorkEnds (info_of meta.now) (L.streams link.old) (L.streams link.new) result.pieces result.failure }
-    ensures served { IsTrue L.tells → Serves (L.content link.old) (info_of meta.now) → IfSome result.failure IsOfOutside }
+    requires lengths { IsTrue D.tells → HasFiles here meta.now.layout (D.state disk.old).seen }
+    ensures ends { IsTrue L.tells → WorkEnds (info_of meta.now) (L.state link.old).streams (L.state link.new).streams result.pieces result.failure }
+    ensures served { IsTrue L.tells → Serves (L.state link.old).content (info_of meta.now) → IfSome result.failure IsOfOutside }
     ensures known { IfSome result.failure IsKnownFailure }
     ensures link { IfSome result.failure (λ failure. IsLinkFailure failure → Rose (L.faults link.old) (L.faults link.new)) }
-    ensures stand { IsTrue D.tells → PiecesStand (info_of meta.now) (D.seen disk.new) result.pieces }
+    ensures stand { IsTrue D.tells → PiecesStand (info_of meta.now) (D.state disk.new).seen result.pieces }
     ensures all { result.failure ≡ None → result.pieces ≡ piece_count (info_of meta.now) }
-    ensures others { IsTrue D.tells → KeepsOthers meta.now.layout (D.seen disk.old) (D.seen disk.new) (D.may_leave disk.old) (D.may_leave disk.new) }
-    ensures folders { IsTrue D.tells → D.folders disk.new ≡ D.folders disk.old }
+    ensures others { IsTrue D.tells → KeepsOthers here meta.now.layout (D.state disk.old) (D.state disk.new) }
+    ensures folders { IsTrue D.tells → (D.state disk.new).folders ≡ (D.state disk.old).folders }
     ensures disk { result.failure ≡ Some Disk → Rose (D.faults disk.old) (D.faults disk.new) }
     ensures later { D.faults disk.old ≤ D.faults disk.new }
 {
@@ -139,19 +145,19 @@ fn complete_pieces<D: Disk, L: Links>(
 
 // Makes the files last, in which all pieces are written.
 fn make_last<D: Disk>(alloc: Global, disk: &mut D, meta: &Meta) -> Progress
-    requires { IsTrue D.tells → PiecesStand (info_of meta.now) (D.seen disk.old) meta.now.plan.pieces }
+    requires { IsTrue D.tells → PiecesStand (info_of meta.now) (D.state disk.old).seen meta.now.plan.pieces }
     ensures pieces { result.pieces ≡ piece_count (info_of meta.now) }
-    ensures stand { IsTrue D.tells → PiecesStand (info_of meta.now) (D.seen disk.new) result.pieces }
-    ensures lasts { result.failure ≡ None → IsTrue D.tells → PayloadStands (info_of meta.now) (D.seen disk.new) (D.may_leave disk.new) }
-    ensures others { IsTrue D.tells → KeepsOthers meta.now.layout (D.seen disk.old) (D.seen disk.new) (D.may_leave disk.old) (D.may_leave disk.new) }
-    ensures folders { IsTrue D.tells → D.folders disk.new ≡ D.folders disk.old }
+    ensures stand { IsTrue D.tells → PiecesStand (info_of meta.now) (D.state disk.new).seen result.pieces }
+    ensures lasts { result.failure ≡ None → IsTrue D.tells → PayloadStands (info_of meta.now) (D.state disk.new) }
+    ensures others { IsTrue D.tells → KeepsOthers here meta.now.layout (D.state disk.old) (D.state disk.new) }
+    ensures folders { IsTrue D.tells → (D.state disk.new).folders ≡ (D.state disk.old).folders }
     ensures causes { IfSome result.failure IsOfDisk }
     ensures disk { result.failure ≡ Some Disk → Rose (D.faults disk.old) (D.faults disk.new) }
     ensures later { D.faults disk.old ≤ D.faults disk.new }
 {
     // Files that are the same hold the same payload.
     same_files_hold();
-    match sync_files(alloc, disk, &meta.layout) {
+    match sync_files(alloc, disk, HERE, &meta.layout) {
         Ok(()) => Progress {
             failure: None,
             pieces: meta.plan.pieces,
@@ -163,16 +169,16 @@ fn make_last<D: Disk>(alloc: Global, disk: &mut D, meta: &Meta) -> Progress
 // Fetches and writes the pieces into files that have their lengths, and makes them last.
 fn complete<D: Disk, L: Links>(alloc: Global, disk: &mut D, link: &mut L, meta: &Meta) -> Progress
     requires fetchable { IsFetchable (info_of meta.now) }
-    requires lengths { IsTrue D.tells → HasFiles meta.now.layout (D.seen disk.old) }
-    ensures ends { IsTrue L.tells → WorkEnds (info_of meta.now) (L.streams link.old) (L.streams link.new) result.pieces result.failure }
-    ensures served { IsTrue L.tells → Serves (L.content link.old) (info_of meta.now) → IfSome result.failure IsOfOutside }
+    requires lengths { IsTrue D.tells → HasFiles here meta.now.layout (D.state disk.old).seen }
+    ensures ends { IsTrue L.tells → WorkEnds (info_of meta.now) (L.state link.old).streams (L.state link.new).streams result.pieces result.failure }
+    ensures served { IsTrue L.tells → Serves (L.state link.old).content (info_of meta.now) → IfSome result.failure IsOfOutside }
     ensures known { IfSome result.failure IsKnownFailure }
     ensures link { IfSome result.failure (λ failure. IsLinkFailure failure → Rose (L.faults link.old) (L.faults link.new)) }
-    ensures stand { IsTrue D.tells → PiecesStand (info_of meta.now) (D.seen disk.new) result.pieces }
+    ensures stand { IsTrue D.tells → PiecesStand (info_of meta.now) (D.state disk.new).seen result.pieces }
     ensures all { result.failure ≡ None → result.pieces ≡ piece_count (info_of meta.now) }
-    ensures lasts { result.failure ≡ None → IsTrue D.tells → PayloadStands (info_of meta.now) (D.seen disk.new) (D.may_leave disk.new) }
-    ensures others { IsTrue D.tells → KeepsOthers meta.now.layout (D.seen disk.old) (D.seen disk.new) (D.may_leave disk.old) (D.may_leave disk.new) }
-    ensures folders { IsTrue D.tells → D.folders disk.new ≡ D.folders disk.old }
+    ensures lasts { result.failure ≡ None → IsTrue D.tells → PayloadStands (info_of meta.now) (D.state disk.new) }
+    ensures others { IsTrue D.tells → KeepsOthers here meta.now.layout (D.state disk.old) (D.state disk.new) }
+    ensures folders { IsTrue D.tells → (D.state disk.new).folders ≡ (D.state disk.old).folders }
     ensures disk { result.failure ≡ Some Disk → Rose (D.faults disk.old) (D.faults disk.new) }
     ensures later { D.faults disk.old ≤ D.faults disk.new }
 {
@@ -190,6 +196,18 @@ fn complete<D: Disk, L: Links>(alloc: Global, disk: &mut D, link: &mut L, meta: 
     make_last(alloc, disk, meta)
 }
 
+// Makes the folders and the files.
+fn make_files<D: Disk>(alloc: Global, disk: &mut D, layout: &Layout) -> Result<(), IoErr>
+    ensures files { OnOk result (IsTrue D.tells → HasFiles here layout.now (D.state disk.new).seen) }
+    ensures folders { OnOk result (IsTrue D.tells
+        → HasFolders here layout.now (D.state disk.new).folders) }
+    ensures others { IsTrue D.tells → KeepsOthers here layout.now (D.state disk.old) (D.state disk.new) }
+    ensures cause { HasCause (D.faults disk.old) (D.faults disk.new) result }
+{
+    make_folders(alloc, disk, HERE, layout)?;
+    fit_files(alloc, disk, HERE, layout)
+}
+
 /// Makes the folders and the files, fetches the pieces in order, writes each once it is right, and makes the files last.
 /// The first failure ends it.
 pub fn fetch_payload<D: Disk, L: Links>(
@@ -199,15 +217,15 @@ pub fn fetch_payload<D: Disk, L: Links>(
     meta: &Meta,
 ) -> Progress
     requires { IsFetchable (info_of meta.now) }
-    ensures ends { IsTrue L.tells → WorkEnds (info_of meta.now) (L.streams link.old) (L.streams link.new) result.pieces result.failure }
-    ensures served { IsTrue L.tells → Serves (L.content link.old) (info_of meta.now) → IfSome result.failure IsOfOutside }
+    ensures ends { IsTrue L.tells → WorkEnds (info_of meta.now) (L.state link.old).streams (L.state link.new).streams result.pieces result.failure }
+    ensures served { IsTrue L.tells → Serves (L.state link.old).content (info_of meta.now) → IfSome result.failure IsOfOutside }
     ensures known { IfSome result.failure IsKnownFailure }
     ensures link { IfSome result.failure (λ failure. IsLinkFailure failure → Rose (L.faults link.old) (L.faults link.new)) }
-    ensures written { IsTrue D.tells → AreWritten (info_of meta.now) (D.seen disk.new) result.pieces result.failure }
+    ensures written { IsTrue D.tells → AreWritten (info_of meta.now) (D.state disk.new).seen result.pieces result.failure }
     ensures all { result.failure ≡ None → result.pieces ≡ piece_count (info_of meta.now) }
-    ensures lasts { result.failure ≡ None → IsTrue D.tells → PayloadStands (info_of meta.now) (D.seen disk.new) (D.may_leave disk.new) }
-    ensures others { IsTrue D.tells → KeepsOthers meta.now.layout (D.seen disk.old) (D.seen disk.new) (D.may_leave disk.old) (D.may_leave disk.new) }
-    ensures folders { result.failure ≡ None → IsTrue D.tells → HasFolders meta.now.layout (D.folders disk.new) }
+    ensures lasts { result.failure ≡ None → IsTrue D.tells → PayloadStands (info_of meta.now) (D.state disk.new) }
+    ensures others { IsTrue D.tells → KeepsOthers here meta.now.layout (D.state disk.old) (D.state disk.new) }
+    ensures folders { result.failure ≡ None → IsTrue D.tells → HasFolders here meta.now.layout (D.state disk.new).folders }
     ensures disk { result.failure ≡ Some Disk → Rose (D.faults disk.old) (D.faults disk.new) }
     ensures later { D.faults disk.old ≤ D.faults disk.new }
 {

@@ -1,10 +1,14 @@
 -- Reading a value from left to right, with the first fault that is met. The bytes are what is left of the input, and
--- place is where they begin in it. Some bytes by number: 45 is "-", 48 "0", 58 ":", 100 "d", 101 "e", 105 "i", 108 "l".
-use Rattle.std.specs.Prelude.{ℕ, zero, suc, ◌+◌, ◌^◌, ℤ, pos, neg_ℤ, Bool, true, false, ◌==◌, nat_lt, nat_le, if◌then◌else◌, is_some, List, [], ◌∷◌, ◌++◌, length, take, drop, Option, Some, None, option_map, option_and_then, Result, Ok, Err}
+-- place is where they begin in it. Bytes have names: INTEGER, LIST and DICT begin values, END ends them.
+use Rattle.std.specs.Prelude.{ℕ, zero, suc, ◌+◌, ◌-◌, ◌^◌, min, ℤ, pos, neg_ℤ, Bool, true, false, ◌==◌, nat_lt, nat_le, if◌then◌else◌, is_some, List, [], ◌∷◌, ◌++◌, length, take, drop, Option, Some, None, option_map, option_and_then, Result, Ok, Err}
 use Rattle.std.specs.Char.{is_ascii_digit}
 use Rattle.std.specs.List.{take_while}
 use Rattle.std.specs.Str.Parse.{digits_value}
 use lib.Signed.{mag}
+use Rattle.dl_words.specs.Answers.{Gives}
+use Rattle.bencode_core.specs.Placed.{Placed}
+use Rattle.bencode_core.specs.declared.reading.TheConstants.{MAX_DEPTH}
+use Rattle.bencode_core.specs.declared.scalars.TheConstants.{COLON, DICT, END, INTEGER, LIST, MINUS, ZERO}
 use Rattle.bencode_core.specs.Value.{Value, Values, Members, integer, string, list, dict, no_values, value, no_members, member, spelling, string_spelling, is_behind}
 use Rattle.bencode_core.specs.declared.ben.BenKind.{BenKind}
 use Rattle.bencode_core.specs.declared.ben.BenKind.TheVariants as kinds
@@ -37,7 +41,7 @@ digits_at bytes = take_while is_ascii_digit bytes
 abbrev pub canonical_number : List ℕ → Option ℕ
 canonical_number [] = None
 canonical_number (d ∷ []) = Some (digits_value 10 (d ∷ []))
-canonical_number (d ∷ e ∷ ds) = if d == 48 then None else Some (digits_value 10 (d ∷ e ∷ ds))
+canonical_number (d ∷ e ∷ ds) = if d == ZERO then None else Some (digits_value 10 (d ∷ e ∷ ds))
 
 -- a number and the byte that ends it, and the bytes behind that
 unfoldable pub number_at : ℕ → List ℕ → Option (ℕ × List ℕ)
@@ -49,17 +53,25 @@ number_at end bytes =
 unfoldable pub integer_at : List ℕ → Option (ℤ × List ℕ)
 integer_at [] = None
 integer_at (i ∷ bytes) =
-    if begins 45 bytes
-    then option_and_then (λ n. if n.0 == 0 then None else Some (neg_ℤ (pos n.0), n.1)) (number_at 101 (drop 1 bytes))
-    else option_map (λ n. (pos n.0, n.1)) (number_at 101 bytes)
+    if begins MINUS bytes
+    then option_and_then (λ n. if n.0 == 0 then None else Some (neg_ℤ (pos n.0), n.1)) (number_at END (drop 1 bytes))
+    else option_map (λ n. (pos n.0, n.1)) (number_at END bytes)
 
 -- the integer, if it has 64 bits
 abbrev pub narrowed : ℤ → Option ℤ
 narrowed z = if nat_lt (mag z) (2 ^ 63) then Some z else None
 
+-- a number as 64 bits tell it, and the bytes behind it: one from 2 ^ 64 on as their greatest
+abbrev pub capped_number : Option (ℕ × List ℕ) → Option (ℕ × List ℕ)
+capped_number read = option_map (λ n. (min n.0 (2 ^ 64 - 1), n.1)) read
+
+-- an integer, if it has 64 bits, and the bytes behind it
+abbrev pub narrowed_integer : Option (ℤ × List ℕ) → Option (Option ℤ × List ℕ)
+narrowed_integer read = option_map (λ n. (narrowed n.0, n.1)) read
+
 -- the string at the front, and the bytes behind it
 unfoldable pub string_at : List ℕ → Option (List ℕ × List ℕ)
-string_at bytes = option_and_then (λ n. if nat_le n.0 (length n.1) then Some (take n.0 n.1, drop n.0 n.1) else None) (number_at 58 bytes)
+string_at bytes = option_and_then (λ n. if nat_le n.0 (length n.1) then Some (take n.0 n.1, drop n.0 n.1) else None) (number_at COLON bytes)
 
 -- ---- values
 
@@ -67,9 +79,9 @@ string_at bytes = option_and_then (λ n. if nat_le n.0 (length n.1) then Some (t
 abbrev pub kind_at : List ℕ → Option BenKind
 kind_at [] = None
 kind_at (b ∷ bytes) =
-    if b == 105 then Some kinds.Integer
-    else if b == 108 then Some kinds.List
-    else if b == 100 then Some kinds.Dict
+    if b == INTEGER then Some kinds.Integer
+    else if b == LIST then Some kinds.List
+    else if b == DICT then Some kinds.Dict
     else if is_ascii_digit b then Some kinds.String
     else None
 
@@ -78,7 +90,7 @@ kind_at (b ∷ bytes) =
 unfoldable pub values_by : (ℕ → List ℕ → Result Value BenErr) → ℕ → ℕ → List ℕ → Result Values BenErr
 values_by one zero place bytes = Err (Wrong place)
 values_by one (suc turns) place bytes =
-    if begins 101 bytes then Ok no_values else (do
+    if begins END bytes then Ok no_values else (do
       v ← one place bytes
       vs ← values_by one turns (place + length (spelling v)) (drop (length (spelling v)) bytes)
       Ok (value v vs))
@@ -103,7 +115,7 @@ member_spelling m = string_spelling m.0 ++ spelling m.1
 unfoldable pub members_by : (ℕ → List ℕ → Result Value BenErr) → ℕ → Option (List ℕ) → ℕ → List ℕ → Result Members BenErr
 members_by one zero before place bytes = Err (Wrong place)
 members_by one (suc turns) before place bytes =
-    if begins 101 bytes then Ok no_members else (do
+    if begins END bytes then Ok no_members else (do
       m ← member_by one before place bytes
       ms ← members_by one turns (Some m.0) (place + length (member_spelling m)) (drop (length (member_spelling m)) bytes)
       Ok (member m.0 m.1 ms))
@@ -156,10 +168,14 @@ value_at (suc levels) place bytes = value_by (value_at levels) place bytes (kind
 -- the value that the input spells, all of it, or the first fault
 unfoldable pub reading : List ℕ → Result Value BenErr
 reading bytes = do
-  v ← value_at 100 0 bytes
+  v ← value_at MAX_DEPTH 0 bytes
   if length (spelling v) == length bytes then Ok v else Err (Trailing (length (spelling v)))
 
 -- what an error tells: want of memory tells nothing
 abbrev pub fault_of : BenErr → Option BenErr
 fault_of NoMemory = None
 fault_of e = Some e
+
+-- a call answers the value that is read, or the fault, unless memory ran out
+abbrev pub AnswersValue : Result Placed BenErr → Result Value BenErr → Type 0
+AnswersValue result expected = Gives (λ b. b.value) fault_of result expected

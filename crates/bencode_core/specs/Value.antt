@@ -4,6 +4,7 @@ use Rattle.std.specs.Ordering.{nat_cmp, is_lt}
 use Rattle.std.specs.Int.{w64}
 use Rattle.std.specs.Fmt.{decimal, signed_decimal}
 use Rattle.std.specs.Cmp.Lexicographic.{slice_cmp}
+use Rattle.bencode_core.specs.declared.reading.TheConstants.{MAX_DEPTH}
 
 -- A value: a list holds values, a dictionary members, each a key and a value.
 mutual
@@ -79,10 +80,10 @@ abbrev mutual
   AreMembers before no_members = Unit {0}
   AreMembers before (member key v ms) = IsTrue (is_behind before key) × IsSound v × AreMembers (Some key) ms
 
--- what has a spelling: it is at most 100 deep, and spelled by fewer than 2 ^ 32 bytes
+-- what has a spelling: it is at most MAX_DEPTH deep, and spelled by fewer than 2 ^ 32 bytes
 pub record IsValue (v : Value) : Type 0 where
   pub sound : IsSound v
-  pub depth : depth v ≤ 100
+  pub depth : depth v ≤ MAX_DEPTH
   pub short : length (spelling v) < 2 ^ 32
 
 -- the grammar: the value is spelled by these bytes, all of them

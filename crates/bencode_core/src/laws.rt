@@ -12,10 +12,12 @@ pub fn one_spelling()
 
 /// No spelling is the beginning of another, so that one value stands at the front of bytes whatever follows it.
 pub fn no_spelling_begins_another()
-    ensures { (v w : Value) (a b x y : List ℕ) → Spells v a → Spells w b → a ++ x ≡ b ++ y → (v ≡ w) × (a ≡ b) × (x ≡ y) }
+    ensures { (v w : Value) (a b x y : List ℕ) → Spells v a → Spells w b → a ++ x ≡ b ++ y
+        → (v ≡ w) × (a ≡ b) × (x ≡ y) }
 {}
 
 /// Reading gives a value exactly where the bytes spell it; so what was written is read again.
 pub fn reads_what_is_spelled()
-    ensures { (v : Value) (bytes : List ℕ) → length bytes < 2 ^ 32 → (reading bytes ≡ Ok v) ↔ Spells v bytes }
+    ensures { (v : Value) (bytes : List ℕ) → length bytes < 2 ^ 32
+        → (reading bytes ≡ Ok v) ↔ Spells v bytes }
 {}

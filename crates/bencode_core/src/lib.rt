@@ -12,3 +12,4 @@ mod writing;
 pub use ben::{Ben, BenKind, Member};
 pub use fault::BenErr;
 pub use laws::{no_spelling_begins_another, one_spelling, reads_what_is_spelled};
+pub use reading::MAX_DEPTH;

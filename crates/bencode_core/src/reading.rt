@@ -8,20 +8,20 @@ ghost use Rattle.bencode_core.specs.Reading as specs;
 
 use crate::ben::{Ben, BenKind, Member, Node};
 use crate::fault::BenErr;
-use crate::scalars::{begins, integer_at, string_at};
+use crate::scalars::{DICT, END, INTEGER, LIST, begins, integer_at, string_at};
 use std::alloc::Global;
 
 /// How many values may stand one in the other.
-const LEVELS: u32 = 100;
+pub const MAX_DEPTH: u32 = 100;
 
 /// What the first byte begins.
 fn kind_at(bytes: &[u8]) -> Option<BenKind>
     ensures { result ≡ specs.kind_at bytes.now }
 {
-    match bytes.first()? {
-        b'i' => Some(BenKind::Integer),
-        b'l' => Some(BenKind::List),
-        b'd' => Some(BenKind::Dict),
+    match *bytes.first()? {
+        INTEGER => Some(BenKind::Integer),
+        LIST => Some(BenKind::List),
+        DICT => Some(BenKind::Dict),
         b'0'..=b'9' => Some(BenKind::String),
         _ => None,
     }
@@ -43,7 +43,7 @@ fn is_spelled(bytes: &[u8]) -> bool
 #[tactic(auto, unfolding(crate::specs::Reading::integer_value))]
 fn integer_value(place: u32, bytes: &[u8]) -> Result<Ben, BenErr>
     requires { place + length bytes.now < 2 ^ 32 }
-    ensures exact { Gives (λ b. b.value) specs.fault_of result (specs.integer_value place bytes.now) }
+    ensures exact { specs.AnswersValue result (specs.integer_value place bytes.now) }
     ensures place { IfOk result (λ b. b.place ≡ place) }
 {
     let Some((narrowed, rest)) = integer_at(bytes) else {
@@ -63,7 +63,7 @@ fn integer_value(place: u32, bytes: &[u8]) -> Result<Ben, BenErr>
 #[tactic(auto, unfolding(crate::specs::Reading::string_value))]
 fn string_value(alloc: Global, place: u32, bytes: &[u8]) -> Result<Ben, BenErr>
     requires { place + length bytes.now < 2 ^ 32 }
-    ensures exact { Gives (λ b. b.value) specs.fault_of result (specs.string_value place bytes.now) }
+    ensures exact { specs.AnswersValue result (specs.string_value place bytes.now) }
     ensures place { IfOk result (λ b. b.place ≡ place) }
 {
     let Some((text, rest)) = string_at(bytes) else {
@@ -85,7 +85,8 @@ fn key_at<'a>(
     bytes: &'a [u8],
 ) -> Result<(&'a [u8], &'a [u8]), BenErr>
     requires { length bytes.now < 2 ^ 32 }
-    ensures exact { Gives (λ k. k.0.now) specs.fault_of result (specs.key_at (option_map (λ k. k.now) before.entry) place bytes.now) }
+    ensures exact { Gives (λ k. k.0.now) specs.fault_of result
+        (specs.key_at (option_map (λ k. k.now) before.entry) place bytes.now) }
     ensures rest { IfOk result (λ k. bytes.now ≡ string_spelling k.0.now ++ k.1.now) }
 {
     let Some((key, rest)) = string_at(bytes) else {
@@ -114,9 +115,9 @@ fn last_key(members: &[Member]) -> Option<&[u8]>
 
 #[cycle(reading)]
 fn value_at(alloc: Global, levels: u32, place: u32, bytes: &[u8]) -> Result<Ben, BenErr>
-    requires deep { levels ≤ 100 }
+    requires deep { levels ≤ MAX_DEPTH }
     requires fits { place + length bytes.now < 2 ^ 32 }
-    ensures exact { Gives (λ b. b.value) specs.fault_of result (specs.value_at levels place bytes.now) }
+    ensures exact { specs.AnswersValue result (specs.value_at levels place bytes.now) }
     ensures place { IfOk result (λ b. b.place ≡ place) }
 {
     if levels == 0 {
@@ -136,16 +137,16 @@ fn value_at(alloc: Global, levels: u32, place: u32, bytes: &[u8]) -> Result<Ben,
 
 #[cycle(reading)]
 fn list_value(alloc: Global, levels: u32, place: u32, bytes: &[u8]) -> Result<Ben, BenErr>
-    requires deep { levels < 100 }
+    requires deep { levels < MAX_DEPTH }
     requires fits { place + length bytes.now < 2 ^ 32 }
     requires opened { 0 < length bytes.now }
-    ensures exact { Gives (λ b. b.value) specs.fault_of result (specs.list_value (specs.value_at levels) place bytes.now) }
+    ensures exact { specs.AnswersValue result (specs.list_value (specs.value_at levels) place bytes.now) }
     ensures place { IfOk result (λ b. b.place ≡ place) }
 {
     let mut items = Vec::new(alloc);
     let mut next = place + 1;
     let mut rest = behind(1, bytes);
-    while !begins(b'e', rest) {
+    while !begins(END, rest) {
         let item = value_at(alloc, levels, next, rest)?;
         let len = item.spelled_len();
         next += len;
@@ -168,10 +169,13 @@ fn member_at(
     place: u32,
     bytes: &[u8],
 ) -> Result<Member, BenErr>
-    requires deep { levels < 100 }
+    requires deep { levels < MAX_DEPTH }
     requires fits { place + length bytes.now < 2 ^ 32 }
-    ensures exact { Gives {X = Member} (λ m. (m.key.items, m.value.value)) specs.fault_of result (specs.member_by (specs.value_at levels) (option_map (λ k. k.now) before.entry) place bytes.now) }
-    ensures place { IfOk result (λ m. m.value.place ≡ place + length (string_spelling m.key.items)) }
+    ensures exact { Gives {X = Member} (λ m. (m.key.items, m.value.value)) specs.fault_of result
+        (specs.member_by (specs.value_at levels)
+        (option_map (λ k. k.now) before.entry) place bytes.now) }
+    ensures place { IfOk result (λ m. m.value.place
+        ≡ place + length (string_spelling m.key.items)) }
 {
     let (key, rest) = key_at(before, place, bytes)?;
     let key_len = bytes.len() - rest.len();
@@ -184,16 +188,16 @@ fn member_at(
 
 #[cycle(reading)]
 fn dict_value(alloc: Global, levels: u32, place: u32, bytes: &[u8]) -> Result<Ben, BenErr>
-    requires deep { levels < 100 }
+    requires deep { levels < MAX_DEPTH }
     requires fits { place + length bytes.now < 2 ^ 32 }
     requires opened { 0 < length bytes.now }
-    ensures exact { Gives (λ b. b.value) specs.fault_of result (specs.dict_value (specs.value_at levels) place bytes.now) }
+    ensures exact { specs.AnswersValue result (specs.dict_value (specs.value_at levels) place bytes.now) }
     ensures place { IfOk result (λ b. b.place ≡ place) }
 {
     let mut members = Vec::new(alloc);
     let mut next = place + 1;
     let mut rest = behind(1, bytes);
-    while !begins(b'e', rest) {
+    while !begins(END, rest) {
         let member = member_at(alloc, levels, last_key(&members), next, rest)?;
         let (_, end) = member.value.span();
         rest = behind(end - next, rest);
@@ -211,10 +215,10 @@ fn dict_value(alloc: Global, levels: u32, place: u32, bytes: &[u8]) -> Result<Be
 #[tactic(auto, unfolding(crate::specs::Reading::reading))]
 fn whole(alloc: Global, bytes: &[u8]) -> Result<Ben, BenErr>
     requires { length bytes.now < 2 ^ 32 }
-    ensures exact { Gives (λ b. b.value) specs.fault_of result (specs.reading bytes.now) }
+    ensures exact { specs.AnswersValue result (specs.reading bytes.now) }
     ensures place { IfOk result (λ b. b.place ≡ 0) }
 {
-    let value = value_at(alloc, LEVELS, 0, bytes)?;
+    let value = value_at(alloc, MAX_DEPTH, 0, bytes)?;
     let len = value.spelled_len();
     if len as usize != bytes.len() {
         return Err(BenErr::Trailing { at: len });
@@ -235,9 +239,9 @@ impl Ben {
         ensures found { IfOk result (λ b. Spells b.value bytes.now) }
         ensures place { IfOk result (λ b. b.place ≡ 0) }
         // What the bytes spell is read, unless memory runs out.
-        ensures only { (v : Value) → Spells v bytes.now → Gives (λ b. b.value) specs.fault_of result (Ok v) }
+        ensures only { (v : Value) → Spells v bytes.now → specs.AnswersValue result (Ok v) }
         // Which value or fault it is.
-        ensures exact { Gives (λ b. b.value) specs.fault_of result (specs.reading bytes.now) }
+        ensures exact { specs.AnswersValue result (specs.reading bytes.now) }
     {
         whole(alloc, bytes)
     }

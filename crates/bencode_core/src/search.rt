@@ -10,7 +10,8 @@ use crate::ben::{Ben, Member};
 /// The value of the key, among members whose keys ascend.
 pub(crate) fn value_of_key<'a>(members: &'a [Member], key: &[u8]) -> Option<&'a Ben>
     requires { AreMembers None (members_in members.now) }
-    ensures { option_copied result ≡ option_map (λ m. m.1) (find (λ m. bytes_eq m.0 key.now) (pairs_of members.now)) }
+    ensures { option_copied result
+        ≡ option_map (λ m. m.1) (find (λ m. bytes_eq m.0 key.now) (pairs_of members.now)) }
 {
     match members.binary_search_by(|member| member.key.as_slice().cmp(key)) {
         Ok(place) => Some(&members[place].value),

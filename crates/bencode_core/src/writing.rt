@@ -4,6 +4,7 @@ ghost use Rattle.bencode_core.specs.Value.{Spells, spelling, spellings, member_s
 ghost use Rattle.bencode_core.specs.Node.{values_in, members_in};
 
 use crate::ben::{Ben, Member, Node};
+use crate::scalars::{DICT, END, LIST};
 use std::alloc::{AllocError, Global};
 
 impl Ben {
@@ -27,14 +28,14 @@ fn push_value(alloc: Global, out: &mut Vec<u8>, value: &Ben) -> Result<(), Alloc
         Node::Integer(number) => push_integer(alloc, out, *number),
         Node::String(bytes) => push_string(alloc, out, bytes),
         Node::List(items) => {
-            out.push(b'l')?;
+            out.push(LIST)?;
             push_items(alloc, out, items)?;
-            Ok(out.push(b'e')?)
+            Ok(out.push(END)?)
         }
         Node::Dict(members) => {
-            out.push(b'd')?;
+            out.push(DICT)?;
             push_members(alloc, out, members)?;
-            Ok(out.push(b'e')?)
+            Ok(out.push(END)?)
         }
     }
 }
@@ -51,7 +52,8 @@ fn push_items(alloc: Global, out: &mut Vec<u8>, items: &[Ben]) -> Result<(), All
 
 #[cycle(writing)]
 fn push_members(alloc: Global, out: &mut Vec<u8>, members: &[Member]) -> Result<(), AllocError>
-    ensures { OnOk result (out.new.items ≡ out.old.items ++ member_spellings (members_in members.now)) }
+    ensures { OnOk result (out.new.items
+        ≡ out.old.items ++ member_spellings (members_in members.now)) }
 {
     for member in members {
         push_string(alloc, out, &member.key)?;

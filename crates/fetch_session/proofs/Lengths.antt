@@ -12,7 +12,7 @@ use Rattle.reply_reader.specs.Answers.{Turn, Due, Given, Away, Lost as LostTurn,
 use Rattle.reply_reader.specs.Fills.{AnswerFills, AnswersFill}
 use Rattle.reply_reader.specs.declared.loss.Loss.{Loss}
 use Rattle.reply_reader.specs.declared.loss.Loss.TheVariants.{Redirects}
-use Rattle.request_chain.specs.Chains.{IsPart}
+use Rattle.request_chain.specs.Chains.{IsJobPart}
 use Rattle.request_chain.specs.Exchanges.{Replies}
 use Rattle.request_chain.specs.Fetched.{FetchedBy}
 use Rattle.request_chain.specs.Plans.{Ending, Done, Open, Lost, Plan, Ask, Over, plan_of, plan_behind, plan_at, rest_behind, asked_of, next_plan, unusable}
@@ -52,18 +52,18 @@ lost_not_done ending loss is done = cc
 -- the parts fit over these streams, whatever is asked first
 abbrev FitOver : List Stream → Type 0
 FitOver streams = (part : JobPart) (parts : List JobPart) (url : List ℕ) (count status : ℕ) (bytes : List ℕ) (ending : Ending)
-    → IsPart part → All IsPart parts → FetchedBy (Ask part parts url count status) streams bytes ending [] → Fits (part ∷ parts) bytes ending
+    → IsJobPart part → All IsJobPart parts → FetchedBy (Ask part parts url count status) streams bytes ending [] → Fits (part ∷ parts) bytes ending
 
 -- the parts, from the first on
-plan_fits : (streams : List Stream) → FitOver streams → (parts : List JobPart) (bytes : List ℕ) (ending : Ending) → All IsPart parts
+plan_fits : (streams : List Stream) → FitOver streams → (parts : List JobPart) (bytes : List ℕ) (ending : Ending) → All IsJobPart parts
     → FetchedBy (plan_of parts) streams bytes ending [] → Fits parts bytes ending
 plan_fits streams fit [] bytes ending are fetched =
     let none : length bytes ≡ 0 = ap length fetched.0 in
     record { few = omega (arith, none); all = λ _. none; full = λ _. fetched.1 }
 plan_fits streams fit (part ∷ parts) bytes ending are fetched =
-    fit part parts part.url 0 0 bytes ending (All-head IsPart part parts are) (All-tail IsPart part parts are) fetched
+    fit part parts part.url 0 0 bytes ending (All-head IsJobPart part parts are) (All-tail IsJobPart part parts are) fetched
 
-module _ (streams : List Stream) (fit : FitOver streams) (part : JobPart) (parts : List JobPart) (url : List ℕ) (count : ℕ) (is_part : IsPart part) (are : All IsPart parts) (more : List ℕ) (ending : Ending) where
+module _ (streams : List Stream) (fit : FitOver streams) (part : JobPart) (parts : List JobPart) (url : List ℕ) (count : ℕ) (is_part : IsJobPart part) (are : All IsJobPart parts) (more : List ℕ) (ending : Ending) where
   -- where all came up to a place
   behind_fits : (got : List ℕ) (last : ℕ) → part.at ≤ last → last ≤ part.at + part.len - 1 → length got ≡ last + 1 - part.at
       → FetchedBy (plan_behind part parts last) streams more ending [] → Fits (part ∷ parts) (got ++ more) ending
@@ -74,7 +74,7 @@ module _ (streams : List Stream) (fit : FitOver streams) (part : JobPart) (parts
       (λ (plan : Plan). FetchedBy plan streams more ending [] → Fits (part ∷ parts) (got ++ more) ending)
       (λ less fetched.
       let below : last < part.at + part.len - 1 = grind (arith, nat_tests) in
-      let rest : IsPart (rest_behind part last) = record { some = omega arith; within = omega arith } in
+      let rest : IsJobPart (rest_behind part last) = record { some = omega arith; within = omega arith } in
       joined (part ∷ parts) (rest_behind part last ∷ parts) got more ending (omega (arith, len_of-cons part parts, len_of-cons (rest_behind part last) parts, is))
       (fit (rest_behind part last) parts part.url 0 0 more ending rest are fetched))
       (λ all fetched.
@@ -123,7 +123,7 @@ no_size : (at len : ℕ) → 0 < len → 0 ≡ at + len - 1 + 1 - at → ⊥
 no_size at len some is = omega arith
 
 -- a stream on which nothing was sent answers nothing
-nothing_fills : (part : JobPart) (answer : Answer) → IsPart part → answer ≡ without_bytes Due → AnswerFills (asked_of part) answer
+nothing_fills : (part : JobPart) (answer : Answer) → IsJobPart part → answer ≡ without_bytes Due → AnswerFills (asked_of part) answer
 nothing_fills part answer is_part is =
     let some : 0 < part.len = is_part.some in
     let P : Answer → Type 0 = AnswerFills (asked_of part) in
@@ -135,7 +135,7 @@ nothing_fills part answer is_part is =
     })
 
 module _ (fill : AnswersFill) where
-  reply_fills : (part : JobPart) (url : List ℕ) (stream : Stream) (answer : Answer) → IsPart part → Replies url (asked_of part) stream answer → AnswerFills (asked_of part) answer
+  reply_fills : (part : JobPart) (url : List ℕ) (stream : Stream) (answer : Answer) → IsJobPart part → Replies url (asked_of part) stream answer → AnswerFills (asked_of part) answer
   reply_fills part url stream answer is_part replies =
       let some : 0 < part.len = is_part.some in
       elim replies [

@@ -13,7 +13,7 @@ use Rattle.span_map.specs.declared.jobs.Job.{Job}
 use Rattle.span_map.specs.declared.jobs.JobPart.{JobPart}
 use Rattle.reply_reader.specs.declared.loss.Loss.{Loss}
 use Rattle.reply_reader.specs.declared.loss.Loss.TheVariants.{Link, NotFound, Refused, BadReply, Length, Short, Redirects, NoMemory}
-use Rattle.request_chain.specs.Chains.{IsPart, IsChain, Gains, ReadsChain, Loses, TellsLoss, received_by}
+use Rattle.request_chain.specs.Chains.{IsJobPart, IsChain, Gains, ReadsChain, Loses, TellsLoss, received_by}
 use Rattle.request_chain.specs.Fetched.{Fetched}
 use Rattle.request_chain.specs.Plans.{Ending, Done, Open, Lost}
 use Rattle.request_chain.specs.declared.chain.Chain.{Chain}
@@ -59,7 +59,7 @@ counted parts used bytes faults loss tells lost is count link =
 regroup : (a b c d : List ℕ) → ((a ++ b) ++ c) ++ d ≡ a ++ ((b ++ c) ++ d)
 regroup a b c d = simp append_assoc
 
-module _ (fits : FetchedFits) (parts : List JobPart) (are : All IsPart parts) (later : List Stream) (bytes waiting : List ℕ) (ending : Ending) (fetched : Fetched parts later (bytes ++ waiting) ending []) where
+module _ (fits : FetchedFits) (parts : List JobPart) (are : All IsJobPart parts) (later : List Stream) (bytes waiting : List ℕ) (ending : Ending) (fetched : Fetched parts later (bytes ++ waiting) ending []) where
   -- where as many bytes came as the parts have, all came, and none waits
   whole_done : parts_len parts ≤ length bytes → (ending ≡ Done) × Fetched parts later bytes Done []
   whole_done whole =

@@ -2,7 +2,7 @@
 use Rattle.std.specs.Prelude.{◌≡◌, ◌≤◌, ℕ, List, [], length, All}
 use Rattle.link_source.specs.Streams.{Stream}
 use Rattle.span_map.specs.declared.jobs.JobPart.{JobPart}
-use Rattle.request_chain.specs.Chains.{IsPart}
+use Rattle.request_chain.specs.Chains.{IsJobPart}
 use Rattle.request_chain.specs.Fetched.{Fetched}
 use Rattle.request_chain.specs.Plans.{Ending, Done}
 use Rattle.fetch_session.specs.Jobs.{parts_len}
@@ -16,4 +16,4 @@ pub record Fits (parts : List JobPart) (bytes : List ℕ) (ending : Ending) : Ty
 -- where all of the parts were asked for over these streams
 abbrev pub FetchedFits : Type 0
 FetchedFits = (parts : List JobPart) (streams : List Stream) (bytes : List ℕ) (ending : Ending)
-    → All IsPart parts → Fetched parts streams bytes ending [] → Fits parts bytes ending
+    → All IsJobPart parts → Fetched parts streams bytes ending [] → Fits parts bytes ending

@@ -52,7 +52,7 @@ impl Fetch {
     ghost use Rattle.link_source.specs.Streams.{Stream};
     ghost use Rattle.reply_reader.specs.declared.loss.Loss.TheVariants.{Link};
     ghost use Rattle.request_chain.specs.Chains.{Gains};
-    ghost use Rattle.request_chain.specs.Honest.{AreHonest};
+    ghost use Rattle.request_chain.specs.Links.{IsHonestSince, StaysHonest};
     ghost use Rattle.span_map.specs.declared.jobs.Job.{Job};
     ghost use Rattle.fetch_session.specs.Blocks.{cut, run_start, run_end};
     ghost use Rattle.fetch_session.specs.Fetches.{fetch_plan, rest_of, ready_of, lost_of, IsFetch, SameButSpare, FetchSteps, Fails};
@@ -112,10 +112,10 @@ impl Fetch {
         requires none_ready { (ready_of self.old).count ≡ 0 }
         requires some { 0 < allow }
         ensures reads { IsTrue L.tells → (job : Job) (before used : List Stream) (handed : List ℕ)
-            → IsFetch job used handed self.old → Gains before (L.streams link.old) used
+            → IsFetch job used handed self.old → Gains before (L.state link.old).streams used
             → MatchResult result
-            (λ got. FetchSteps job before used handed (L.streams link.new) (L.faults link.new) allow self.old got self.new)
-            (λ loss. Fails job before handed (L.streams link.new) (L.faults link.new) self.old loss self.new) }
+            (λ got. FetchSteps job before used handed (L.state link.new).streams (L.faults link.new) allow self.old got self.new)
+            (λ loss. Fails job before handed (L.state link.new).streams (L.faults link.new) self.old loss self.new) }
         ensures plan { fetch_plan self.new ≡ fetch_plan self.old }
         ensures rest { rest_of self.new ≡ rest_of self.old }
 
@@ -132,10 +132,11 @@ impl Fetch {
         ensures known { IfErr result IsKnown }
 
         // Over mirrors in memory, without bad answers, its streams have given what the mirrors reply.
-        ensures honest { IsTrue L.tells → (L.content link.old).bad ≡ [] → (job : Job) (before used : List Stream) (handed : List ℕ)
-            → IsFetch job used handed self.old → Gains before (L.streams link.old) used
-            → AreHonest (L.content link.old) before (L.streams link.old) (L.due link.old)
-            → (L.content link.new ≡ L.content link.old) × AreHonest (L.content link.old) before (L.streams link.new) (L.due link.new) }
+        ensures honest { IsTrue L.tells → (L.state link.old).content.bad ≡ []
+            → (job : Job) (before used : List Stream) (handed : List ℕ)
+            → IsFetch job used handed self.old → Gains before (L.state link.old).streams used
+            → IsHonestSince before (L.state link.old)
+            → StaysHonest before (L.state link.old) (L.state link.new) }
         ensures none_ready { OnErr result ((ready_of self.new).count ≡ 0) }
         ensures cause { lost_of self.old ≡ None → (count : ℕ) → lost_of self.new ≡ Some (Link count)
             → Rose (L.faults link.old) (L.faults link.new) }
@@ -186,10 +187,10 @@ impl Fetch {
         requires room { cut self.old.plan self.old.ready.first + vec_len self.old.held + room
             ≡ cut self.old.plan (min (self.old.ready.first + 64) self.old.end) }
         ensures reads { IsTrue L.tells → (job : Job) (before used : List Stream) (handed : List ℕ)
-            → IsFetch job used handed self.old → Gains before (L.streams link.old) used
+            → IsFetch job used handed self.old → Gains before (L.state link.old).streams used
             → MatchResult result
-            (λ got. FetchSteps job before used handed (L.streams link.new) (L.faults link.new) allow self.old got self.new)
-            (λ loss. Fails job before handed (L.streams link.new) (L.faults link.new) self.old loss self.new) }
+            (λ got. FetchSteps job before used handed (L.state link.new).streams (L.faults link.new) allow self.old got self.new)
+            (λ loss. Fails job before handed (L.state link.new).streams (L.faults link.new) self.old loss self.new) }
         ensures plan { fetch_plan self.new ≡ fetch_plan self.old }
         ensures rest { rest_of self.new ≡ rest_of self.old }
         ensures ready { IfOk result (λ got. got.ready ≡ ready_of self.new) }
@@ -200,10 +201,11 @@ impl Fetch {
         ensures known { IfErr result IsKnown }
 
         // Over mirrors in memory, without bad answers, its streams have given what the mirrors reply.
-        ensures honest { IsTrue L.tells → (L.content link.old).bad ≡ [] → (job : Job) (before used : List Stream) (handed : List ℕ)
-            → IsFetch job used handed self.old → Gains before (L.streams link.old) used
-            → AreHonest (L.content link.old) before (L.streams link.old) (L.due link.old)
-            → (L.content link.new ≡ L.content link.old) × AreHonest (L.content link.old) before (L.streams link.new) (L.due link.new) }
+        ensures honest { IsTrue L.tells → (L.state link.old).content.bad ≡ []
+            → (job : Job) (before used : List Stream) (handed : List ℕ)
+            → IsFetch job used handed self.old → Gains before (L.state link.old).streams used
+            → IsHonestSince before (L.state link.old)
+            → StaysHonest before (L.state link.old) (L.state link.new) }
         ensures none_ready { OnErr result ((ready_of self.new).count ≡ 0) }
         ensures cause { (count : ℕ) → lost_of self.new ≡ Some (Link count) → Rose (L.faults link.old) (L.faults link.new) }
         ensures later { L.faults link.old ≤ L.faults link.new }

@@ -3,6 +3,7 @@ ghost use Rattle.std.specs.Prelude.{◌≡◌, ◌≤◌, List, ℕ, IsTrue, IfE
 ghost use Rattle.dl_words.specs.Counts.{Rose};
 ghost use Rattle.link_source.specs.Streams.{Stream};
 ghost use Rattle.reply_reader.specs.declared.loss.Loss.TheVariants.{Link};
+ghost use Rattle.request_chain.specs.Links.{CountsLinkLoss};
 ghost use Rattle.request_chain.specs.Chains.{Gains};
 ghost use Rattle.request_chain.specs.Probes.{Told, Probed, TellsProbeLoss};
 
@@ -19,10 +20,11 @@ pub fn probe<L: Links>(
     url: &str,
     room: &mut FetchRoom,
 ) -> Result<u64, Loss>
-    ensures probes { IsTrue L.tells → (used : List Stream) × Gains (L.streams link.old) (L.streams link.new) used × MatchResult result
+    ensures probes { IsTrue L.tells
+        → (used : List Stream) × Gains (L.state link.old).streams (L.state link.new).streams used × MatchResult result
         (λ total. Probed url.now used (Told total))
         (TellsProbeLoss url.now used (L.faults link.new)) }
-    ensures link { IfErr result (λ loss. (count : ℕ) → loss ≡ Link count → Rose (L.faults link.old) (L.faults link.new)) }
+    ensures link { IfErr result (CountsLinkLoss (L.faults link.old) (L.faults link.new)) }
     ensures later { L.faults link.old ≤ L.faults link.new }
 {
     request_chain::probe(alloc, link, url, &mut room.chain)

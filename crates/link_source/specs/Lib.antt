@@ -2,6 +2,7 @@ pub mod BadAnswers
 pub mod Chunks
 pub mod Endpoint
 pub mod Leads
+pub mod Link
 pub mod MemLinks
 pub mod Memory
 pub mod Mirrors

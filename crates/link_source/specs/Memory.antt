@@ -1,7 +1,7 @@
 -- What the parts of links in memory show.
-use Rattle.std.specs.Prelude.{◌≡◌, ℕ, List, ◌∷◌, Option, Some, None, MatchOption, reverse, map}
+use Rattle.std.specs.Prelude.{◌≡◌, ◌==◌, ◌&&◌, Bool, bytes_eq, ℕ, List, [], ◌∷◌, Option, Some, None, MatchOption, reverse, map}
 use Rattle.link_source.specs.BadAnswers.{IsUsed, next_bad}
-use Rattle.link_source.specs.Mirrors.{Content, Mirror, HasReply}
+use Rattle.link_source.specs.Mirrors.{Content, Mirror, HasReply, reply_of}
 use Rattle.link_source.specs.Replies.{Reply}
 use Rattle.link_source.specs.Streams.{Stream}
 use Rattle.link_source.specs.declared.bad_answers.Bad.{Bad}
@@ -19,8 +19,16 @@ mirrors_of mirrors = map mirror_of mirrors
 abbrev pub contents_of : List MemMirror → List Bad → List Bad → Content
 contents_of mirrors bad used = record { mirrors = mirrors_of mirrors; bad = bad; used = used }
 
+-- the mirror has this host and port
+abbrev pub is_at : List ℕ → ℕ → MemMirror → Bool
+is_at host port mirror = (mirror.port == port) && bytes_eq mirror.host host
+
 abbrev pub reply_seen : MemReply → Reply
 reply_seen r = record { head = r.head.items; place = r.place; content = r.content.items; chunked = r.chunked }
+
+-- the true reply of the first of these mirrors that has this host and port
+abbrev pub true_reply : List MemMirror → List ℕ → ℕ → List ℕ → ℕ → ℕ → Reply
+true_reply mirrors host port target first last = reply_of (contents_of mirrors [] []) host port target first last
 
 -- Where a mirror of this number replied, its next bad answer is used, if one was left. None is for no reply.
 abbrev pub UsesNext : Option ℕ → List Bad → List Bad → List Bad → List Bad → Type 0

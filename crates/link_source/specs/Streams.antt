@@ -14,6 +14,11 @@ pub record Stream : Type 0 where
 abbrev pub dialled : List ℕ → ℕ → Stream
 dialled host port = record { host = host; port = port; sent = []; received = []; ended = false }
 
+-- the newest stream leads to this host and port
+abbrev pub NewestLeadsTo : List ℕ → ℕ → List Stream → Type 0
+NewestLeadsTo host port streams =
+    (newest : Stream) × (older : List Stream) × (streams ≡ newest ∷ older) × (newest.host ≡ host) × (newest.port ≡ port)
+
 -- the newest stream has sent this too
 abbrev pub with_sent : List ℕ → List Stream → List Stream
 with_sent bytes [] = []

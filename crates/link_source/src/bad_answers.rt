@@ -71,7 +71,8 @@ impl BadAnswers {
 
     /// Uses the next one of the mirror that replied, if one is left.
     pub fn use_next(&mut self, mirror: Option<usize>)
-        ensures { UsesNext mirror self.old.left.items self.old.used.items self.new.left.items self.new.used.items }
+        ensures { UsesNext mirror self.old.left.items self.old.used.items
+            self.new.left.items self.new.used.items }
     {
         let Some(mirror) = mirror else {
             return;

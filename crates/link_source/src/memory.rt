@@ -1,5 +1,5 @@
 // Links to mirrors in memory.
-ghost use Rattle.std.specs.Prelude.{◌≡◌, ◌<◌, [], IfOk};
+ghost use Rattle.std.specs.Prelude.{◌≡◌, ◌<◌, IfOk};
 
 use crate::Links;
 use crate::bad_answers::{Bad, BadAnswers};
@@ -27,8 +27,7 @@ pub struct MemLinks {
 }
 
 impl MemLinks {
-    ghost use Rattle.link_source.specs.MemLinks.{content_of, due_of, faults_of, streams_of};
-    ghost use Rattle.link_source.specs.Memory.{contents_of};
+    ghost use Rattle.link_source.specs.MemLinks.{IsNewLink};
 
     /// A link that gives at most `cut` bytes at once. The calls of the given numbers fail: `dial`, `send` and `recv`
     /// are numbered from 0, but for those that are answered with want of memory.
@@ -40,10 +39,7 @@ impl MemLinks {
         failing: Vec<u64>,
     ) -> Result<Self, NoMemory>
         requires { 0 < cut }
-        ensures content { IfOk result (λ links. content_of links ≡ contents_of mirrors.items bad.items []) }
-        ensures streams { IfOk result (λ links. streams_of links ≡ []) }
-        ensures due { IfOk result (λ links. due_of links ≡ []) }
-        ensures faults { IfOk result (λ links. faults_of links ≡ 0) }
+        ensures { IfOk result (IsNewLink mirrors.items bad.items) }
     {
         Ok(MemLinks {
             alloc,
@@ -60,17 +56,13 @@ impl MemLinks {
 
 impl Links for MemLinks {
     ghost use Rattle.std.specs.Prelude.{true, false};
-    ghost use Rattle.link_source.specs.MemLinks.{content_of, due_of, faults_of, is_open, streams_of};
+    ghost use Rattle.link_source.specs.MemLinks.{link_faults, link_state, is_open};
 
     ghost tells = { true };
 
-    ghost content = { content_of };
+    ghost state = { link_state };
 
-    ghost streams = { streams_of };
-
-    ghost due = { due_of };
-
-    ghost faults = { faults_of };
+    ghost faults = { link_faults };
 
     fn faults(&self) -> u64 {
         self.calls.faults()
@@ -117,10 +109,8 @@ impl Links for MemLinks {
     }
 
     fn hang_up(&mut self)
-        ensures streams { streams_of self.new ≡ streams_of self.old }
-        ensures held { due_of self.new ≡ due_of self.old }
-        ensures kept { content_of self.new ≡ content_of self.old }
-        ensures faults { faults_of self.new ≡ faults_of self.old }
+        ensures same { link_state self.new ≡ link_state self.old }
+        ensures faults { link_faults self.new ≡ link_faults self.old }
         ensures closed { is_open self.new ≡ false }
     {
         self.open = false;

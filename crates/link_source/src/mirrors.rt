@@ -1,8 +1,8 @@
 // Mirrors in memory, and what they answer.
-ghost use Rattle.std.specs.Prelude.{◌≡◌, ◌≤◌, ◌==◌, ◌&&◌, [], find, position, IfOk, option_copied};
+ghost use Rattle.std.specs.Prelude.{◌≡◌, ◌≤◌, find, position, IfOk, option_copied};
 ghost use Rattle.std.specs.Str.{bytes_eq};
 ghost use Rattle.link_source.specs.Mirrors.{reply_of, file_at, mirror_reply, content_reply};
-ghost use Rattle.link_source.specs.Memory.{contents_of, mirror_of, reply_seen, GivesText};
+ghost use Rattle.link_source.specs.Memory.{is_at, mirror_of, reply_seen, true_reply, GivesText};
 ghost use Rattle.link_source.specs.Replies.{text_under};
 
 use crate::bad_answers::{Bad, BadAnswers};
@@ -69,7 +69,8 @@ fn reply_with(
     asked: &Asked<'_>,
 ) -> Result<MemReply, AllocError>
     requires { asked.now.first ≤ asked.now.last }
-    ensures { IfOk result (λ reply. reply_seen reply ≡ content_reply manner bytes.now asked.now.first asked.now.last) }
+    ensures { IfOk result (λ reply. reply_seen reply
+        ≡ content_reply manner bytes.now asked.now.first asked.now.last) }
 {
     match manner {
         Manner::Ranges => reply_by_range(alloc, false, bytes, asked.first, asked.last),
@@ -83,7 +84,9 @@ impl MemMirror {
     // The reply to a request.
     fn reply(&self, alloc: Global, asked: &Asked<'_>) -> Result<MemReply, AllocError>
         requires { asked.now.first ≤ asked.now.last }
-        ensures { IfOk result (λ reply. reply_seen reply ≡ mirror_reply (mirror_of self.now) asked.now.target.now asked.now.first asked.now.last) }
+        ensures { IfOk result (λ reply. reply_seen reply
+            ≡ mirror_reply (mirror_of self.now)
+            asked.now.target.now asked.now.first asked.now.last) }
     {
         match find_file(&self.files, asked.target) {
             None => not_found_reply(alloc),
@@ -95,14 +98,14 @@ impl MemMirror {
 
 // The first mirror of a host and a port.
 pub fn find_mirror<'a>(mirrors: &'a [MemMirror], host: &str, port: u16) -> Option<&'a MemMirror>
-    ensures { option_copied result ≡ find (λ mirror. (mirror.port == port) && bytes_eq mirror.host host.now) mirrors.now }
+    ensures { option_copied result ≡ find (is_at host.now port) mirrors.now }
 {
     mirrors.iter().find(|mirror| mirror.port == port && mirror.host.as_str() == host)
 }
 
 // Its number.
 fn number_of(mirrors: &[MemMirror], host: &str, port: u16) -> Option<usize>
-    ensures { result ≡ position (λ mirror. (mirror.port == port) && bytes_eq mirror.host host.now) mirrors.now }
+    ensures { result ≡ position (is_at host.now port) mirrors.now }
 {
     mirrors.iter().position(|mirror| mirror.port == port && mirror.host.as_str() == host)
 }
@@ -116,7 +119,9 @@ fn reply_to(
     asked: &Asked<'_>,
 ) -> Result<MemReply, AllocError>
     requires { asked.now.first ≤ asked.now.last }
-    ensures { IfOk result (λ reply. reply_seen reply ≡ reply_of (contents_of mirrors.now [] []) host.now port asked.now.target.now asked.now.first asked.now.last) }
+    ensures { IfOk result (λ reply. reply_seen reply
+        ≡ true_reply mirrors.now host.now port
+        asked.now.target.now asked.now.first asked.now.last) }
 {
     match find_mirror(mirrors, host, port) {
         Some(mirror) => mirror.reply(alloc, asked),
@@ -134,7 +139,9 @@ fn text_to(
     bad: Option<Bad>,
 ) -> Result<Vec<u8>, AllocError>
     requires { asked.now.first ≤ asked.now.last }
-    ensures { IfOk result (λ text. text.items ≡ text_under bad (reply_of (contents_of mirrors.now [] []) host.now port asked.now.target.now asked.now.first asked.now.last)) }
+    ensures { IfOk result (λ text. text.items ≡ text_under bad
+        (true_reply mirrors.now host.now port
+        asked.now.target.now asked.now.first asked.now.last)) }
 {
     reply_to(alloc, mirrors, host, port, asked)?.text_under(alloc, bad)
 }
@@ -148,7 +155,8 @@ pub fn answer(
     port: u16,
     bytes: &[u8],
 ) -> Result<Answered, AllocError>
-    ensures { IfOk result (λ answer. GivesText mirrors.now bad.now.left.items bad.now.used.items host.now port bytes.now answer.text.items answer.mirror) }
+    ensures { IfOk result (λ answer. GivesText mirrors.now bad.now.left.items bad.now.used.items
+        host.now port bytes.now answer.text.items answer.mirror) }
 {
     let Some(asked) = read_request(alloc, host, port, bytes)? else {
         return Ok(Answered {

@@ -178,7 +178,8 @@ impl MemReply {
     }
 
     fn into_cut_text(self, alloc: Global, count: u32) -> Result<Vec<u8>, AllocError>
-        ensures { IfOk result (λ text. text.items ≡ spoiled_text (BadKind.Cut count) (reply_seen self)) }
+        ensures { IfOk result (λ text. text.items
+            ≡ spoiled_text (BadKind.Cut count) (reply_seen self)) }
     {
         let (mut text, mut body) = self.into_body(alloc)?;
         body.truncate(count as usize);

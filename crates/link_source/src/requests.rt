@@ -1,9 +1,9 @@
 // Requests as a mirror reads them.
-ghost use Rattle.std.specs.Prelude.{◌≡◌, ◌≢◌, ◌<◌, ◌≤◌, ◌^◌, ◌++◌, ◌∷◌, [], ℕ, List, Contains, IfOk, MatchOption, string_bytes};
+ghost use Rattle.std.specs.Prelude.{◌≡◌, ◌≢◌, ◌<◌, ◌≤◌, ◌^◌, ℕ, List, Contains, IfOk, MatchOption, string_bytes};
 ghost use Rattle.std.specs.Char.{digit_value};
 ghost use Rattle.std.specs.Fmt.{decimal};
 ghost use Rattle.link_source.specs.Endpoint.{host_value};
-ghost use Rattle.link_source.specs.Reading.{between_of, spelled};
+ghost use Rattle.link_source.specs.Reading.{between_of, IsSplitAt, EndsInNumber, EndsInNone, IsSpelled, SpellsNone};
 ghost use Rattle.link_source.specs.Requests.{Asks};
 
 use crate::endpoint::host_field;
@@ -20,7 +20,8 @@ pub struct Asked<'a> {
 
 // The number that the bytes write without a leading zero.
 fn plain_number(digits: &[u8]) -> Option<u64>
-    ensures { MatchOption result ((n : ℕ) → n < 2 ^ 64 → digits.now ≢ decimal n) (λ n. digits.now ≡ decimal n) }
+    ensures { MatchOption result ((n : ℕ) → n < 2 ^ 64 → digits.now ≢ decimal n)
+        (λ n. digits.now ≡ decimal n) }
 {
     if digits.len() > 1 && digits[0] == b'0' {
         return None;
@@ -30,7 +31,8 @@ fn plain_number(digits: &[u8]) -> Option<u64>
 
 // What stands before the last mark, and behind it.
 fn split_last(bytes: &[u8], mark: u8) -> Option<(&[u8], &[u8])>
-    ensures { MatchOption result (Contains bytes.now mark → ⊥) (λ parts. (bytes.now ≡ parts.0.now ++ mark ∷ [] ++ parts.1.now) × (Contains parts.1.now mark → ⊥)) }
+    ensures { MatchOption result (Contains bytes.now mark → ⊥)
+        (λ parts. IsSplitAt mark bytes.now parts.0.now parts.1.now) }
 {
     let place = bytes.iter().rposition(|byte| *byte == mark)?;
     Some((&bytes[..place], &bytes[place + 1..]))
@@ -39,7 +41,8 @@ fn split_last(bytes: &[u8], mark: u8) -> Option<(&[u8], &[u8])>
 // What stands before the last mark, and the number behind it.
 fn split_number(bytes: &[u8], mark: u8) -> Option<(&[u8], u64)>
     requires { 10 ≤ digit_value mark }
-    ensures { MatchOption result ((front : List ℕ) (n : ℕ) → n < 2 ^ 64 → bytes.now ≢ front ++ mark ∷ [] ++ decimal n) (λ parts. (bytes.now ≡ parts.0.now ++ mark ∷ [] ++ decimal parts.1) × (parts.1 < 2 ^ 64)) }
+    ensures { MatchOption result (EndsInNone mark bytes.now)
+        (λ parts. EndsInNumber mark bytes.now parts.0.now parts.1) }
 {
     let (front, digits) = split_last(bytes, mark)?;
     let number = plain_number(digits)?;
@@ -48,7 +51,8 @@ fn split_number(bytes: &[u8], mark: u8) -> Option<(&[u8], u64)>
 
 // The parts of a request that has this between its target and its numbers.
 fn split_request<'a>(between: &[u8], bytes: &'a [u8]) -> Option<Asked<'a>>
-    ensures { MatchOption result ((target : List ℕ) (first last : ℕ) → first < 2 ^ 64 → last < 2 ^ 64 → bytes.now ≢ spelled between.now target first last) (λ asked. (bytes.now ≡ spelled between.now asked.target.now asked.first asked.last) × (asked.first < 2 ^ 64) × (asked.last < 2 ^ 64)) }
+    ensures { MatchOption result (SpellsNone between.now bytes.now)
+        (λ asked. IsSpelled between.now bytes.now asked.target.now asked.first asked.last) }
 {
     let lines = bytes.strip_suffix(b"\r\n\r\n")?;
     let (front, last) = split_number(lines, b'-')?;

@@ -1,7 +1,7 @@
 // The streams of a link in memory.
-ghost use Rattle.std.specs.Prelude.{◌≡◌, ◌∷◌, [], List, IfOk, OnOk, OnErr, MatchOption};
+ghost use Rattle.std.specs.Prelude.{◌≡◌, ◌∷◌, [], IfOk, OnOk, OnErr, MatchOption};
 ghost use Rattle.link_source.specs.Memory.{stream_of, and_older};
-ghost use Rattle.link_source.specs.Streams.{Stream, dialled, with_sent, with_received};
+ghost use Rattle.link_source.specs.Streams.{NewestLeadsTo, dialled, with_sent, with_received};
 
 use dl_kinds::Text;
 use std::alloc::{AllocError, Global};
@@ -69,7 +69,8 @@ impl MemStreams {
 
     /// The host and the port of the newest stream.
     pub fn peer(&self) -> Option<(&str, u16)>
-        ensures { MatchOption result (self.now ≡ []) (λ peer. (newest : Stream) × (older : List Stream) × (self.now ≡ newest ∷ older) × (newest.host ≡ peer.0.now) × (newest.port ≡ peer.1)) }
+        ensures { MatchOption result (self.now ≡ [])
+            (λ peer. NewestLeadsTo peer.0.now peer.1 self.now) }
     {
         match &self.newest {
             Some(newest) => Some((newest.host.as_str(), newest.port)),

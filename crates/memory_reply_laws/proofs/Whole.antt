@@ -23,7 +23,7 @@ use Rattle.range_http.specs.Range.{IsContentRange, ◌>>=◌}
 use Rattle.range_http.specs.RangeLaws.{NumbersAreRead, RangesAreRead}
 use Rattle.range_http.specs.Verdict.{sized, framed_verdict, told_range, is_empty_range, verdict_of}
 use Rattle.memory_reply_laws.proofs.Bodies.{length_body, stream_body}
-use Rattle.memory_reply_laws.proofs.Numbers.{is_number, is_bare, bare_reply as bare_bytes, decimal_short, values_pass, value_behind}
+use Rattle.memory_reply_laws.proofs.Numbers.{is_number, is_bare, bare as bare_bytes, decimal_short, values_pass, value_behind}
 use Rattle.memory_reply_laws.proofs.Parts.{length_field_of, length_is_written}
 use Rattle.memory_reply_laws.proofs.Written.{field_text, head_text, IsValue, IsWritten, AreWritten, said, length_field, length_head, is_head, has_head, is_read}
 use Rattle.memory_reply_laws.specs.Reading.{IsKnownAs}

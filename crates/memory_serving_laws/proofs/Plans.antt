@@ -12,7 +12,7 @@ use Rattle.link_source.specs.Leads.{StandsAt, IsJoined, Redirects, Leads}
 use Rattle.link_source.specs.Mirrors.{Content}
 use Rattle.link_source.specs.declared.mirrors.MemFile.{MemFile}
 use Rattle.link_source.specs.declared.mirrors.MemFile.TheVariants.{Bytes}
-use Rattle.request_chain.specs.Chains.{IsPart}
+use Rattle.request_chain.specs.Chains.{IsJobPart}
 use Rattle.request_chain.specs.Plans.{Done, Open, Lost, Plan, Ask, Over, plan_of}
 use Rattle.request_chain.specs.Redirects.{location_text, joined_to, moved_to, redirect_limit}
 use Rattle.memory_serving_laws.specs.Serving.{GivesAll}
@@ -25,11 +25,11 @@ pub record IsServed (content : Content) (part : JobPart) (parts : List JobPart) 
   pub resource : List ℕ
   pub leads : Leads content left url resource
   pub size : length resource ≡ part.total
-  pub is_part : IsPart part
+  pub is_part : IsJobPart part
   pub small : part.total < 2 ^ 63
   pub rest : List ℕ
   pub bytes_are : bytes ≡ part_at resource part.at part.len ++ rest
-  pub parts_are : All IsPart parts
+  pub parts_are : All IsJobPart parts
   pub smalls : All (λ (p : JobPart). p.total < 2 ^ 63) parts
   pub rests : GivesAll content parts rest
 
@@ -41,7 +41,7 @@ Comes content (Over Open) bytes = Unit {0}
 Comes content (Over (Lost loss)) bytes = ⊥
 
 -- by the parts that are given
-pub plan_comes : (content : Content) (parts : List JobPart) (bytes : List ℕ) → All IsPart parts → All (λ (p : JobPart). p.total < 2 ^ 63) parts
+pub plan_comes : (content : Content) (parts : List JobPart) (bytes : List ℕ) → All IsJobPart parts → All (λ (p : JobPart). p.total < 2 ^ 63) parts
     → GivesAll content parts bytes → Comes content (plan_of parts) bytes
 plan_comes content [] bytes parts_are smalls gives = gives
 plan_comes content (part ∷ parts) bytes parts_are smalls (front, rest, gives, is, rests) = record {
@@ -50,11 +50,11 @@ plan_comes content (part ∷ parts) bytes parts_are smalls (front, rest, gives, 
   resource = gives.resource;
   leads = gives.leads;
   size = gives.size;
-  is_part = All-head IsPart part parts parts_are;
+  is_part = All-head IsJobPart part parts parts_are;
   small = All-head (λ (p : JobPart). p.total < 2 ^ 63) part parts smalls;
   rest = rest;
   bytes_are = is ∙ ap (λ f. f ++ rest) gives.bytes_are;
-  parts_are = All-tail IsPart part parts parts_are;
+  parts_are = All-tail IsJobPart part parts parts_are;
   smalls = All-tail (λ (p : JobPart). p.total < 2 ^ 63) part parts smalls;
   rests = rests;
 }

@@ -2,7 +2,7 @@
 use Rattle.std.specs.Prelude.{◌≡◌, ◌⊎◌, ◌<◌, ◌^◌, ℕ, List, [], All}
 use Rattle.link_source.specs.Mirrors.{Content}
 use Rattle.link_source.specs.Streams.{Stream}
-use Rattle.request_chain.specs.Chains.{IsPart, Gains}
+use Rattle.request_chain.specs.Chains.{IsJobPart, Gains}
 use Rattle.request_chain.specs.Fetched.{Fetched}
 use Rattle.request_chain.specs.Honest.{IsHonest, AreHonest}
 use Rattle.request_chain.specs.Plans.{Ending, Done, Open}
@@ -13,7 +13,7 @@ use Rattle.span_map.specs.declared.jobs.JobPart.{JobPart}
 -- the bytes of the parts, or more is due. Nothing is lost.
 abbrev pub ServedComes : Type 0
 ServedComes = (content : Content) (parts : List JobPart) (streams : List Stream) (bytes came : List ℕ) (ending : Ending)
-    → content.bad ≡ [] → All IsPart parts → All (λ part. part.total < 2 ^ 63) parts → GivesAll content parts bytes
+    → content.bad ≡ [] → All IsJobPart parts → All (λ part. part.total < 2 ^ 63) parts → GivesAll content parts bytes
     → All (IsHonest content) streams → Fetched parts streams came ending []
     → (ending ≡ Open) ⊎ ((ending ≡ Done) × (came ≡ bytes))
 

@@ -7,3 +7,4 @@ pub mod Laid
 pub mod Escapes
 pub mod Sound
 pub mod Steps
+pub mod Asked

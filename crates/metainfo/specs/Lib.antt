@@ -1,4 +1,5 @@
 pub mod Info
+pub mod Jobs
 pub mod Kept
 pub mod Refusals
 pub mod Rules

@@ -4,6 +4,7 @@ use Rattle.std.specs.Prelude.{◌≡◌, ℕ, ◌/◌, ◌%◌, ◌==◌, zero, 
 use Rattle.std.specs.List.{list_all}
 use Rattle.dl_words.specs.Lists.{part_at}
 use Rattle.dl_kinds.specs.Plan.{pieces_of}
+use Rattle.dl_kinds.specs.declared.plan.TheConstants.{MAX_PAYLOAD_LEN, MAX_PIECE_LEN}
 use Rattle.sha1.specs.Sha1.{sha1}
 use Rattle.bencode_core.specs.Value as values
 use Rattle.bencode_core.specs.Placed.{Placed, items_of, string_of}
@@ -14,6 +15,8 @@ use Rattle.span_map.specs.declared.files.FileLen.{FileLen}
 use Rattle.metainfo.specs.declared.refusals.Key.TheVariants.{Info, Name, PieceLength, Pieces, Length, Files, Path, UrlList}
 use Rattle.metainfo.specs.declared.refusals.MetaErr.{MetaErr}
 use Rattle.metainfo.specs.declared.refusals.MetaErr.TheVariants.{Bencode, Lacks, BadKind, BadPath, DigestCount, TooLarge, BadSeed}
+use Rattle.metainfo.specs.declared.rules.TheConstants.{DIGEST_LEN}
+use Rattle.metainfo.specs.declared.seeds.TheConstants.{MAX_SEEDS}
 use Rattle.metainfo.specs.Info as info
 use Rattle.metainfo.specs.Refusals.{◌>>=◌, or_refusal, sought, value_in, string_in, integer_in}
 use Rattle.metainfo.specs.Tests.{is_part, bad_file, is_plan, is_seed, is_dict, is_list, is_string}
@@ -48,7 +51,7 @@ name_in dict = do
 -- ---- 4. `piece length` is an integer, from 1 to 67,108,864.
 
 abbrev pub piece_len_of : ℤ → Option ℕ
-piece_len_of (pos n) = if nat_le 1 n && nat_le n 67108864 then Some n else None
+piece_len_of (pos n) = if nat_le 1 n && nat_le n MAX_PIECE_LEN then Some n else None
 piece_len_of (negsuc n) = None
 
 unfoldable pub piece_len_in : Placed → Result ℕ MetaErr
@@ -61,12 +64,12 @@ piece_len_in dict = do
 -- so many digests, one behind the other
 abbrev pub first_digests : ℕ → List ℕ → List (List ℕ)
 first_digests zero bytes = []
-first_digests (suc count) bytes = take 20 bytes ∷ first_digests count (drop 20 bytes)
+first_digests (suc count) bytes = take DIGEST_LEN bytes ∷ first_digests count (drop DIGEST_LEN bytes)
 
 unfoldable pub digests_in : Placed → Result (List (List ℕ)) MetaErr
 digests_in dict = do
   bytes ← string_in Pieces dict
-  if length bytes % 20 == 0 then Ok (first_digests (length bytes / 20) bytes) else Err (BadKind Pieces)
+  if length bytes % DIGEST_LEN == 0 then Ok (first_digests (length bytes / DIGEST_LEN) bytes) else Err (BadKind Pieces)
 
 -- ---- 6. There is exactly one of `length` and `files`. A `length` is an integer of at least 0, and `files` a list, not
 -- ---- empty, of dictionaries, each with a `length` and a `path`, which is a list of strings.
@@ -151,7 +154,7 @@ paths_fit files = no_bad (bad_file files)
 -- ---- 8. The sum of the lengths and the plan are within the limits.
 
 unfoldable pub sum_fits : List FileLen → Result (Unit {0}) MetaErr
-sum_fits files = if nat_le (total_of files) 4398046511104 then Ok tt else Err (TooLarge Length)
+sum_fits files = if nat_le (total_of files) MAX_PAYLOAD_LEN then Ok tt else Err (TooLarge Length)
 
 unfoldable pub plan_fits : ℕ → ℕ → Result (Unit {0}) MetaErr
 plan_fits total piece_len = if is_plan total piece_len then Ok tt else Err (TooLarge Length)
@@ -178,7 +181,7 @@ urls_by found None =
     else Err (BadKind UrlList)
 
 abbrev pub seeds_among : List (List ℕ) → List (List ℕ)
-seeds_among urls = take 256 (filter is_seed urls)
+seeds_among urls = take MAX_SEEDS (filter is_seed urls)
 
 unfoldable pub seeds_of : Placed → Result (List (List ℕ)) MetaErr
 seeds_of found = do

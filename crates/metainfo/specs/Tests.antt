@@ -1,4 +1,4 @@
--- Tests that the rules for metainfo files make. Some bytes by number: 0 is NUL, 47 "/".
+-- Tests that the rules for metainfo files make.
 use Rattle.std.specs.Prelude.{ℕ, ◌+◌, ◌==◌, Bool, true, false, not, ◌&&◌, ◌||◌, nat_le, if◌then◌else◌, List, [], ◌∷◌, ◌++◌, length, codes, Option, Some, None, option_map, is_some, Result, Ok, Err}
 use Rattle.std.specs.List.{list_any, list_all, starts_with}
 use Rattle.std.specs.Str.{bytes_eq, is_utf8}
@@ -6,6 +6,8 @@ use Rattle.url.specs.Parser.{parse_url}
 use Rattle.url.specs.Parts.{Parts}
 use Rattle.url.specs.declared.error.ParseError.{ParseError}
 use Rattle.dl_kinds.specs.Plan.{pieces_of, blocks_of}
+use Rattle.dl_kinds.specs.declared.plan.TheConstants.{MAX_BLOCKS, MAX_PIECES, MAX_PIECE_LEN}
+use Rattle.span_map.specs.declared.paths.TheConstants.{MAX_PARTS, MAX_PART_LEN, NUL, SLASH}
 use Rattle.span_map.specs.declared.files.FileLen.{FileLen}
 use Rattle.bencode_core.specs.Value as values
 use Rattle.bencode_core.specs.Placed.{Placed, string_of}
@@ -13,13 +15,13 @@ use Rattle.bencode_core.specs.Placed.{Placed, string_of}
 -- a valid part of a path
 abbrev pub is_part : List ℕ → Bool
 is_part part =
-    is_utf8 part && nat_le 1 (length part) && nat_le (length part) 255
+    is_utf8 part && nat_le 1 (length part) && nat_le (length part) MAX_PART_LEN
     && not (bytes_eq part (codes ".")) && not (bytes_eq part (codes ".."))
-    && not (list_any (λ byte. byte == 47) part) && not (list_any (λ byte. byte == 0) part)
+    && not (list_any (λ byte. byte == SLASH) part) && not (list_any (λ byte. byte == NUL) part)
 
 -- a path of a file
 abbrev pub is_path : List (List ℕ) → Bool
-is_path path = nat_le 1 (length path) && nat_le (length path) 64 && list_all is_part path
+is_path path = nat_le 1 (length path) && nat_le (length path) MAX_PARTS && list_all is_part path
 
 -- the list begins with the front
 abbrev pub begins_with : List (List ℕ) → List (List ℕ) → Bool
@@ -43,8 +45,8 @@ bad_file files = bad_behind [] files
 -- a payload of this length may be cut into pieces of this length
 abbrev pub is_plan : ℕ → ℕ → Bool
 is_plan total piece_len =
-    nat_le 1 piece_len && nat_le piece_len 67108864 && nat_le (pieces_of total piece_len) 1048576
-    && nat_le (blocks_of total piece_len) 268435456
+    nat_le 1 piece_len && nat_le piece_len MAX_PIECE_LEN && nat_le (pieces_of total piece_len) MAX_PIECES
+    && nat_le (blocks_of total piece_len) MAX_BLOCKS
 
 abbrev pub is_http : Result Parts ParseError → Bool
 is_http (Ok url) = bytes_eq url.scheme (codes "http")

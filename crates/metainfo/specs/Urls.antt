@@ -1,9 +1,10 @@
--- The URL of a file at a web seed (BEP 19). 47 is "/".
+-- The URL of a file at a web seed (BEP 19).
 use Rattle.std.specs.Prelude.{ℕ, ◌==◌, Bool, not, ◌&&◌, ◌||◌, nat_eq, if◌then◌else◌, List, [], ◌∷◌, ◌++◌, length, map, codes, slice_get}
 use Rattle.std.specs.List.{flat_map, ends_with, join_with_byte, list_any}
 use Rattle.std.specs.Option.{option_map_or}
 use Rattle.std.specs.Char.{is_ascii_alphanumeric}
 use Rattle.percent_encoding.specs.Percent.{percent_encode_byte}
+use Rattle.span_map.specs.declared.paths.TheConstants.{SLASH}
 use Rattle.span_map.specs.declared.files.FileLen.{FileLen}
 
 -- a letter or digit of ASCII, or one of `-._~` (RFC 3986 section 2.3, "unreserved")
@@ -19,7 +20,7 @@ ends_in_slash base = ends_with nat_eq base (codes "/")
 
 -- the parts behind the base, with a slash between each two
 abbrev pub joined : List ℕ → List (List ℕ) → List ℕ
-joined base path = (if ends_in_slash base then base else base ++ 47 ∷ []) ++ join_with_byte 47 (map escaped path)
+joined base path = (if ends_in_slash base then base else base ++ SLASH ∷ []) ++ join_with_byte SLASH (map escaped path)
 
 -- The file of this path. One whose path is a name alone is at the base itself, unless that ends in a slash.
 abbrev pub url_of : List ℕ → List (List ℕ) → List ℕ

@@ -34,7 +34,8 @@ pub(crate) fn sought(dict: &Ben, key: Key) -> Option<&Ben>
 }
 
 pub(crate) fn value_in(dict: &Ben, key: Key) -> Result<&Ben, MetaErr>
-    ensures exact { Gives (λ found. found.now) specs.refusal_of result (specs.value_in key dict.now) }
+    ensures exact { Gives (λ found. found.now) specs.refusal_of result
+        (specs.value_in key dict.now) }
     ensures slice { IfOk result (λ found. StandsIn dict.now found.now) }
 {
     sought(dict, key).ok_or(MetaErr::Lacks(key))
@@ -42,7 +43,8 @@ pub(crate) fn value_in(dict: &Ben, key: Key) -> Result<&Ben, MetaErr>
 
 #[tactic(auto, unfolding(crate::specs::Refusals::string_in), using(crate::proofs::Lengths::part_len, crate::proofs::Lengths::string_len))]
 pub(crate) fn string_in(dict: &Ben, key: Key) -> Result<&[u8], MetaErr>
-    ensures exact { Gives (λ bytes. bytes.now) specs.refusal_of result (specs.string_in key dict.now) }
+    ensures exact { Gives (λ bytes. bytes.now) specs.refusal_of result
+        (specs.string_in key dict.now) }
     ensures within { IfOk result (λ bytes. length bytes.now ≤ length (spelling dict.now.value)) }
 {
     value_in(dict, key)?.string().ok_or(MetaErr::BadKind(key))

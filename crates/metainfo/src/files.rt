@@ -52,7 +52,8 @@ fn are_dicts(items: &[Ben]) -> bool
 fn path_of(alloc: Global, name: &Text, items: &[Ben]) -> Result<Texts, NoMemory>
     requires text { is_utf8 name.now ≡ true }
     requires strings { list_all is_string items.now ≡ true }
-    ensures { IfOk result (λ path. path ≡ map kept_part (specs.path_of name.now (specs.strings_among items.now))) }
+    ensures { IfOk result (λ path. path
+        ≡ map kept_part (specs.path_of name.now (specs.strings_among items.now))) }
 {
     let mut path = Texts::new(alloc);
     if items.is_empty() {
@@ -70,7 +71,8 @@ fn path_of(alloc: Global, name: &Text, items: &[Ben]) -> Result<Texts, NoMemory>
 #[tactic(auto, unfolding(crate::specs::Rules::path_in, crate::specs::Rules::parts_in))]
 fn path_in(alloc: Global, name: &Text, dict: &Ben) -> Result<Texts, MetaErr>
     requires { is_utf8 name.now ≡ true }
-    ensures { Gives (λ path. path) refusal_of result (kept_parts (specs.path_in name.now dict.now)) }
+    ensures { Gives (λ path. path) refusal_of result
+        (kept_parts (specs.path_in name.now dict.now)) }
 {
     let found = value_in(dict, Key::Path)?;
     if !is_list(found) || !are_strings(found.items()) {
@@ -91,7 +93,8 @@ fn file_in(alloc: Global, name: &Text, dict: &Ben) -> Result<FileLen, MetaErr>
 
 fn files_from(alloc: Global, name: &Text, dicts: &[Ben]) -> Result<Vec<FileLen>, MetaErr>
     requires { is_utf8 name.now ≡ true }
-    ensures exact { Gives (λ files. files.items) refusal_of result (all_kept (specs.files_from name.now dicts.now)) }
+    ensures exact { Gives (λ files. files.items) refusal_of result
+        (all_kept (specs.files_from name.now dicts.now)) }
     ensures count { IfOk result (λ files. length files.items ≡ length dicts.now) }
 {
     let mut files = Vec::new(alloc);
@@ -111,7 +114,8 @@ fn is_dicts(found: &Ben) -> bool
 #[tactic(auto, unfolding(crate::specs::Rules::several_of))]
 fn several_of(alloc: Global, name: &Text, found: &Ben) -> Result<Vec<FileLen>, MetaErr>
     requires { is_utf8 name.now ≡ true }
-    ensures exact { Gives (λ files. files.items) refusal_of result (all_kept (specs.several_of name.now found.now)) }
+    ensures exact { Gives (λ files. files.items) refusal_of result
+        (all_kept (specs.several_of name.now found.now)) }
     ensures some { IfOk result (λ files. 1 ≤ length files.items) }
 {
     if !is_dicts(found) {
@@ -123,7 +127,8 @@ fn several_of(alloc: Global, name: &Text, found: &Ben) -> Result<Vec<FileLen>, M
 #[tactic(auto, unfolding(crate::specs::Rules::single_in))]
 fn single_in(alloc: Global, name: &Text, dict: &Ben) -> Result<Vec<FileLen>, MetaErr>
     requires { is_utf8 name.now ≡ true }
-    ensures exact { Gives (λ files. files.items) refusal_of result (all_kept (specs.single_in name.now dict.now)) }
+    ensures exact { Gives (λ files. files.items) refusal_of result
+        (all_kept (specs.single_in name.now dict.now)) }
     ensures some { IfOk result (λ files. 1 ≤ length files.items) }
 {
     let len = len_in(dict)?;
@@ -137,7 +142,8 @@ fn single_in(alloc: Global, name: &Text, dict: &Ben) -> Result<Vec<FileLen>, Met
 #[tactic(auto, unfolding(crate::specs::Rules::files_in))]
 fn files_in(alloc: Global, name: &Text, dict: &Ben) -> Result<Vec<FileLen>, MetaErr>
     requires { is_utf8 name.now ≡ true }
-    ensures exact { Gives (λ files. files.items) refusal_of result (all_kept (specs.files_in name.now dict.now)) }
+    ensures exact { Gives (λ files. files.items) refusal_of result
+        (all_kept (specs.files_in name.now dict.now)) }
     ensures some { IfOk result (λ files. 1 ≤ length files.items) }
 {
     match (sought(dict, Key::Length), sought(dict, Key::Files)) {

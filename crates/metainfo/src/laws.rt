@@ -13,8 +13,10 @@ ghost use Rattle.metainfo.specs.Tests.{is_part, bad_file, is_plan, is_seed};
 pub fn tests_say_what_holds()
     ensures part { (part : List ℕ) → IsTrue (is_part part) ↔ IsValidPart part }
     ensures paths { (files : List FileLen) → (bad_file files ≡ None) ↔ HavePaths files }
-    ensures bad { (files : List FileLen) (i : ℕ) → (bad_file files ≡ Some i) ↔ (IsRefused files (BadPath i) ⊎ IsRefused files (Repeated i)) }
-    ensures plan { (total piece_len : ℕ) → IsTrue (is_plan total piece_len) ↔ IsPlan total piece_len }
+    ensures bad { (files : List FileLen) (i : ℕ) → (bad_file files ≡ Some i)
+        ↔ (IsRefused files (BadPath i) ⊎ IsRefused files (Repeated i)) }
+    ensures plan { (total piece_len : ℕ)
+        → IsTrue (is_plan total piece_len) ↔ IsPlan total piece_len }
     ensures seed { (bytes : List ℕ) → IsTrue (is_seed bytes) ↔ IsSeed bytes }
 {}
 

@@ -3,6 +3,7 @@
 
 mod fields;
 mod files;
+mod jobs;
 mod laws;
 mod meta;
 mod reading;
@@ -11,7 +12,10 @@ mod rules;
 mod seeds;
 mod urls;
 
+pub use jobs::mirror_job;
 pub use laws::{metainfo_is_sound, tests_say_what_holds};
 pub use meta::Meta;
 pub use refusals::{Key, MetaErr};
+pub use rules::DIGEST_LEN;
+pub use seeds::MAX_SEEDS;
 pub use std::alloc::AllocError as NoMemory;

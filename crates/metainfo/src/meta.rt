@@ -56,9 +56,11 @@ impl Meta {
         // What the bytes say, or the first rule that they break, unless memory runs out.
         ensures exact { Gives info_of refusal_of result (metainfo_of bytes.now) }
         // Bytes that say something are refused only for want of memory.
-        ensures said { (info : Info) → metainfo_of bytes.now ≡ Ok info → IsOkUnless result MetaErr.NoMemory }
+        ensures said { (info : Info) → metainfo_of bytes.now ≡ Ok info
+            → IsOkUnless result MetaErr.NoMemory }
         // The first rule that they break is answered, unless memory runs out.
-        ensures refused { (e : MetaErr) → metainfo_of bytes.now ≡ Err e → (result ≡ Err e) ⊎ (result ≡ Err MetaErr.NoMemory) }
+        ensures refused { (e : MetaErr) → metainfo_of bytes.now ≡ Err e
+            → (result ≡ Err e) ⊎ (result ≡ Err MetaErr.NoMemory) }
         ensures total { IfOk result (λ meta. total_of meta.layout ≡ meta.plan.total) }
         ensures digests { IfOk result (λ meta. length meta.digests ≡ meta.plan.pieces) }
         ensures sound { IfOk result (λ meta. IsSound (info_of meta)) }

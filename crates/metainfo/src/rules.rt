@@ -11,16 +11,16 @@ ghost use Rattle.metainfo.specs.Tests.{is_part};
 use crate::fields::{integer_in, is_dict, string_in, value_in};
 use crate::{Key, MetaErr, NoMemory};
 use bencode_core::{Ben, BenErr};
-use dl_kinds::{Digests, Plan, Text};
+use dl_kinds::{Digests, MAX_PIECE_LEN, Plan, Text};
 use sha1::Sha1;
 use span_map::is_valid_part;
 use std::alloc::Global;
 
 /// The most bytes of a piece.
-const MAX_PIECE: i64 = 67_108_864;
+const MAX_PIECE: i64 = MAX_PIECE_LEN as i64;
 
 /// The bytes of a digest.
-const DIGEST: usize = 20;
+pub const DIGEST_LEN: usize = 20;
 
 #[tactic(auto, unfolding(crate::specs::Rules::file_of))]
 pub(crate) fn file_of(alloc: Global, bytes: &[u8]) -> Result<Ben, MetaErr>
@@ -58,7 +58,8 @@ pub(crate) fn info_in(file: &Ben) -> Result<&Ben, MetaErr>
 // The text of a valid part.
 #[tactic(auto, using(crate::proofs::Parts::part_found, crate::proofs::Parts::no_part, crate::proofs::Parts::no_text))]
 fn part_text(bytes: &[u8]) -> Option<&str>
-    ensures { option_map (λ part. part.now) result ≡ (if is_part bytes.now then Some bytes.now else None) }
+    ensures { option_map (λ part. part.now) result
+        ≡ (if is_part bytes.now then Some bytes.now else None) }
 {
     match std::str::from_utf8(bytes) {
         Ok(text) if is_valid_part(bytes) => Some(text),
@@ -90,11 +91,12 @@ pub(crate) fn piece_len_in(info: &Ben) -> Result<u32, MetaErr>
 }
 
 fn digests_of(alloc: Global, bytes: &[u8]) -> Result<Digests, NoMemory>
-    ensures { IfOk result (λ digests. digests ≡ specs.first_digests (length bytes.now / 20) bytes.now) }
+    ensures { IfOk result (λ digests. digests
+        ≡ specs.first_digests (length bytes.now / DIGEST_LEN) bytes.now) }
 {
     let mut digests = Digests::new(alloc);
     let mut rest = bytes;
-    while let Some((digest, behind)) = rest.split_first_chunk::<DIGEST>() {
+    while let Some((digest, behind)) = rest.split_first_chunk::<DIGEST_LEN>() {
         digests.push(*digest)?;
         rest = behind;
     }
@@ -109,7 +111,7 @@ pub(crate) fn digests_in(alloc: Global, info: &Ben) -> Result<Digests, MetaErr>
     ensures few { IfOk result (λ digests. length digests < 2 ^ 32) }
 {
     let bytes = string_in(info, Key::Pieces)?;
-    if bytes.len() % DIGEST != 0 {
+    if bytes.len() % DIGEST_LEN != 0 {
         return Err(MetaErr::BadKind(Key::Pieces));
     }
     Ok(digests_of(alloc, bytes)?)

@@ -14,13 +14,14 @@ use dl_kinds::{Text, Texts};
 use link_source::is_usable;
 use std::alloc::Global;
 
-/// The most seeds.
-const MOST: usize = 256;
+/// The most seeds of a metainfo file.
+pub const MAX_SEEDS: usize = 256;
 
 // The text of the URL of a mirror that can be asked.
 #[tactic(auto, using(crate::proofs::Usable::seed_found, crate::proofs::Usable::no_seed, crate::proofs::Usable::no_text))]
 fn seed_text(alloc: Global, url: &[u8]) -> Result<Option<&str>, NoMemory>
-    ensures { IfOk result (λ seed. option_map (λ text. text.now) seed ≡ (if is_seed url.now then Some url.now else None)) }
+    ensures { IfOk result (λ seed. option_map (λ text. text.now) seed
+        ≡ (if is_seed url.now then Some url.now else None)) }
 {
     match std::str::from_utf8(url) {
         Ok(text) => Ok(if is_usable(alloc, text)? {
@@ -35,10 +36,10 @@ fn seed_text(alloc: Global, url: &[u8]) -> Result<Option<&str>, NoMemory>
 // Adds the URL, if it is one, as long as there is room.
 #[tactic(auto, using(crate::proofs::Usable::full, crate::proofs::Usable::added, crate::proofs::Usable::not_added))]
 fn push_seed(alloc: Global, seeds: &mut Texts, url: &[u8]) -> Result<(), NoMemory>
-    requires { length seeds.old ≤ 256 }
-    ensures { OnOk result (seeds.new ≡ take 256 (seeds.old ++ filter is_seed (url.now ∷ []))) }
+    requires { length seeds.old ≤ MAX_SEEDS }
+    ensures { OnOk result (seeds.new ≡ take MAX_SEEDS (seeds.old ++ filter is_seed (url.now ∷ []))) }
 {
-    if seeds.len() == MOST {
+    if seeds.len() == MAX_SEEDS {
         return Ok(());
     }
     match seed_text(alloc, url)? {

@@ -1,6 +1,7 @@
 // The URL of a file at a web seed (BEP 19).
 ghost use Rattle.std.specs.Prelude.{◌≡◌, ◌++◌, ◌==◌, ◌<◌, ◌∷◌, Some, length, map, slice_get, IfOk, OnOk, string_bytes, if◌then◌else◌};
 ghost use Rattle.std.specs.List.{join_with_byte};
+ghost use Rattle.span_map.specs.declared.paths.TheConstants.{SLASH};
 ghost use Rattle.metainfo.specs.Urls as specs;
 
 use crate::NoMemory;
@@ -33,7 +34,8 @@ fn part(path: &Texts, place: usize) -> &str
 // Adds the part of this number, behind a slash if it isn't the first.
 fn push_part(url: &mut String, place: usize, part: &str) -> Result<(), NoMemory>
     ensures { OnOk result (string_bytes url.new
-        ≡ string_bytes url.old ++ (if place == 0 then specs.escaped part.now else 47 ∷ specs.escaped part.now)) }
+        ≡ string_bytes url.old
+        ++ (if place == 0 then specs.escaped part.now else SLASH ∷ specs.escaped part.now)) }
 {
     if place > 0 {
         url.push('/')?;
@@ -43,7 +45,7 @@ fn push_part(url: &mut String, place: usize, part: &str) -> Result<(), NoMemory>
 
 fn push_path(url: &mut String, path: &Texts) -> Result<(), NoMemory>
     ensures { OnOk result (string_bytes url.new
-        ≡ string_bytes url.old ++ join_with_byte 47 (map specs.escaped path.now)) }
+        ≡ string_bytes url.old ++ join_with_byte SLASH (map specs.escaped path.now)) }
 {
     for place in 0..path.len() {
         push_part(url, place, part(path, place))?;

@@ -1,9 +1,10 @@
 -- The head of a reply (RFC 9112 sections 2 to 5), by the grammar of httparse.
-use Rattle.std.specs.Prelude.{◌≡◌, ℕ, ◌≤◌, List, [], map, length, ⊤}
+use Rattle.std.specs.Prelude.{◌≡◌, ℕ, ◌<◌, ◌≤◌, List, [], map, length, ⊤}
 use Rattle.http_header.specs.FieldValue.{FieldValue, plain_value}
 use Rattle.http_header.specs.HeaderMap.{append_all}
 use Rattle.http_header.specs.Token.{lowercase}
 use Rattle.httparse.specs.Grammar.{Field, field_value, ResponseHead, print_response, ReadsResponse, HasNoResponse, MayBecomeResponse, status_code}
+use Rattle.range_http.specs.declared.head.TheConstants.{MAX_HEAD_BYTES, MAX_HEAD_FIELDS}
 use Rattle.range_http.specs.declared.head.Head.{Head}
 use Rattle.range_http.specs.declared.head.HeadRead.{HeadRead}
 use Rattle.range_http.specs.declared.head.HeadRead.TheVariants.{Whole, More, Bad, NoMemory}
@@ -16,19 +17,19 @@ entry_of field = (lowercase field.name, plain_value (field_value field))
 abbrev pub head_of : ResponseHead → Head
 head_of text = record { status = status_code text; minor = text.minor; fields = append_all [] (map entry_of text.fields) }
 
--- the bytes begin with a head of at most 65,536 bytes and 64 fields: what it says, and how many bytes it takes
+-- the bytes begin with a head of at most MAX_HEAD_BYTES bytes and MAX_HEAD_FIELDS fields: what it says, and how many bytes it takes
 pub record IsHead (bytes : List ℕ) (head : Head) (used : ℕ) : Type 0 where
   pub text : ResponseHead
   pub rest : List ℕ
   pub reads : ReadsResponse bytes text rest
   pub says : head ≡ head_of text
   pub takes : used ≡ length (print_response text)
-  pub bytes_fit : used ≤ 65536
-  pub fields_fit : length text.fields ≤ 64
+  pub bytes_fit : used ≤ MAX_HEAD_BYTES
+  pub fields_fit : length text.fields ≤ MAX_HEAD_FIELDS
 
 -- the bytes are no head yet, and can become one, of any number of fields
 pub record IsUnfinished (bytes : List ℕ) : Type 0 where
-  pub short : length bytes ≤ 65535
+  pub short : length bytes < MAX_HEAD_BYTES
   pub none : HasNoResponse bytes
   pub some : MayBecomeResponse bytes
 

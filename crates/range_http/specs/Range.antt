@@ -2,13 +2,14 @@
 use Rattle.std.specs.Prelude.{◌≡◌, ℕ, ◌+◌, ◌^◌, ◌<◌, ◌≤◌, Bool, true, false, ◌&&◌, List, ◌++◌, length, take, drop, codes, bytes_eq, nat_lt, nat_le, if◌then◌else◌, ◌==◌, position, Option, Some, None, option_map, IsTrue}
 use Rattle.std.specs.Str.{all_ascii_digits}
 use Rattle.std.specs.Str.Parse.{IsNumeral, digits_value}
+use Rattle.range_http.specs.declared.range.TheConstants.{DASH, NUMBER_LIMIT, SLASH}
 use Rattle.range_http.specs.declared.range.ContentRange.{ContentRange}
 
--- 1*DIGIT, a number below 2 ^ 63
+-- 1*DIGIT, a number below NUMBER_LIMIT
 pub record WritesNumber (text : List ℕ) (number : ℕ) : Type 0 where
   pub digits : IsNumeral 10 text
   pub value : digits_value 10 text ≡ number
-  pub small : number < 2 ^ 63
+  pub small : number < NUMBER_LIMIT
 
 -- first-pos "-" last-pos, in order
 pub record IsSpan (text : List ℕ) (span : ℕ × ℕ) : Type 0 where
@@ -48,9 +49,9 @@ abbrev pub ◌>>=◌ : {A B : Type 0} → Option A → (A → Option B) → Opti
 None >>= next = None
 (Some x) >>= next = next x
 
--- the text is one decimal digit or more, and they write a number below 2 ^ 63
+-- the text is one decimal digit or more, and they write a number below NUMBER_LIMIT
 abbrev pub is_number : List ℕ → Bool
-is_number text = nat_lt 0 (length text) && all_ascii_digits text && nat_lt (digits_value 10 text) (2 ^ 63)
+is_number text = nat_lt 0 (length text) && all_ascii_digits text && nat_lt (digits_value 10 text) NUMBER_LIMIT
 
 -- that number
 abbrev pub number_of : List ℕ → Option ℕ
@@ -71,7 +72,7 @@ starred read text = if bytes_eq text (codes "*") then Some None else option_map 
 -- the span that a text spells
 abbrev pub span_of : List ℕ → Option (ℕ × ℕ)
 span_of text = do
-  parts ← parts_at 45 text
+  parts ← parts_at DASH text
   first ← number_of parts.0
   last ← number_of parts.1
   if nat_le first last then Some (first, last) else None
@@ -79,7 +80,7 @@ span_of text = do
 -- the range that a text behind the unit spells
 abbrev pub unitless_range_of : List ℕ → Option ContentRange
 unitless_range_of text = do
-  parts ← parts_at 47 text
+  parts ← parts_at SLASH text
   span ← starred span_of parts.0
   total ← starred number_of parts.1
   if is_range span total then Some (record { span = span; total = total }) else None

@@ -16,7 +16,8 @@ fn ends_in_empty_line(bytes: &[u8]) -> bool
 /// reads each byte again at each call.
 pub fn has_empty_line(bytes: &[u8], from: usize) -> bool
     ensures line { IsTrue result ↔ HasEmptyLine bytes.now from }
-    ensures head { IsFalse result → (head : Head) (used : ℕ) → IsHead bytes.now head used → used ≤ from }
+    ensures head { IsFalse result
+        → (head : Head) (used : ℕ) → IsHead bytes.now head used → used ≤ from }
 {
     for last in from..bytes.len() {
         if ends_in_empty_line(&bytes[..last + 1]) {

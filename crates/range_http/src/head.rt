@@ -20,10 +20,10 @@ use httparse::{Error, Status};
 use std::alloc::Global;
 
 /// The most bytes of a head.
-const MAX_BYTES: usize = 65_536;
+pub const MAX_HEAD_BYTES: usize = 65_536;
 
 /// The most fields of a head.
-const MAX_FIELDS: usize = 64;
+pub const MAX_HEAD_FIELDS: usize = 64;
 
 /// The head of a reply: its status, and its fields, whose names are in lower case.
 #[derive(Debug, Drop)]
@@ -54,9 +54,10 @@ fn add_field(
 ) -> Result<(), NoMemory>
     requires name { IsFieldName name.now }
     requires value { IsFieldValue value.now }
-    requires names_fit { length fields.old < MAX_FIELDS }
-    requires values_fit { value_count fields.old < MAX_FIELDS }
-    ensures { OnOk result (fields.new ≡ append fields.old (lowercase name.now) (plain_value value.now)) }
+    requires names_fit { length fields.old < MAX_HEAD_FIELDS }
+    requires values_fit { value_count fields.old < MAX_HEAD_FIELDS }
+    ensures { OnOk result (fields.new
+        ≡ append fields.old (lowercase name.now) (plain_value value.now)) }
 {
     let name = match HeaderName::from_bytes(alloc, name) {
         Ok(name) => name,
@@ -82,7 +83,7 @@ fn fields_at(
 ) -> Result<HeaderMap<HeaderValue>, NoMemory>
     requires within { All (IsHeaderWithin (length bytes.now)) spans.now }
     requires fields { All (IsFieldAt bytes.now) spans.now }
-    requires few { length spans.now ≤ MAX_FIELDS }
+    requires few { length spans.now ≤ MAX_HEAD_FIELDS }
     ensures { IfOk result (λ fields. fields ≡ append_all [] (map (entry_at bytes.now) spans.now)) }
 {
     let mut fields = HeaderMap::new(alloc);
@@ -102,7 +103,7 @@ fn whole(alloc: Global, bytes: &[u8], spans: &[HeaderSpan], parts: &ResponseSpan
     ensures more { result ≡ More → IsUnfinished bytes.now }
     ensures bad { result ≡ Bad → IsNoHead bytes.now }
 {
-    if parts.len > MAX_BYTES || parts.headers > MAX_FIELDS {
+    if parts.len > MAX_HEAD_BYTES || parts.headers > MAX_HEAD_FIELDS {
         return HeadRead::Bad;
     }
     match fields_at(alloc, bytes, &spans[..parts.headers]) {
@@ -144,7 +145,7 @@ fn unfinished(bytes: &[u8]) -> HeadRead
     ensures more { result ≡ More → IsUnfinished bytes.now }
     ensures bad { result ≡ Bad → IsNoHead bytes.now }
 {
-    if bytes.len() < MAX_BYTES {
+    if bytes.len() < MAX_HEAD_BYTES {
         HeadRead::More
     } else {
         HeadRead::Bad
@@ -159,7 +160,7 @@ pub fn read_head(alloc: Global, bytes: &[u8]) -> HeadRead
     ensures more { result ≡ More → IsUnfinished bytes.now }
     ensures bad { result ≡ Bad → IsNoHead bytes.now }
 {
-    let mut spans = [EMPTY_HEADER_SPAN; MAX_FIELDS];
+    let mut spans = [EMPTY_HEADER_SPAN; MAX_HEAD_FIELDS];
     match parse_response(bytes, &mut spans) {
         Ok(Status::Complete(parts)) => whole(alloc, bytes, &spans, &parts),
         Ok(Status::Partial) => unfinished(bytes),

@@ -13,6 +13,6 @@ pub use asked::{Asked, request};
 pub use empty_line::has_empty_line;
 pub use fields::location;
 pub use framing::Framing;
-pub use head::{Head, HeadRead, head_laws, read_head};
+pub use head::{Head, HeadRead, MAX_HEAD_BYTES, MAX_HEAD_FIELDS, head_laws, read_head};
 pub use range::{ContentRange, range_laws, read_range};
 pub use verdict::{Verdict, classify};

@@ -6,7 +6,13 @@ ghost use Rattle.range_http.specs.Range.{number_of, parts_at, starred, span_of, 
 use dl_words::numeral_value;
 
 /// Numbers from here on are refused.
-const LIMIT: u64 = 1 << 63;
+pub const NUMBER_LIMIT: u64 = 1 << 63;
+
+/// What stands between the ends of a span.
+pub const DASH: u8 = b'-';
+
+/// What stands between the span and the length of the whole resource.
+pub const SLASH: u8 = b'/';
 
 /// What a Content-Range says: the first and the last byte of the part that follows, and the length of the whole
 /// resource. None stands for a star.
@@ -21,7 +27,7 @@ pub(crate) fn read_number(text: &[u8]) -> Option<u64>
     ensures { result ≡ number_of text.now }
 {
     let number = numeral_value(text)?;
-    if number < LIMIT { Some(number) } else { None }
+    if number < NUMBER_LIMIT { Some(number) } else { None }
 }
 
 fn place_of(text: &[u8], mark: u8) -> Option<usize>
@@ -45,7 +51,7 @@ fn read_span(text: &[u8]) -> Option<Option<(u64, u64)>>
     if text == b"*".as_slice() {
         return Some(None);
     }
-    let (first, last) = cut_at(text, b'-')?;
+    let (first, last) = cut_at(text, DASH)?;
     let first = read_number(first)?;
     let last = read_number(last)?;
     if first <= last {
@@ -78,7 +84,7 @@ fn fits(span: Option<(u64, u64)>, total: Option<u64>) -> bool
 fn read_unitless(text: &[u8]) -> Option<ContentRange>
     ensures { result ≡ unitless_range_of text.now }
 {
-    let (span, total) = cut_at(text, b'/')?;
+    let (span, total) = cut_at(text, SLASH)?;
     let span = read_span(span)?;
     let total = read_total(total)?;
     if fits(span, total) {

@@ -1,5 +1,5 @@
 -- Laws of what a stream answers.
-use Rattle.std.proofs.Common.{◌≡◌, ◌≢◌, ℕ, ◌+◌, ◌-◌, ◌≤◌, Bool, true, false, cond, List, [], ◌++◌, length, take, drop, refl, sym, ap, ap₂, subst, ◌∙◌, inl, inr, arith, zero-le}
+use Rattle.std.proofs.Common.{◌≡◌, ◌≢◌, ℕ, ◌≤◌, Bool, true, false, cond, List, [], ◌++◌, length, drop, refl, sym, ap, ap₂, subst, ◌∙◌, inl, inr, arith, zero-le}
 use Rattle.std.proofs.lemmas.Bool.{cases_Bool, eqb-true, or_right}
 use Rattle.std.proofs.lemmas.List.{length-take, drop-append-le}
 use Rattle.std.specs.Prelude.{◌||◌}
@@ -9,10 +9,10 @@ use Rattle.range_http.specs.declared.head.Head.{Head}
 use Rattle.range_http.specs.declared.verdict.Verdict.{Verdict}
 use Rattle.range_http.specs.declared.verdict.Verdict.TheVariants.{Part, Whole, Empty, WrongLength, Moved, NotFound, Refused}
 use Rattle.range_http.specs.Verdict.{verdict_of}
-use Rattle.reply_reader.specs.Heads.{HasFinalHead, IsHeadDue, HasNoFinalHead}
+use Rattle.reply_reader.specs.Heads.{HasFinalHead}
 use Rattle.reply_reader.specs.HeadLaws.{HasOneFinalHead, FinalHeadIsNotDue, FinalHeadIsThere, DueHeadMayCome, FinalHeadStays, NoFinalHeadStays, FinalHeadIsWithin}
 use Rattle.reply_reader.specs.Slices.{Slice, framing_told, came_of, has_come, goes_wrong, is_over, IsSliceWrong, IsSliceOver, GoesOn, SliceGoesOn}
-use Rattle.reply_reader.specs.Answers.{Turn, Due, Given, Lost, Answer, without_bytes, slice_answer, size_to, part_slice, whole_slice, answer_by, head_due, IsHeaded, Answers, IsAsked, AnswersOnce, AnswersStay, AnswersGrow, AnswersFit}
+use Rattle.reply_reader.specs.Answers.{Turn, Due, Given, Lost, Answer, slice_answer, size_to, part_slice, whole_slice, answer_by, head_due, IsHeaded, Answers, AnswersOnce, AnswersStay, AnswersGrow, AnswersFit}
 use Rattle.reply_reader.specs.declared.loss.Loss.TheVariants as losses
 use Rattle.reply_reader.proofs.VerdictLemmas.{PartFits}
 

@@ -1,16 +1,15 @@
 -- How much of what was asked for an answer gives.
-use Rattle.std.proofs.Common.{◌≡◌, ℕ, ◌+◌, ◌-◌, ◌≤◌, Bool, true, false, cond, List, [], length, drop, refl, sym, subst, ◌∙◌, inl, inr, arith, zero-le}
+use Rattle.std.proofs.Common.{◌≡◌, ℕ, ◌+◌, ◌-◌, ◌≤◌, Bool, true, false, cond, List, length, drop, refl, sym, subst, inl, inr, arith, zero-le}
 use Rattle.std.proofs.lemmas.Bool.{eqb-true, eq-eqb}
 use Rattle.std.proofs.lemmas.List.{length-take}
 use Rattle.std.specs.Prelude.{◌||◌}
 use Rattle.body_frames.specs.Bodies.{Framing, content_of}
-use Rattle.dl_kinds.specs.declared.marks.Code.{Code}
 use Rattle.range_http.specs.declared.asked.Asked.{Asked}
 use Rattle.range_http.specs.declared.head.Head.{Head}
 use Rattle.range_http.specs.declared.verdict.Verdict.{Verdict}
 use Rattle.range_http.specs.declared.verdict.Verdict.TheVariants.{Part, Whole, Empty, WrongLength, Moved, NotFound, Refused}
 use Rattle.range_http.specs.Verdict.{verdict_of}
-use Rattle.reply_reader.specs.Answers.{Turn, Due, Given, Away, Lost, Answer, without_bytes, slice_answer, size_to, part_slice, whole_slice, answer_by, head_due, Answers}
+use Rattle.reply_reader.specs.Answers.{Turn, Due, Given, Away, Lost, Answer, without_bytes, slice_answer, size_to, answer_by, head_due}
 use Rattle.reply_reader.specs.Fills.{AnswerFills, AnswersFill}
 use Rattle.reply_reader.specs.Slices.{Slice, framing_told, came_of, has_come, goes_wrong, is_over}
 use Rattle.reply_reader.specs.declared.loss.Loss.TheVariants as losses

@@ -1,13 +1,13 @@
 -- A slice as its stream goes on.
-use Rattle.std.proofs.Common.{◌≡◌, ℕ, ◌+◌, ◌-◌, ◌≤◌, ◌==◌, true, List, [], ◌++◌, length, take, drop, refl, sym, ap, ◌∙◌, inl, inr, arith, append-nil, append_assoc, length-append}
+use Rattle.std.proofs.Common.{◌≡◌, ℕ, ◌+◌, ◌-◌, ◌==◌, true, List, [], ◌++◌, length, take, drop, refl, sym, ap, ◌∙◌, inl, inr, arith, append-nil, length-append}
 use Rattle.std.proofs.lemmas.Bool.{cases_lt, and_parts, eqb-true}
 use Rattle.std.proofs.lemmas.List.{take_all, drop_all, drop-append-le, take-append-le, length-take, nil_from_length}
 use Rattle.std.proofs.Math.Seq.{take-append-add}
-use Rattle.std.specs.Prelude.{Bool, not, ◌&&◌}
+use Rattle.std.specs.Prelude.{not, ◌&&◌}
 use Rattle.body_frames.specs.Lines.{Standing, Whole, Short, Wrong}
 use Rattle.body_frames.specs.Bodies.{Framing, Length, Chunked, ToEnd, StreamBody, body_of, content_of, standing_of, IsOver, IsWrong}
 use Rattle.body_frames.specs.declared.BodyErr.{BodyErr}
-use Rattle.reply_reader.specs.Slices.{Slice, came_of, has_come, goes_wrong, is_over, is_wrong, is_whole, is_to_end, IsSliceWrong, IsSliceOver, GoesOn}
+use Rattle.reply_reader.specs.Slices.{Slice, came_of, has_come, is_wrong, is_whole, is_to_end, IsSliceWrong, IsSliceOver, GoesOn}
 
 -- the bytes that came stay, where more of the content comes
 slice_grows : (len skip : ℕ) (content more : List ℕ)

@@ -1,5 +1,5 @@
 -- Where a part lies: from the first asked byte on, and no further than the last.
-use Rattle.std.proofs.Common.{◌≡◌, ℕ, ◌-◌, ◌+◌, ◌≤◌, ◌==◌, List, [], ◌∷◌, refl, sym, subst, ◌∙◌, arith}
+use Rattle.std.proofs.Common.{◌≡◌, ℕ, ◌-◌, ◌+◌, ◌≤◌, ◌==◌, List, [], ◌∷◌, refl, subst, arith}
 use Rattle.std.proofs.lemmas.Bool.{cond_both, and_parts, eqb-true, leb-true}
 use Rattle.std.specs.Prelude.{Bool, true, false, ◌&&◌, ◌||◌, if◌then◌else◌, nat_le, Option, Some, None, codes}
 use Rattle.dl_kinds.specs.declared.marks.Code.{Code}

@@ -1,6 +1,5 @@
 -- What a loss is held against a mirror as: the exit statuses are those of the aria2 manual, section EXIT STATUS.
 use Rattle.std.specs.Prelude.{◌≡◌, ◌⊎◌, ℕ, Option, Some, None}
-use Rattle.dl_kinds.specs.declared.marks.Code.{Code}
 use Rattle.dl_kinds.specs.declared.marks.Mark.{Mark}
 use Rattle.reply_reader.specs.declared.loss.Loss.{Loss}
 use Rattle.reply_reader.specs.declared.loss.Loss.TheVariants.{Link, NotFound, Refused, BadReply, Length, Short, Redirects, NoMemory}

@@ -4,6 +4,7 @@ pub mod Courses
 pub mod Exchanges
 pub mod Fetched
 pub mod Honest
+pub mod Links
 pub mod Parts
 pub mod Plans
 pub mod Probes

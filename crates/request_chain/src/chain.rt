@@ -7,9 +7,9 @@ ghost use Rattle.span_map.specs.declared.jobs.JobPart.{JobPart};
 ghost use Rattle.reply_reader.specs.Heads.{HasFinalHead};
 ghost use Rattle.reply_reader.specs.Losses.{IsKnown};
 ghost use Rattle.reply_reader.specs.declared.loss.Loss.TheVariants.{Link};
-ghost use Rattle.request_chain.specs.Chains.{IsPart, IsChain, HasBrought, TellsLoss, Gains, ReadsChain, Loses};
+ghost use Rattle.request_chain.specs.Links.{CountsLinkLoss, IsHonestSince, StaysHonest};
+ghost use Rattle.request_chain.specs.Chains.{IsJobPart, IsChain, HasBrought, TellsLoss, Gains, ReadsChain, Loses};
 ghost use Rattle.request_chain.specs.Courses.{plan_now, IsAsking};
-ghost use Rattle.request_chain.specs.Honest.{AreHonest};
 ghost use Rattle.request_chain.specs.Plans.{Over, Done};
 ghost use Rattle.request_chain.specs.Stages.{IsReading, IsReadingHead, IsReadingContent, IsSent, steps_of};
 ghost use Rattle.request_chain.specs.Turns.{Steps, Receives, StepLoses, HeadIsRead, HasMoved, weight_of};
@@ -47,9 +47,9 @@ pub struct ChainRead {
 
 // Closes the newest stream where no more is asked.
 fn end<L: Links>(link: &mut L, done: bool)
-    ensures streams { IsTrue L.tells → L.streams link.new ≡ L.streams link.old }
-    ensures held { IsTrue L.tells → L.due link.new ≡ L.due link.old }
-    ensures kept { IsTrue L.tells → L.content link.new ≡ L.content link.old }
+    ensures streams { IsTrue L.tells → (L.state link.new).streams ≡ (L.state link.old).streams }
+    ensures held { IsTrue L.tells → (L.state link.new).due ≡ (L.state link.old).due }
+    ensures kept { IsTrue L.tells → (L.state link.new).content ≡ (L.state link.old).content }
     ensures faults { L.faults link.new ≡ L.faults link.old }
 {
     if done {
@@ -59,7 +59,7 @@ fn end<L: Links>(link: &mut L, done: bool)
 
 impl Chain {
     pub fn new(parts: JobParts, room: ChainRoom) -> Self
-        requires parts { All IsPart parts }
+        requires parts { All IsJobPart parts }
         ensures { IsChain parts [] [] result }
     {
         let mut room = room;
@@ -83,18 +83,20 @@ impl Chain {
     fn ask<L: Links>(&mut self, alloc: Global, link: &mut L) -> Result<(), Loss>
         requires asking { IsAsking (plan_now self.old.course) }
         requires none_open { self.old.stage ≡ Stage.Asking }
-        ensures asks { IsTrue L.tells → (parts : List JobPart) (before used : List Stream) (bytes : List ℕ)
-            → IsChain parts used bytes self.old → Gains before (L.streams link.old) used → MatchResult result
-            (λ _. Steps parts before used bytes (L.streams link.new) [] self.old.taken self.new)
-            (StepLoses parts before used bytes (L.streams link.new) [] self.old.taken (L.faults link.new) self.new) }
+        ensures asks { IsTrue L.tells
+            → (parts : List JobPart) (before used : List Stream) (bytes : List ℕ)
+            → IsChain parts used bytes self.old → Gains before (L.state link.old).streams used → MatchResult result
+            (λ _. Steps parts before used bytes (L.state link.new).streams [] self.old.taken self.new)
+            (StepLoses parts before used bytes (L.state link.new).streams [] self.old.taken (L.faults link.new) self.new) }
         ensures course { self.new.course ≡ self.old.course }
         ensures taken { self.new.taken ≡ self.old.taken }
         ensures smaller { OnOk result (weight_of self.new < weight_of self.old) }
-        ensures link { IfErr result (λ loss. (count : ℕ) → loss ≡ Link count → Rose (L.faults link.old) (L.faults link.new)) }
+        ensures link { IfErr result (CountsLinkLoss (L.faults link.old) (L.faults link.new)) }
         ensures known { IfErr result IsKnown }
-        ensures honest { IsTrue L.tells → (L.content link.old).bad ≡ [] → (before : List Stream)
-            → AreHonest (L.content link.old) before (L.streams link.old) (L.due link.old)
-            → (L.content link.new ≡ L.content link.old) × AreHonest (L.content link.old) before (L.streams link.new) (L.due link.new) }
+        ensures honest { IsTrue L.tells
+            → (L.state link.old).content.bad ≡ [] → (before : List Stream)
+            → IsHonestSince before (L.state link.old)
+            → StaysHonest before (L.state link.old) (L.state link.new) }
         ensures later { L.faults link.old ≤ L.faults link.new }
     {
         let asked = self.course.asked();
@@ -108,22 +110,24 @@ impl Chain {
         requires sent { self.old.stage ≢ Stage.Asking }
         requires none_waits { self.old.room.inbox ≡ [] }
         requires more { self.old.taken < allow }
-        ensures receives { IsTrue L.tells → (parts : List JobPart) (before used : List Stream) (bytes : List ℕ)
-            → IsChain parts used bytes self.old → Gains before (L.streams link.old) used → MatchResult result
-            (λ _. Receives parts before used bytes (L.streams link.new) self.old.taken self.new)
-            (StepLoses parts before used bytes (L.streams link.new) [] self.old.taken (L.faults link.new) self.new) }
+        ensures receives { IsTrue L.tells
+            → (parts : List JobPart) (before used : List Stream) (bytes : List ℕ)
+            → IsChain parts used bytes self.old → Gains before (L.state link.old).streams used → MatchResult result
+            (λ _. Receives parts before used bytes (L.state link.new).streams self.old.taken self.new)
+            (StepLoses parts before used bytes (L.state link.new).streams [] self.old.taken (L.faults link.new) self.new) }
         ensures course { self.new.course ≡ self.old.course }
         ensures stage { self.new.stage ≡ self.old.stage }
         ensures taken { OnOk result (self.new.taken ≡ self.old.taken + length self.new.room.inbox) }
         ensures same { IfErr result (λ _. self.new.taken ≡ self.old.taken) }
         ensures some { OnOk result (0 < length self.new.room.inbox) }
         ensures few { self.new.taken ≤ allow }
-        ensures link { IfErr result (λ loss. (count : ℕ) → loss ≡ Link count → Rose (L.faults link.old) (L.faults link.new)) }
+        ensures link { IfErr result (CountsLinkLoss (L.faults link.old) (L.faults link.new)) }
         ensures known { IfErr result IsKnown }
-        ensures honest { IsTrue L.tells → (parts : List JobPart) (before used : List Stream) (bytes : List ℕ)
-            → IsChain parts used bytes self.old → Gains before (L.streams link.old) used
-            → AreHonest (L.content link.old) before (L.streams link.old) (L.due link.old)
-            → (L.content link.new ≡ L.content link.old) × AreHonest (L.content link.old) before (L.streams link.new) (L.due link.new) }
+        ensures honest { IsTrue L.tells
+            → (parts : List JobPart) (before used : List Stream) (bytes : List ℕ)
+            → IsChain parts used bytes self.old → Gains before (L.state link.old).streams used
+            → IsHonestSince before (L.state link.old)
+            → StaysHonest before (L.state link.old) (L.state link.new) }
         ensures later { L.faults link.old ≤ L.faults link.new }
     {
         match self.room.inbox.refill(link, allow - self.taken) {
@@ -307,21 +311,23 @@ impl Chain {
         requires room { vec_len out.old + room ≤ vec_capacity out.old }
         requires few { self.old.taken ≤ allow }
         requires more { (self.old.taken < allow) ⊎ (0 < length self.old.room.inbox) }
-        ensures steps { IsTrue L.tells → (parts : List JobPart) (before used : List Stream) (bytes : List ℕ)
-            → IsChain parts used bytes self.old → Gains before (L.streams link.old) used
+        ensures steps { IsTrue L.tells
+            → (parts : List JobPart) (before used : List Stream) (bytes : List ℕ)
+            → IsChain parts used bytes self.old → Gains before (L.state link.old).streams used
             → (added : List ℕ) × (out.new.items ≡ out.old.items ++ added) × MatchResult result
-            (λ _. Steps parts before used bytes (L.streams link.new) added self.old.taken self.new)
-            (StepLoses parts before used bytes (L.streams link.new) added self.old.taken (L.faults link.new) self.new) }
+            (λ _. Steps parts before used bytes (L.state link.new).streams added self.old.taken self.new)
+            (StepLoses parts before used bytes (L.state link.new).streams added self.old.taken (L.faults link.new) self.new) }
         ensures len { vec_len out.new ≤ vec_len out.old + room }
         ensures capacity { vec_capacity out.old ≤ vec_capacity out.new }
         ensures few { self.new.taken ≤ allow }
         ensures smaller { OnOk result (weight_of self.new + 3 * (allow - self.new.taken) < weight_of self.old + 3 * (allow - self.old.taken)) }
-        ensures link { IfErr result (λ loss. (count : ℕ) → loss ≡ Link count → Rose (L.faults link.old) (L.faults link.new)) }
+        ensures link { IfErr result (CountsLinkLoss (L.faults link.old) (L.faults link.new)) }
         ensures known { IfErr result IsKnown }
-        ensures honest { IsTrue L.tells → (L.content link.old).bad ≡ [] → (parts : List JobPart) (before used : List Stream) (bytes : List ℕ)
-            → IsChain parts used bytes self.old → Gains before (L.streams link.old) used
-            → AreHonest (L.content link.old) before (L.streams link.old) (L.due link.old)
-            → (L.content link.new ≡ L.content link.old) × AreHonest (L.content link.old) before (L.streams link.new) (L.due link.new) }
+        ensures honest { IsTrue L.tells → (L.state link.old).content.bad ≡ []
+            → (parts : List JobPart) (before used : List Stream) (bytes : List ℕ)
+            → IsChain parts used bytes self.old → Gains before (L.state link.old).streams used
+            → IsHonestSince before (L.state link.old)
+            → StaysHonest before (L.state link.old) (L.state link.new) }
         ensures later { L.faults link.old ≤ L.faults link.new }
     {
         if self.stage.is_asking() {
@@ -360,11 +366,12 @@ impl Chain {
         requires some_room { 0 < room }
         requires room { vec_len out.old + room ≤ vec_capacity out.old }
         requires some { 0 < allow }
-        ensures reads { IsTrue L.tells → (parts : List JobPart) (before used : List Stream) (bytes : List ℕ)
-            → IsChain parts used bytes self.old → Gains before (L.streams link.old) used
+        ensures reads { IsTrue L.tells
+            → (parts : List JobPart) (before used : List Stream) (bytes : List ℕ)
+            → IsChain parts used bytes self.old → Gains before (L.state link.old).streams used
             → (added : List ℕ) × (out.new.items ≡ out.old.items ++ added) × MatchResult result
-            (λ read. ReadsChain parts before used bytes (L.streams link.new) added room allow read self.new)
-            (Loses parts before used bytes (L.streams link.new) added allow (L.faults link.new) self.new) }
+            (λ read. ReadsChain parts before used bytes (L.state link.new).streams added room allow read self.new)
+            (Loses parts before used bytes (L.state link.new).streams added allow (L.faults link.new) self.new) }
 
         // Also of a link that tells nothing.
         ensures full { IfOk result (λ read. (read.done ≡ true) ⊎ (vec_len out.old + room ≤ vec_len out.new) ⊎ (read.taken ≡ allow)) }
@@ -372,12 +379,13 @@ impl Chain {
         ensures few { self.new.taken ≤ allow }
         ensures len { vec_len out.new ≤ vec_len out.old + room }
         ensures capacity { vec_capacity out.old ≤ vec_capacity out.new }
-        ensures link { IfErr result (λ loss. (count : ℕ) → loss ≡ Link count → Rose (L.faults link.old) (L.faults link.new)) }
+        ensures link { IfErr result (CountsLinkLoss (L.faults link.old) (L.faults link.new)) }
         ensures known { IfErr result IsKnown }
-        ensures honest { IsTrue L.tells → (L.content link.old).bad ≡ [] → (parts : List JobPart) (before used : List Stream) (bytes : List ℕ)
-            → IsChain parts used bytes self.old → Gains before (L.streams link.old) used
-            → AreHonest (L.content link.old) before (L.streams link.old) (L.due link.old)
-            → (L.content link.new ≡ L.content link.old) × AreHonest (L.content link.old) before (L.streams link.new) (L.due link.new) }
+        ensures honest { IsTrue L.tells → (L.state link.old).content.bad ≡ []
+            → (parts : List JobPart) (before used : List Stream) (bytes : List ℕ)
+            → IsChain parts used bytes self.old → Gains before (L.state link.old).streams used
+            → IsHonestSince before (L.state link.old)
+            → StaysHonest before (L.state link.old) (L.state link.new) }
         ensures later { L.faults link.old ≤ L.faults link.new }
     {
         answers_laws();

@@ -5,8 +5,8 @@ ghost use Rattle.reply_reader.specs.Losses.{IsKnown};
 ghost use Rattle.reply_reader.specs.declared.loss.Loss.TheVariants.{Link, NoMemory};
 ghost use Rattle.link_source.specs.Endpoint.{IsUsable};
 ghost use Rattle.link_source.specs.Streams.{Stream};
+ghost use Rattle.request_chain.specs.Links.{CountsLinkLoss, IsHonestSince, StaysHonest};
 ghost use Rattle.request_chain.specs.Exchanges.{LeadsTo, request_for};
-ghost use Rattle.request_chain.specs.Honest.{AreHonest};
 ghost use Rattle.request_chain.specs.Plans.{unusable};
 ghost use Rattle.request_chain.specs.Sending.{loss_by, IsOpened, IsUnopened};
 
@@ -64,14 +64,15 @@ pub(crate) fn send_request<L: Links>(
     status: u16,
     asked: &Asked,
 ) -> Result<(), Loss>
-    ensures sent { OnOk result (IsTrue L.tells → IsOpened url.now asked.now (L.streams link.old) (L.streams link.new)) }
+    ensures sent { OnOk result (IsTrue L.tells
+        → IsOpened url.now asked.now (L.state link.old).streams (L.state link.new).streams) }
     ensures lost { IfErr result (λ loss. IsTrue L.tells →
-        IsUnopened url.now status (L.streams link.old) (L.streams link.new) (L.faults link.new) loss) }
-    ensures link { IfErr result (λ loss. (count : ℕ) → loss ≡ Link count → Rose (L.faults link.old) (L.faults link.new)) }
+        IsUnopened url.now status (L.state link.old).streams (L.state link.new).streams (L.faults link.new) loss) }
+    ensures link { IfErr result (CountsLinkLoss (L.faults link.old) (L.faults link.new)) }
     ensures known { IfErr result IsKnown }
-    ensures honest { IsTrue L.tells → (L.content link.old).bad ≡ [] → (before : List Stream)
-        → AreHonest (L.content link.old) before (L.streams link.old) (L.due link.old)
-        → (L.content link.new ≡ L.content link.old) × AreHonest (L.content link.old) before (L.streams link.new) (L.due link.new) }
+    ensures honest { IsTrue L.tells → (L.state link.old).content.bad ≡ [] → (before : List Stream)
+        → IsHonestSince before (L.state link.old)
+        → StaysHonest before (L.state link.old) (L.state link.new) }
     ensures later { L.faults link.old ≤ L.faults link.new }
 {
     let endpoint = endpoint(alloc, url, status)?;

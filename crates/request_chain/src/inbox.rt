@@ -37,11 +37,14 @@ fn receive<L: Links>(link: &mut L, block: &mut [u8], most: usize) -> Result<usiz
     requires some { 0 < most }
     requires room { most ≤ length block.old }
     ensures most { IfOk result (λ count. count ≤ most) }
-    ensures received { IfOk result (λ count. IsTrue L.tells → L.streams link.new ≡ with_received (take count block.new) (L.streams link.old)) }
-    ensures given { IfOk result (λ count. IsTrue L.tells → TakesDue (L.due link.old) count block.new (L.due link.new)) }
-    ensures failed { OnErr result (IsTrue L.tells → L.streams link.new ≡ L.streams link.old) }
-    ensures held { OnErr result (IsTrue L.tells → L.due link.new ≡ L.due link.old) }
-    ensures kept { IsTrue L.tells → L.content link.new ≡ L.content link.old }
+    ensures received { IfOk result (λ count. IsTrue L.tells
+        → (L.state link.new).streams ≡ with_received (take count block.new) (L.state link.old).streams) }
+    ensures given { IfOk result (λ count. IsTrue L.tells
+        → TakesDue (L.state link.old).due count block.new (L.state link.new).due) }
+    ensures failed { OnErr result (IsTrue L.tells
+        → (L.state link.new).streams ≡ (L.state link.old).streams) }
+    ensures held { OnErr result (IsTrue L.tells → (L.state link.new).due ≡ (L.state link.old).due) }
+    ensures kept { IsTrue L.tells → (L.state link.new).content ≡ (L.state link.old).content }
     ensures cause { HasCause (L.faults link.old) (L.faults link.new) result }
 {
     link.recv(&mut block[..most])
@@ -69,11 +72,15 @@ impl Inbox {
         requires { 0 < most }
         ensures most { IfOk result (λ count. count ≤ most) }
         ensures count { IfOk result (λ count. count ≡ length self.new) }
-        ensures received { IfOk result (λ _. IsTrue L.tells → L.streams link.new ≡ with_received self.new (L.streams link.old)) }
-        ensures given { IfOk result (λ count. IsTrue L.tells → TakesDue (L.due link.old) count self.new (L.due link.new)) }
-        ensures failed { OnErr result (IsTrue L.tells → L.streams link.new ≡ L.streams link.old) }
-        ensures held { OnErr result (IsTrue L.tells → L.due link.new ≡ L.due link.old) }
-        ensures kept { IsTrue L.tells → L.content link.new ≡ L.content link.old }
+        ensures received { IfOk result (λ _. IsTrue L.tells
+            → (L.state link.new).streams ≡ with_received self.new (L.state link.old).streams) }
+        ensures given { IfOk result (λ count. IsTrue L.tells
+            → TakesDue (L.state link.old).due count self.new (L.state link.new).due) }
+        ensures failed { OnErr result (IsTrue L.tells
+            → (L.state link.new).streams ≡ (L.state link.old).streams) }
+        ensures held { OnErr result (IsTrue L.tells
+            → (L.state link.new).due ≡ (L.state link.old).due) }
+        ensures kept { IsTrue L.tells → (L.state link.new).content ≡ (L.state link.old).content }
         ensures cause { HasCause (L.faults link.old) (L.faults link.new) result }
     {
         self.ring.clear();

@@ -7,6 +7,7 @@ ghost use Rattle.range_http.specs.Verdict.{verdict_of};
 ghost use Rattle.range_http.specs.declared.verdict.Verdict.TheVariants.{Moved as HasMoved};
 ghost use Rattle.reply_reader.specs.Heads.{IsAtHead, IsHeadDue, HasNoFinalHead};
 ghost use Rattle.reply_reader.specs.declared.loss.Loss.TheVariants.{Link, NoMemory, BadReply};
+ghost use Rattle.request_chain.specs.Links.{CountsLinkLoss};
 ghost use Rattle.request_chain.specs.Chains.{Gains};
 ghost use Rattle.request_chain.specs.Contents.{IsOwn};
 ghost use Rattle.request_chain.specs.Plans.{unusable};
@@ -87,11 +88,12 @@ fn receive<L: Links>(
     most: u32,
 ) -> Result<u32, Loss>
     requires { 0 < most }
-    ensures receives { IsTrue L.tells → (url : List ℕ) (before : List Stream) → Awaits url before (L.streams link.old) most [] reader.now
-        → MatchResult result (λ count. Awaits url before (L.streams link.new) (most - count) inbox.new reader.now)
-        (HeadLost url before (L.streams link.new) (L.faults link.new)) }
+    ensures receives { IsTrue L.tells
+        → (url : List ℕ) (before : List Stream) → Awaits url before (L.state link.old).streams most [] reader.now
+        → MatchResult result (λ count. Awaits url before (L.state link.new).streams (most - count) inbox.new reader.now)
+        (HeadLost url before (L.state link.new).streams (L.faults link.new)) }
     ensures some { IfOk result (λ count. (0 < count) × (count ≤ most)) }
-    ensures link { IfErr result (λ loss. (count : ℕ) → loss ≡ Link count → Rose (L.faults link.old) (L.faults link.new)) }
+    ensures link { IfErr result (CountsLinkLoss (L.faults link.old) (L.faults link.new)) }
     ensures later { L.faults link.old ≤ L.faults link.new }
 {
     match inbox.refill(link, most) {
@@ -109,10 +111,11 @@ fn receive<L: Links>(
 
 // Receives the heads of a reply, and gives the final one.
 fn receive_head<L: Links>(alloc: Global, link: &mut L, inbox: &mut Inbox) -> Result<Head, Loss>
-    ensures heads { IsTrue L.tells → (url : List ℕ) (before : List Stream) → IsOpened url probe_asked before (L.streams link.old)
-        → MatchResult result (HasHead url before (L.streams link.new))
-        (HeadLost url before (L.streams link.new) (L.faults link.new)) }
-    ensures link { IfErr result (λ loss. (count : ℕ) → loss ≡ Link count → Rose (L.faults link.old) (L.faults link.new)) }
+    ensures heads { IsTrue L.tells
+        → (url : List ℕ) (before : List Stream) → IsOpened url probe_asked before (L.state link.old).streams
+        → MatchResult result (HasHead url before (L.state link.new).streams)
+        (HeadLost url before (L.state link.new).streams (L.faults link.new)) }
+    ensures link { IfErr result (CountsLinkLoss (L.faults link.old) (L.faults link.new)) }
     ensures later { L.faults link.old ≤ L.faults link.new }
 {
     let mut reader = HeadReader::new(alloc);
@@ -133,10 +136,11 @@ fn receive_head<L: Links>(alloc: Global, link: &mut L, inbox: &mut Inbox) -> Res
 
 // Asks for the first byte, and gives the final head of the reply.
 fn ask<L: Links>(alloc: Global, link: &mut L, inbox: &mut Inbox, hop: &Moved) -> Result<Head, Loss>
-    ensures asks { IsTrue L.tells → MatchResult result (HasHead hop.now.url (L.streams link.old) (L.streams link.new))
-        (λ loss. IsUnopened hop.now.url hop.now.status (L.streams link.old) (L.streams link.new) (L.faults link.new) loss
-        ⊎ HeadLost hop.now.url (L.streams link.old) (L.streams link.new) (L.faults link.new) loss) }
-    ensures link { IfErr result (λ loss. (count : ℕ) → loss ≡ Link count → Rose (L.faults link.old) (L.faults link.new)) }
+    ensures asks { IsTrue L.tells
+        → MatchResult result (HasHead hop.now.url (L.state link.old).streams (L.state link.new).streams)
+        (λ loss. IsUnopened hop.now.url hop.now.status (L.state link.old).streams (L.state link.new).streams (L.faults link.new) loss
+        ⊎ HeadLost hop.now.url (L.state link.old).streams (L.state link.new).streams (L.faults link.new) loss) }
+    ensures link { IfErr result (CountsLinkLoss (L.faults link.old) (L.faults link.new)) }
     ensures later { L.faults link.old ≤ L.faults link.new }
 {
     let asked = Asked {
@@ -175,10 +179,11 @@ pub fn probe<L: Links>(
     url: &str,
     room: &mut ChainRoom,
 ) -> Result<u64, Loss>
-    ensures probes { IsTrue L.tells → (used : List Stream) × Gains (L.streams link.old) (L.streams link.new) used × MatchResult result
+    ensures probes { IsTrue L.tells
+        → (used : List Stream) × Gains (L.state link.old).streams (L.state link.new).streams used × MatchResult result
         (λ total. Probed url.now used (Told total))
         (TellsProbeLoss url.now used (L.faults link.new)) }
-    ensures link { IfErr result (λ loss. (count : ℕ) → loss ≡ Link count → Rose (L.faults link.old) (L.faults link.new)) }
+    ensures link { IfErr result (CountsLinkLoss (L.faults link.old) (L.faults link.new)) }
     ensures later { L.faults link.old ≤ L.faults link.new }
 {
     final_head_laws();

@@ -1,5 +1,6 @@
 -- Layouts (BEP 3, `files`): files whose bytes, one file after the other, are a payload.
-use Rattle.std.specs.Prelude.{◌≡◌, ◌≢◌, ◌≤◌, ◌<◌, ◌^◌, ℕ, List, [], length, take, slice_index, sum_by, slice_get, All, Any, AllPairs, IsSomeAnd}
+use Rattle.std.specs.Prelude.{◌≡◌, ◌≢◌, ◌≤◌, ◌<◌, ◌+◌, ◌^◌, ℕ, List, [], length, take, slice_index, sum_by, slice_get, All, Any, AllPairs, IsSomeAnd}
+use Rattle.dl_kinds.specs.declared.plan.TheConstants.{MAX_PAYLOAD_LEN}
 use Rattle.span_map.specs.Paths.{IsPath, Clash}
 use Rattle.span_map.specs.declared.files.FileLen.{FileLen}
 use Rattle.span_map.specs.declared.files.LayoutErr.{LayoutErr}
@@ -13,6 +14,10 @@ total_of files = sum_by (λ file. file.len) files
 abbrev pub AreApart : List FileLen → Type 0
 AreApart files = AllPairs (λ a b. ¬ Clash a.path b.path) files
 
+-- the path of this file is the first that clashes with an earlier one
+abbrev pub IsFirstClash : List FileLen → ℕ → Type 0
+IsFirstClash files i = (i < length files) × AreApart (take i files) × (AreApart (take (i + 1) files) → ⊥)
+
 -- the paths are valid, and no two of them clash
 pub record HavePaths (files : List FileLen) : Type 0 where
   pub valid : All (λ file. IsPath file.path) files
@@ -22,7 +27,7 @@ pub record HavePaths (files : List FileLen) : Type 0 where
 pub record IsLayout (files : List FileLen) : Type 0 where
   pub some : files ≢ []
   pub paths : HavePaths files
-  pub bounded : total_of files ≤ 4398046511104
+  pub bounded : total_of files ≤ MAX_PAYLOAD_LEN
 
 -- Why files are no layout, the first that fits of: there is none; a file, the first, whose path is bad or clashes with
 -- an earlier one; they are too long together.
@@ -34,7 +39,7 @@ IsRefused files (Repeated i) =
     HavePaths (take i files)
     × IsSomeAnd (slice_get files i)
     (λ file. IsPath file.path × Any (λ earlier. Clash earlier.path file.path) (take i files))
-IsRefused files TooLong = (files ≢ []) × HavePaths files × (4398046511104 < total_of files)
+IsRefused files TooLong = (files ≢ []) × HavePaths files × (MAX_PAYLOAD_LEN < total_of files)
 IsRefused files NoMemory = ⊥
 
 -- where each file begins in the payload

@@ -1,3 +1,4 @@
+pub mod Jobs
 pub mod Keys
 pub mod Layout
 pub mod Paths

@@ -1,6 +1,7 @@
 // Layouts, and the parts of their files that a slice of the payload is.
 ghost use Rattle.std.specs.Prelude.{◌≡◌, ◌≢◌, ◌≤◌, ◌<◌, ◌+◌, ◌-◌, ◌^◌, ◌⊎◌, min, length, IfOk, OnOk, IfErr, All, sum_by};
 ghost use Rattle.std.specs.Option.{option_to_list};
+ghost use Rattle.dl_kinds.specs.declared.plan.TheConstants.{MAX_PAYLOAD_LEN};
 ghost use Rattle.span_map.specs.declared.files.LayoutErr.{LayoutErr};
 ghost use Rattle.span_map.specs.declared.files.LayoutErr.TheVariants.{NoMemory};
 ghost use Rattle.span_map.specs.Layout.{total_of, IsLayout, IsRefused, AreStarts};
@@ -8,11 +9,9 @@ ghost use Rattle.span_map.specs.Slices.{part_of, slice_of, IsPart, PartsHoldSlic
 
 use crate::paths::check_paths;
 use crate::{FileLen, LayoutErr, Part};
+use dl_kinds::MAX_PAYLOAD_LEN;
 use std::alloc::{AllocError, Global};
 use std::marker::Model;
-
-/// The most bytes of a payload.
-const MAX_TOTAL: u64 = 4_398_046_511_104;
 
 /// The most files of a layout, since a part has a number of 32 bits for its file.
 const MAX_FILES: usize = 4_294_967_295;
@@ -96,7 +95,7 @@ impl Model for Layout {
 impl Layout {
     /// The layout of these files, in this order. Refused are, in this order: no file; the first file whose path is
     /// bad (no part, more than 64 parts, or a part that `is_valid_part` refuses), or is that of an earlier file, a
-    /// folder on the way to one, or has one for a folder; files of more than 4,398,046,511,104 bytes together. Room
+    /// folder on the way to one, or has one for a folder; files of more than `MAX_PAYLOAD_LEN` bytes together. Room
     /// for more than 4,294,967,295 files is never there.
     pub fn new(alloc: Global, files: Vec<FileLen>) -> Result<Layout, LayoutErr>
         ensures layout { IfOk result (λ layout. layout ≡ files.items) }
@@ -113,7 +112,7 @@ impl Layout {
         }
         check_paths(alloc, &files)?;
         let total = total_len(&files);
-        if total > MAX_TOTAL {
+        if total > MAX_PAYLOAD_LEN {
             return Err(LayoutErr::TooLong);
         }
         let starts = starts_of(alloc, &files)?;
@@ -136,7 +135,7 @@ impl Layout {
     /// The length of the payload.
     pub fn total(&self) -> u64
         ensures value { result ≡ total_of self.now }
-        ensures bound { result ≤ 4398046511104 }
+        ensures bound { result ≤ MAX_PAYLOAD_LEN }
     {
         self.total
     }

@@ -10,5 +10,5 @@ mod paths;
 pub use files::{FileLen, LayoutErr, Part};
 pub use jobs::{Job, JobPart, JobParts};
 pub use layout::{Layout, parts_hold_slices};
-pub use paths::is_valid_part;
+pub use paths::{MAX_PART_LEN, MAX_PARTS, NUL, SLASH, is_valid_part};
 pub use std::alloc::AllocError as NoMemory;

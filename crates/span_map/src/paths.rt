@@ -3,11 +3,23 @@ ghost use Rattle.std.specs.Prelude.{◌≡◌, ◌↔◌, ◌≤◌, ◌<◌, �
 ghost use Rattle.std.specs.List.{AllAdjacentBelow};
 ghost use Rattle.span_map.specs.Paths.{IsValidPart, IsPath, Begins, Clash};
 ghost use Rattle.span_map.specs.Keys.{key_of, SomeNext};
-ghost use Rattle.span_map.specs.Layout.{HavePaths, IsRefused, AreApart};
+ghost use Rattle.span_map.specs.Layout.{HavePaths, IsRefused, AreApart, IsFirstClash};
 
 use crate::{FileLen, LayoutErr};
 use dl_kinds::Texts;
 use std::alloc::{AllocError, Global};
+
+/// The most bytes of a part of a path.
+pub const MAX_PART_LEN: usize = 255;
+
+/// The most parts of a path.
+pub const MAX_PARTS: usize = 64;
+
+/// What stands between the parts of a path, and can't stand within one.
+pub const SLASH: u8 = b'/';
+
+/// What ends a name in the calls of a system, and can't stand within one.
+pub const NUL: u8 = 0;
 
 /// Whether these bytes may be the name of a folder or a file in a path: UTF-8, 1 to 255 bytes, not `.` or `..`, and
 /// without `/` and NUL.
@@ -16,11 +28,11 @@ pub fn is_valid_part(bytes: &[u8]) -> bool
 {
     std::str::from_utf8(bytes).is_ok()
         && !bytes.is_empty()
-        && bytes.len() <= 255
+        && bytes.len() <= MAX_PART_LEN
         && bytes != b".".as_slice()
         && bytes != b"..".as_slice()
-        && !bytes.contains(&b'/')
-        && !bytes.contains(&0)
+        && !bytes.contains(&SLASH)
+        && !bytes.contains(&NUL)
 }
 
 fn part(path: &Texts, place: usize) -> &[u8]
@@ -33,7 +45,7 @@ fn part(path: &Texts, place: usize) -> &[u8]
 fn is_path(path: &Texts) -> bool
     ensures { IsTrue result ↔ IsPath path.now }
 {
-    if path.is_empty() || path.len() > 64 {
+    if path.is_empty() || path.len() > MAX_PARTS {
         return false;
     }
     for place in 0..path.len() {
@@ -50,13 +62,14 @@ fn key(alloc: Global, path: &Texts) -> Result<Vec<u8>, AllocError>
     let mut key = Vec::new(alloc);
     for place in 0..path.len() {
         key.extend_from_slice(part(path, place))?;
-        key.push(0)?;
+        key.push(NUL)?;
     }
     Ok(key)
 }
 
 fn keys(alloc: Global, files: &[FileLen]) -> Result<Vec<Vec<u8>>, AllocError>
-    ensures { IfOk result (λ keys. map (λ key. key.items) keys.items ≡ map (λ file. key_of file.path) files.now) }
+    ensures { IfOk result (λ keys. map (λ key. key.items) keys.items
+        ≡ map (λ file. key_of file.path) files.now) }
 {
     let mut keys = Vec::with_capacity(alloc, files.len())?;
     for file in files {
@@ -92,8 +105,7 @@ fn are_apart(alloc: Global, files: &[FileLen]) -> Result<bool, AllocError>
 // The first file whose path clashes with an earlier one.
 fn first_clash(alloc: Global, files: &[FileLen]) -> Result<Option<usize>, AllocError>
     requires { All (λ file. IsPath file.path) files.now }
-    ensures { IfOk result (λ found. MatchOption found (AreApart files.now) (λ i.
-        (i < length files.now) × AreApart (take i files.now) × (AreApart (take (i + 1) files.now) → ⊥))) }
+    ensures { IfOk result (λ found. MatchOption found (AreApart files.now) (IsFirstClash files.now)) }
 {
     if are_apart(alloc, files)? {
         return Ok(None);
@@ -115,7 +127,8 @@ fn first_clash(alloc: Global, files: &[FileLen]) -> Result<Option<usize>, AllocE
 fn valid_len(files: &[FileLen]) -> usize
     ensures within { result ≤ length files.now }
     ensures valid { All (λ file. IsPath file.path) (take result files.now) }
-    ensures stops { result < length files.now → IsSomeAnd (slice_get files.now result) (λ file. ¬ IsPath file.path) }
+    ensures stops { result < length files.now
+        → IsSomeAnd (slice_get files.now result) (λ file. ¬ IsPath file.path) }
 {
     for (count, file) in files.iter().enumerate() {
         if !is_path(&file.path) {
@@ -129,7 +142,8 @@ fn valid_len(files: &[FileLen]) -> usize
 pub(crate) fn check_paths(alloc: Global, files: &[FileLen]) -> Result<(), LayoutErr>
     requires { length files.now < 2 ^ 32 }
     ensures ok { OnOk result (HavePaths files.now) }
-    ensures refused { IfErr result (λ fault. fault ≢ LayoutErr.NoMemory → IsRefused files.now fault) }
+    ensures refused { IfErr result (λ fault. fault ≢ LayoutErr.NoMemory
+        → IsRefused files.now fault) }
 {
     let valid = valid_len(files);
     if let Some(place) = first_clash(alloc, &files[..valid])? {

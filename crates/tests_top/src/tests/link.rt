@@ -1,7 +1,7 @@
 // A link that keeps count of what is asked of it.
 ghost use Rattle.std.specs.Prelude.{false};
-ghost use Rattle.link_source.specs.MemLinks.{faults_of};
-ghost use Rattle.link_source.specs.Mirrors.{no_content};
+ghost use Rattle.link_source.specs.MemLinks.{link_faults};
+ghost use Rattle.link_source.specs.Link.{no_link};
 
 use dl_kinds::{IoErr, NoMemory, Text};
 use link_source::{Links, MemLinks};
@@ -86,18 +86,14 @@ impl TestLink {
 // It tells only when it failed.
 impl Links for TestLink {
     ghost use Rattle.std.specs.Prelude.{false, []};
-    ghost use Rattle.link_source.specs.MemLinks.{faults_of};
-    ghost use Rattle.link_source.specs.Mirrors.{no_content};
+    ghost use Rattle.link_source.specs.MemLinks.{link_faults};
+    ghost use Rattle.link_source.specs.Link.{no_link};
 
     ghost tells = { false };
 
-    ghost content = { λ _. no_content };
+    ghost state = { λ _. no_link };
 
-    ghost streams = { λ _. [] };
-
-    ghost due = { λ _. [] };
-
-    ghost faults = { λ link. faults_of link.mirrors };
+    ghost faults = { λ link. link_faults link.mirrors };
 
     fn faults(&self) -> u64 {
         self.mirrors.faults()

@@ -29,8 +29,8 @@ returns-in_err-fill-clause-served g c told good bytes gives =
     let p = err_from_is_err_and c.from_residual.result c.from_residual.ensures.1 in
     let ends = c.in_err-fill.ensures.ends told c.in-Ok.job c.begin-fetch.ensures.fetch in
     let honest = c.fill.ensures.honest told good c.in-Ok.job c.begin-fetch.ensures.fetch in
-    let content = g.L.Links.content c.args.link.now in
-    let all = c.gains_are_honest.ensures content (g.L.Links.streams c.args.link.now) (g.L.Links.streams c.fill.new.link) ends.gained (g.L.Links.due c.fill.new.link) honest.1 ends.gains in
+    let content = (g.L.Links.state c.args.link.now).content in
+    let all = c.gains_are_honest.ensures content (g.L.Links.state c.args.link.now).streams (g.L.Links.state c.fill.new.link).streams ends.gained (g.L.Links.state c.fill.new.link).due honest.1 ends.gains in
     let parts_give : GivesAll content c.in-Ok.job.parts bytes = subst (λ (parts : List JobPart). GivesAll content parts bytes) (sym c.in-Ok.ensures.parts) gives in
     rw (p.1, p.2)
     (serves_fetch c.served_comes.ensures content c.in-Ok.job.parts bytes good c.in-Ok.ensures.ranges c.in-Ok.ensures.bounded parts_give ends.gained all
@@ -67,8 +67,8 @@ pub returns-clause-served : goal.returns-clause-served
 returns-clause-served g c told good bytes gives =
     let ends = c.in_ok-fill.ensures.ends told c.in-Ok.job c.begin-fetch.ensures.fetch in
     let honest = c.fill.ensures.honest told good c.in-Ok.job c.begin-fetch.ensures.fetch in
-    let content = g.L.Links.content c.args.link.now in
-    let all = c.gains_are_honest.ensures content (g.L.Links.streams c.args.link.now) (g.L.Links.streams c.fill.new.link) ends.gained (g.L.Links.due c.fill.new.link) honest.1 ends.gains in
+    let content = (g.L.Links.state c.args.link.now).content in
+    let all = c.gains_are_honest.ensures content (g.L.Links.state c.args.link.now).streams (g.L.Links.state c.fill.new.link).streams ends.gained (g.L.Links.state c.fill.new.link).due honest.1 ends.gains in
     let parts_give : GivesAll content c.in-Ok.job.parts bytes = subst (λ (parts : List JobPart). GivesAll content parts bytes) (sym c.in-Ok.ensures.parts) gives in
     serves_fetch c.served_comes.ensures content c.in-Ok.job.parts bytes good c.in-Ok.ensures.ranges c.in-Ok.ensures.bounded parts_give ends.gained all
     {T = Unit {0}} (Ok (tt {0})) c.fill.new.piece.items ends.ends

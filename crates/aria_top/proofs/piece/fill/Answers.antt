@@ -5,6 +5,7 @@ use Rattle.fetch_session.specs.Blocks.{cut}
 use Rattle.fetch_session.specs.Fetches.{fetch_plan, rest_of}
 use Rattle.aria_top.proofs.Losses.{held_on}
 use Rattle.aria_top.proofs.Served.{honest_on}
+use Rattle.aria_top.specs.Payload.{here}
 use Rattle.aria_top.proofs.piece.fill.Goals as goal
 
 pub returns-in_err-fetch_on-clause-ends : goal.returns-in_err-fetch_on-clause-ends
@@ -47,7 +48,7 @@ turns-preserved g c = record {
   later = omega (arith, c.turns.invariant.later, c.fetch_on.ensures.later);
   came = λ told job begun. c.in_ok-fetch_on.ensures.goes_on told job _ (c.turns.invariant.came told job begun);
   honest = λ told good job begun.
-      honest_on _ _ _ _ (g.L.Links.streams c.turns.link) (g.L.Links.streams c.fetch_on.new.link) (g.L.Links.due c.turns.link) (g.L.Links.due c.fetch_on.new.link) good
+      honest_on _ _ _ _ (g.L.Links.state c.turns.link).streams (g.L.Links.state c.fetch_on.new.link).streams (g.L.Links.state c.turns.link).due (g.L.Links.state c.fetch_on.new.link).due good
       (c.turns.invariant.honest told good job begun) (λ good_now were. c.fetch_on.ensures.honest told good_now job _ (c.turns.invariant.came told job begun) were);
 }
 
@@ -58,10 +59,10 @@ returns-clause-ends g c told job begun =
 
 pub returns-in_err-fetch_on-clause-honest : goal.returns-in_err-fetch_on-clause-honest
 returns-in_err-fetch_on-clause-honest g c told good job begun =
-    honest_on _ _ _ _ (g.L.Links.streams c.turns.link) (g.L.Links.streams c.fetch_on.new.link) (g.L.Links.due c.turns.link) (g.L.Links.due c.fetch_on.new.link) good
+    honest_on _ _ _ _ (g.L.Links.state c.turns.link).streams (g.L.Links.state c.fetch_on.new.link).streams (g.L.Links.state c.turns.link).due (g.L.Links.state c.fetch_on.new.link).due good
     (c.turns.invariant.honest told good job begun) (λ good_now were. c.fetch_on.ensures.honest told good_now job _ (c.turns.invariant.came told job begun) were)
 
 pub returns-then-branch-clause-honest : goal.returns-then-branch-clause-honest
 returns-then-branch-clause-honest g c told good job begun =
-    honest_on _ _ _ _ (g.L.Links.streams c.turns.link) (g.L.Links.streams c.fetch_on.new.link) (g.L.Links.due c.turns.link) (g.L.Links.due c.fetch_on.new.link) good
+    honest_on _ _ _ _ (g.L.Links.state c.turns.link).streams (g.L.Links.state c.fetch_on.new.link).streams (g.L.Links.state c.turns.link).due (g.L.Links.state c.fetch_on.new.link).due good
     (c.turns.invariant.honest told good job begun) (λ good_now were. c.fetch_on.ensures.honest told good_now job _ (c.turns.invariant.came told job begun) were)

@@ -17,8 +17,8 @@ invariant-turns g l = record {
   place : cut (fetch_plan l.fn.fetch) (rest_of l.fn.fetch).first + length l.piece.items ≡ cut (fetch_plan l.fn.fetch) (rest_of l.fetch).first;
   held : IfSome (lost_of l.fetch) (λ loss. IsLinkLoss loss → Rose (g.L.Links.faults l.fn.link) (g.L.Links.faults l.link));
   later : g.L.Links.faults l.fn.link ≤ g.L.Links.faults l.link;
-  came : IsTrue g.L.Links.tells → (job : Job) → IsFetch job [] [] l.fn.fetch → IsFetching job (g.L.Links.streams l.fn.link) (g.L.Links.streams l.link) l.piece.items l.fetch;
-  honest : IsTrue g.L.Links.tells → (g.L.Links.content l.fn.link).bad ≡ [] → (job : Job) → IsFetch job [] [] l.fn.fetch
-      → (g.L.Links.content l.link ≡ g.L.Links.content l.fn.link)
-      × AreHonest (g.L.Links.content l.fn.link) (g.L.Links.streams l.fn.link) (g.L.Links.streams l.link) (g.L.Links.due l.link);
+  came : IsTrue g.L.Links.tells → (job : Job) → IsFetch job [] [] l.fn.fetch → IsFetching job (g.L.Links.state l.fn.link).streams (g.L.Links.state l.link).streams l.piece.items l.fetch;
+  honest : IsTrue g.L.Links.tells → (g.L.Links.state l.fn.link).content.bad ≡ [] → (job : Job) → IsFetch job [] [] l.fn.fetch
+      → ((g.L.Links.state l.link).content ≡ (g.L.Links.state l.fn.link).content)
+      × AreHonest (g.L.Links.state l.fn.link).content (g.L.Links.state l.fn.link).streams (g.L.Links.state l.link).streams (g.L.Links.state l.link).due;
 }

@@ -18,5 +18,5 @@ pub returns-clause-written : goal.returns-clause-written
 returns-clause-written g c told stand =
     let kept = stand_torn (info_of c.args.meta.now) _ _ c.args.piece _ _ c.requires.fetchable.sound (omega arith) c.piece_span-start.ensures.start (c.write_slice.ensures.torn told) stand in
     let size : length c.deref.result.now ≡ size_of (info_of c.args.meta.now) c.args.piece = ap length c.deref.ensures.value ∙ c.in_ok-room.ensures.len in
-    stand_more (info_of c.args.meta.now) (g.D.Disk.seen c.write_slice.new.disk) c.args.piece _ (length c.deref.result.now) c.deref.result.now
+    stand_more (info_of c.args.meta.now) (g.D.Disk.state c.write_slice.new.disk).seen c.args.piece _ (length c.deref.result.now) c.deref.result.now
     c.piece_span-start.ensures.start size (c.in_ok-write_slice.ensures.held told stand.lengths) (ap sha1 c.deref.ensures.value ∙ c.in_ok-room.ensures.right) kept

@@ -4,7 +4,7 @@ use Rattle.aria_top.specs.Serving.{IsOfOutside}
 use Rattle.aria_top.specs.Worked.{WorkLost}
 use Rattle.aria_top.specs.declared.ends.Failure.{Failure}
 use Rattle.aria_top.proofs.Gaining.{gained_on}
-use Rattle.aria_top.proofs.Keeping.{kept_on}
+use Rattle.aria_top.proofs.Keeping.{others_on}
 use Rattle.aria_top.proofs.Served.{gives_piece_on, content_on}
 use Rattle.aria_top.proofs.Working.{work_goes_on, work_lost, work_done}
 use Rattle.aria_top.proofs.work.complete_pieces.Goals as goal
@@ -21,7 +21,7 @@ each-preserved g c = record {
         work_goes_on (info_of c.args.meta.now) c.each.piece (omega arith) was.0 ends.gained was.2 ends.ends,
       );
   stand = λ told. c.in-Ok.ensures.written told (c.each.invariant.stand told);
-  others = λ told. kept_on c.args.meta.now.layout _ _ _ _ _ _ (c.each.invariant.others told) (c.complete_piece.ensures.others told);
+  others = λ told. others_on c.args.meta.now.layout _ _ _ (c.each.invariant.others told) (c.complete_piece.ensures.others told);
   folders = λ told. c.complete_piece.ensures.folders told ∙ c.each.invariant.folders told;
   later = omega (arith, c.complete_piece.ensures.disk_later, c.each.invariant.later);
 }
@@ -40,7 +40,7 @@ returns-in-Err-clause-ends g c told =
     }
 
 pub returns-in-Err-clause-others : goal.returns-in-Err-clause-others
-returns-in-Err-clause-others g c told = kept_on c.args.meta.now.layout _ _ _ _ _ _ (c.each.invariant.others told) (c.complete_piece.ensures.others told)
+returns-in-Err-clause-others g c told = others_on c.args.meta.now.layout _ _ _ (c.each.invariant.others told) (c.complete_piece.ensures.others told)
 
 pub returns-clause-ends : goal.returns-clause-ends
 returns-clause-ends g c told =

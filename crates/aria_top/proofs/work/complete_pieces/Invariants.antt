@@ -4,20 +4,20 @@ use Rattle.metainfo.specs.Info.{info_of}
 use Rattle.payload_files.specs.Changes.{KeepsOthers}
 use Rattle.aria_top.specs.Askings.{piece_count}
 use Rattle.request_chain.specs.Chains.{Gains}
-use Rattle.aria_top.specs.Payload.{PiecesStand}
+use Rattle.aria_top.specs.Payload.{here, PiecesStand}
 use Rattle.aria_top.specs.Serving.{KeepsContent}
 use Rattle.aria_top.specs.Worked.{WorkEnding, WorkedFrom, Worked}
 use Rattle.aria_top.proofs.work.complete_pieces.Given as goal
 
 abbrev pub invariant-each : goal.invariant-each
 invariant-each g l = record {
-  serving : IsTrue g.L.Links.tells → KeepsContent (g.L.Links.content l.fn.link) (g.L.Links.content l.link);
+  serving : IsTrue g.L.Links.tells → KeepsContent (g.L.Links.state l.fn.link).content (g.L.Links.state l.link).content;
   link_later : g.L.Links.faults l.fn.link ≤ g.L.Links.faults l.link;
-  came : IsTrue g.L.Links.tells → (gained : List Stream) × Gains (g.L.Links.streams l.fn.link) (g.L.Links.streams l.link) gained
+  came : IsTrue g.L.Links.tells → (gained : List Stream) × Gains (g.L.Links.state l.fn.link).streams (g.L.Links.state l.link).streams gained
       × ((more : List Stream) (right : ℕ) (ending : WorkEnding) → WorkedFrom (info_of l.meta) l.piece (piece_count (info_of l.meta) - l.piece) more right ending
       → Worked (info_of l.meta) (gained ++ more) right ending);
-  stand : IsTrue g.D.Disk.tells → PiecesStand (info_of l.meta) (g.D.Disk.seen l.disk) l.piece;
-  others : IsTrue g.D.Disk.tells → KeepsOthers l.meta.layout (g.D.Disk.seen l.fn.disk) (g.D.Disk.seen l.disk) (g.D.Disk.may_leave l.fn.disk) (g.D.Disk.may_leave l.disk);
-  folders : IsTrue g.D.Disk.tells → g.D.Disk.folders l.disk ≡ g.D.Disk.folders l.fn.disk;
+  stand : IsTrue g.D.Disk.tells → PiecesStand (info_of l.meta) (g.D.Disk.state l.disk).seen l.piece;
+  others : IsTrue g.D.Disk.tells → KeepsOthers here l.meta.layout (g.D.Disk.state l.fn.disk) (g.D.Disk.state l.disk);
+  folders : IsTrue g.D.Disk.tells → (g.D.Disk.state l.disk).folders ≡ (g.D.Disk.state l.fn.disk).folders;
   later : g.D.Disk.faults l.fn.disk ≤ g.D.Disk.faults l.disk;
 }

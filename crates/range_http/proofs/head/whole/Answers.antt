@@ -3,8 +3,8 @@ use Rattle.range_http.proofs.FieldLemmas.{spans_cover}
 use Rattle.range_http.proofs.HeadLemmas.{head_found, head_too_large}
 use Rattle.range_http.proofs.head.whole.Goals as goal
 
-pub returns-then-parts-gt-MAX_BYTES-clause-bad : goal.returns-then-parts-gt-MAX_BYTES-clause-bad
-returns-then-parts-gt-MAX_BYTES-clause-bad c = λ _.
+pub returns-then-parts-gt-MAX_HEAD_BYTES-clause-bad : goal.returns-then-parts-gt-MAX_HEAD_BYTES-clause-bad
+returns-then-parts-gt-MAX_HEAD_BYTES-clause-bad c = λ _.
     let at = c.requires.found in
     head_too_large c.args.bytes.now c.args.spans.now c.args.parts.now at.0 c.requires.within at.1 (grind arith)
 

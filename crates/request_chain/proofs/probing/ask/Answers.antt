@@ -9,11 +9,11 @@ pub returns-in_err-send_request-clause-asks : goal.returns-in_err-send_request-c
 returns-in_err-send_request-clause-asks g c told =
     let p = err_from_is_err_and c.from_residual.result c.from_residual.ensures.1 in
     let lost = c.in_err-send_request.ensures.lost told in
-    let P : List ℕ → Type 0 = λ url. IsUnopened url c.args.hop.now.status (g.L.Links.streams c.args.link.now) (g.L.Links.streams c.send_request.new.link) (g.L.Links.faults c.send_request.new.link) c.in_err-send_request.field-0.0 in
+    let P : List ℕ → Type 0 = λ url. IsUnopened url c.args.hop.now.status (g.L.Links.state c.args.link.now).streams (g.L.Links.state c.send_request.new.link).streams (g.L.Links.faults c.send_request.new.link) c.in_err-send_request.field-0.0 in
     rw (p.1, p.2) (inl (subst P c.as_str.ensures lost))
 
 pub returns-clause-asks : goal.returns-clause-asks
 returns-clause-asks g c told =
     let opened = c.in_ok-send_request.ensures.sent told in
-    let P : List ℕ → Type 0 = λ url. IsOpened url probe_asked (g.L.Links.streams c.args.link.now) (g.L.Links.streams c.send_request.new.link) in
-    heads_or c.args.hop.now.url c.args.hop.now.status _ _ _ c.receive_head.result (c.receive_head.ensures.heads told c.args.hop.now.url (g.L.Links.streams c.args.link.now) (subst P c.as_str.ensures opened))
+    let P : List ℕ → Type 0 = λ url. IsOpened url probe_asked (g.L.Links.state c.args.link.now).streams (g.L.Links.state c.send_request.new.link).streams in
+    heads_or c.args.hop.now.url c.args.hop.now.status _ _ _ c.receive_head.result (c.receive_head.ensures.heads told c.args.hop.now.url (g.L.Links.state c.args.link.now).streams (subst P c.as_str.ensures opened))

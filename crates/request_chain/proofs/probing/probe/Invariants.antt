@@ -9,7 +9,7 @@ abbrev pub invariant-turns : goal.invariant-turns
 invariant-turns g l = record {
   few : l.redirects ≤ 20;
   faults : g.L.Links.faults l.initial.link ≤ g.L.Links.faults l.link;
-  searched : IsTrue g.L.Links.tells → (used : List Stream) × Gains (g.L.Links.streams l.initial.link) (g.L.Links.streams l.link) used
+  searched : IsTrue g.L.Links.tells → (used : List Stream) × Gains (g.L.Links.state l.initial.link).streams (g.L.Links.state l.link).streams used
       × SearchLeads (At l.fn.url 0 0) used (At l.hop.url l.redirects l.hop.status);
 }
 

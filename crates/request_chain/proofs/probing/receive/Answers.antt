@@ -8,14 +8,14 @@ use Rattle.request_chain.proofs.probing.receive.Goals as goal
 pub returns-in_ok-check-in-Ok-eq0-clause-receives : goal.returns-in_ok-check-in-Ok-eq0-clause-receives
 returns-in_ok-check-in-Ok-eq0-clause-receives g c told url before awaits =
     let none = no_bytes c.refill.new.self (sym c.in-Ok-eq0.ensures.count ∙ c.in-Ok-eq0.field-0-test) in
-    let ended = c.in-Ok-eq0.ensures.received told ∙ ap (λ came. with_received came (g.L.Links.streams c.args.link.now)) none in
+    let ended = c.in-Ok-eq0.ensures.received told ∙ ap (λ came. with_received came (g.L.Links.state c.args.link.now).streams) none in
     short_ended url before _ _ _ _ awaits 0 c.in_ok-check-in-Ok-eq0.ensures.due ended
 
 pub returns-in_err-check-in-Ok-eq0-clause-receives : goal.returns-in_err-check-in-Ok-eq0-clause-receives
 returns-in_err-check-in-Ok-eq0-clause-receives g c told url before awaits =
     let p = err_from_is_err_and c.from_residual.result c.from_residual.ensures.1 in
     let none = no_bytes c.refill.new.self (sym c.in-Ok-eq0.ensures.count ∙ c.in-Ok-eq0.field-0-test) in
-    let ended = c.in-Ok-eq0.ensures.received told ∙ ap (λ came. with_received came (g.L.Links.streams c.args.link.now)) none in
+    let ended = c.in-Ok-eq0.ensures.received told ∙ ap (λ came. with_received came (g.L.Links.state c.args.link.now).streams) none in
     rw (p.1, p.2) (unchecked_ended url before _ _ _ _ awaits _ _ c.in_err-check-in-Ok-eq0.ensures.lost ended)
 
 pub returns-in_err-check-in-Err-clause-receives : goal.returns-in_err-check-in-Err-clause-receives

@@ -8,8 +8,8 @@ use Rattle.request_chain.proofs.probing.receive_head.Given as goal
 abbrev pub invariant-turns : goal.invariant-turns
 invariant-turns g l = record {
   faults : g.L.Links.faults l.initial.link ≤ g.L.Links.faults l.link;
-  awaits : IsTrue g.L.Links.tells → (url : List ℕ) (before : List Stream) → IsOpened url probe_asked before (g.L.Links.streams l.initial.link)
-      → Awaits url before (g.L.Links.streams l.link) l.left [] l.reader;
+  awaits : IsTrue g.L.Links.tells → (url : List ℕ) (before : List Stream) → IsOpened url probe_asked before (g.L.Links.state l.initial.link).streams
+      → Awaits url before (g.L.Links.state l.link).streams l.left [] l.reader;
 }
 
 abbrev pub decreases-turns : goal.decreases-turns

@@ -14,13 +14,13 @@ invariant-turns g l = record {
   capacity : vec_capacity l.initial.out ≤ vec_capacity l.out;
   faults : g.L.Links.faults l.initial.link ≤ g.L.Links.faults l.link;
   steps : IsTrue g.L.Links.tells → (parts : List JobPart) (before used : List Stream) (bytes : List ℕ)
-      → IsChain parts used bytes l.fn.self → Gains before (g.L.Links.streams l.initial.link) used
-      → (added : List ℕ) × (l.out.items ≡ l.initial.out.items ++ added) × Steps parts before used bytes (g.L.Links.streams l.link) added 0 l.self;
-  honest : IsTrue g.L.Links.tells → (g.L.Links.content l.initial.link).bad ≡ [] → (parts : List JobPart) (before used : List Stream) (bytes : List ℕ)
-      → IsChain parts used bytes l.fn.self → Gains before (g.L.Links.streams l.initial.link) used
-      → AreHonest (g.L.Links.content l.initial.link) before (g.L.Links.streams l.initial.link) (g.L.Links.due l.initial.link)
-      → (g.L.Links.content l.link ≡ g.L.Links.content l.initial.link)
-      × AreHonest (g.L.Links.content l.initial.link) before (g.L.Links.streams l.link) (g.L.Links.due l.link);
+      → IsChain parts used bytes l.fn.self → Gains before (g.L.Links.state l.initial.link).streams used
+      → (added : List ℕ) × (l.out.items ≡ l.initial.out.items ++ added) × Steps parts before used bytes (g.L.Links.state l.link).streams added 0 l.self;
+  honest : IsTrue g.L.Links.tells → (g.L.Links.state l.initial.link).content.bad ≡ [] → (parts : List JobPart) (before used : List Stream) (bytes : List ℕ)
+      → IsChain parts used bytes l.fn.self → Gains before (g.L.Links.state l.initial.link).streams used
+      → AreHonest (g.L.Links.state l.initial.link).content before (g.L.Links.state l.initial.link).streams (g.L.Links.state l.initial.link).due
+      → ((g.L.Links.state l.link).content ≡ (g.L.Links.state l.initial.link).content)
+      × AreHonest (g.L.Links.state l.initial.link).content before (g.L.Links.state l.link).streams (g.L.Links.state l.link).due;
 }
 
 abbrev pub decreases-turns : goal.decreases-turns

@@ -16,7 +16,7 @@ returns-in_ok-check-in-Ok-eq0-clause-receives g c told parts before used bytes i
     let reading = subst P c.requires.none_waits is.reading in
     let has = short_answer parts used self.course bytes self.stage reading c.in_ok-check-in-Ok-eq0.ensures.due c.requires.sent in
     let none = no_bytes c.refill.new.self (sym c.in-Ok-eq0.ensures.count ∙ c.in-Ok-eq0.field-0-test) in
-    let ended = c.in-Ok-eq0.ensures.received told ∙ ap (λ came. with_received came (g.L.Links.streams c.args.link.now)) none in
+    let ended = c.in-Ok-eq0.ensures.received told ∙ ap (λ came. with_received came (g.L.Links.state c.args.link.now).streams) none in
     rw c.got.ensures (ended_loses parts before used _ _ self.course bytes _ _ _ refl (Short (got_at self.stage)) tt has gains ended)
 
 pub returns-in_err-check-in-Ok-eq0-clause-receives : goal.returns-in_err-check-in-Ok-eq0-clause-receives
@@ -26,7 +26,7 @@ returns-in_err-check-in-Ok-eq0-clause-receives g c told parts before used bytes 
     let P : List ℕ → Type 0 = λ waiting. IsReading self.stage self.course waiting parts used bytes in
     let reading = subst P c.requires.none_waits is.reading in
     let none = no_bytes c.refill.new.self (sym c.in-Ok-eq0.ensures.count ∙ c.in-Ok-eq0.field-0-test) in
-    let ended = c.in-Ok-eq0.ensures.received told ∙ ap (λ came. with_received came (g.L.Links.streams c.args.link.now)) none in
+    let ended = c.in-Ok-eq0.ensures.received told ∙ ap (λ came. with_received came (g.L.Links.state c.args.link.now).streams) none in
     rw (p.1, p.2) (unchecked_ended parts before used _ _ self.course bytes _ _ _ refl self.stage _ c.in_err-check-in-Ok-eq0.ensures.lost reading c.requires.sent gains ended)
 
 pub returns-in_err-check-in-Err-clause-receives : goal.returns-in_err-check-in-Err-clause-receives
@@ -57,7 +57,7 @@ pub returns-in_ok-check-in-Ok-eq0-clause-honest : goal.returns-in_ok-check-in-Ok
 returns-in_ok-check-in-Ok-eq0-clause-honest g c told parts before used bytes is gains honest =
     let self = c.args.self.now in (
       c.refill.ensures.kept told,
-      honest_received (g.L.Links.content c.args.link.now) parts before _ used self.course bytes self.room.inbox self.stage is.reading c.requires.sent gains
+      honest_received (g.L.Links.state c.args.link.now).content parts before _ used self.course bytes self.room.inbox self.stage is.reading c.requires.sent gains
           _ c.refill.new.self _ _ (c.in-Ok-eq0.ensures.received told) (comes_due _ c.refill.new.self _ _ c.in-Ok-eq0.ensures.count (c.in-Ok-eq0.ensures.given told)) honest,
     )
 
@@ -65,7 +65,7 @@ pub returns-in_err-check-in-Ok-eq0-clause-honest : goal.returns-in_err-check-in-
 returns-in_err-check-in-Ok-eq0-clause-honest g c told parts before used bytes is gains honest =
     let self = c.args.self.now in (
       c.refill.ensures.kept told,
-      honest_received (g.L.Links.content c.args.link.now) parts before _ used self.course bytes self.room.inbox self.stage is.reading c.requires.sent gains
+      honest_received (g.L.Links.state c.args.link.now).content parts before _ used self.course bytes self.room.inbox self.stage is.reading c.requires.sent gains
           _ c.refill.new.self _ _ (c.in-Ok-eq0.ensures.received told) (comes_due _ c.refill.new.self _ _ c.in-Ok-eq0.ensures.count (c.in-Ok-eq0.ensures.given told)) honest,
     )
 
@@ -73,7 +73,7 @@ pub returns-in-Ok-clause-honest : goal.returns-in-Ok-clause-honest
 returns-in-Ok-clause-honest g c told parts before used bytes is gains honest =
     let self = c.args.self.now in (
       c.refill.ensures.kept told,
-      honest_received (g.L.Links.content c.args.link.now) parts before _ used self.course bytes self.room.inbox self.stage is.reading c.requires.sent gains
+      honest_received (g.L.Links.state c.args.link.now).content parts before _ used self.course bytes self.room.inbox self.stage is.reading c.requires.sent gains
           _ c.refill.new.self _ _ (c.in-Ok.ensures.received told) (comes_due _ c.refill.new.self _ _ c.in-Ok.ensures.count (c.in-Ok.ensures.given told)) honest,
     )
 

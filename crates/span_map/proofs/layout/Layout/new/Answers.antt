@@ -14,8 +14,8 @@ returns-in_err-check_paths-clause-exactly c fault refused =
     exactly_refused c.args.files.items c.from_residual.result told (p.1 ∙ ap Err p.2)
     (λ other. subst (λ (files : List FileLen). IsRefused files told) c.deref.ensures.value (c.in_err-check_paths.ensures.refused other)) fault refused
 
-pub returns-then-total-gt-MAX_TOTAL-clause-exactly : goal.returns-then-total-gt-MAX_TOTAL-clause-exactly
-returns-then-total-gt-MAX_TOTAL-clause-exactly c fault refused =
+pub returns-then-total-gt-MAX_PAYLOAD_LEN-clause-exactly : goal.returns-then-total-gt-MAX_PAYLOAD_LEN-clause-exactly
+returns-then-total-gt-MAX_PAYLOAD_LEN-clause-exactly c fault refused =
     let is : IsRefused c.args.files.items TooLong = search rules in
     let r : Result (List FileLen) LayoutErr = Err TooLong in
     exactly_refused c.args.files.items r TooLong refl (λ _. is) fault refused
