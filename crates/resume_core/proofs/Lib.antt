@@ -1,0 +1,4 @@
+pub mod Reaching
+pub mod Same
+pub mod Saved
+pub mod Stretching
