@@ -1,4 +1,6 @@
+pub mod Apart
 pub mod Reaching
 pub mod Same
 pub mod Saved
+pub mod Stretched
 pub mod Stretching

@@ -3,4 +3,5 @@ pub mod Laws
 pub mod Listing
 pub mod Resume
 pub mod Steps
+pub mod StretchLaws
 pub mod Wants

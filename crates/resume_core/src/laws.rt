@@ -1,5 +1,6 @@
 // Laws of what images give.
 ghost use Rattle.resume_core.specs.Laws.{SameGiveTheSame, SameAreAsSound, SameAgree, SameReadAgrees, WrittenIsUsed, SavedGivesJust, SavedIsSound, SavedAgrees};
+ghost use Rattle.resume_core.specs.StretchLaws.{StretchedKeepPieces, StretchedKeepBlocks};
 
 use control_file::control_files_are_read;
 
@@ -20,3 +21,10 @@ pub fn saved_files_give_what_is_listed()
 {
     control_files_are_read();
 }
+
+/// Where a control file stands, files that get their lengths, or are on the way to them, give at least what they gave. It
+/// does nothing when it runs.
+pub fn stretched_files_keep_what_is_given()
+    ensures pieces { StretchedKeepPieces }
+    ensures blocks { StretchedKeepBlocks }
+{}

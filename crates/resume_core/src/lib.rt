@@ -3,4 +3,4 @@
 
 mod laws;
 
-pub use laws::{same_files_give_the_same, saved_files_give_what_is_listed};
+pub use laws::{same_files_give_the_same, saved_files_give_what_is_listed, stretched_files_keep_what_is_given};

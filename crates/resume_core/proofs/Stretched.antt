@@ -1,0 +1,48 @@
+-- Under a control file that stands, files that get their lengths give what they gave.
+use Rattle.std.proofs.Common.{◌≡◌, ◌⊎◌, inl, inr, ⊎_elim, ℕ, ◌<◌, List, Option, Some, None, sym, subst, ap, ◌∙◌}
+use Rattle.dl_disk.specs.Files.{Files}
+use Rattle.dl_kinds.specs.Plan.{blocks_of, piece_start, piece_end, block_start, block_end, piece_of}
+use Rattle.control_file.specs.declared.want.Want.{Want}
+use Rattle.resume_core.specs.Found.{Found, Absent, Refused, Used, Stands, found, found_in, ListsPiece, ListsInFlight, ListsBlock}
+use Rattle.resume_core.specs.Resume.{PieceGiven, BlockGiven, GivesPiece, GivesBlock, IsHashed, HasDigest, ReachesPiece, ReachesBlock, Sound, GiveSame}
+use Rattle.resume_core.specs.StretchLaws.{StretchedUnder}
+use Rattle.resume_core.specs.Wants.{control_name, files_in}
+use Rattle.resume_core.proofs.Apart.{control_other}
+use Rattle.resume_core.proofs.Stretching.{reach_kept, bytes_kept}
+
+-- where a control file stands nothing is given by digests
+no_hash : (want : Want) (f : Found) (contents : List (Option (List ℕ))) (piece : ℕ) → Stands f → IsHashed want f contents piece → ⊥
+no_hash want Absent contents piece stands hashed = stands
+no_hash want Refused contents piece stands hashed = hashed
+no_hash want (Used control) contents piece stands hashed = hashed
+
+module _ (want : Want) (old new : Files) (under : StretchedUnder want old new) where
+  control : new (control_name want) ≡ old (control_name want)
+  control = under.files.others (control_name want) (control_other want under.want_is)
+
+  same_found : found_in want new ≡ found_in want old
+  same_found = ap (found want) control
+
+  piece_reach : (piece : ℕ) → ReachesPiece want (files_in want old) piece → ReachesPiece want (files_in want new) piece
+  piece_reach piece = reach_kept want old new under.files (piece_start want.plan.piece_len piece) (piece_end want.plan.total want.plan.piece_len piece)
+
+  block_reach : (block : ℕ) → ReachesBlock want (files_in want old) block → ReachesBlock want (files_in want new) block
+  block_reach block = reach_kept want old new under.files (block_start want.plan.piece_len block) (block_end want.plan.total want.plan.piece_len block)
+
+  given : (piece : ℕ) → PieceGiven want (found_in want old) (files_in want old) piece → PieceGiven want (found_in want old) (files_in want new) piece
+  given piece gives = (piece_reach piece gives.0, ⊎_elim
+      (λ lists. inl lists)
+      (λ hashed. absurd (no_hash want (found_in want old) (files_in want old) piece under.stands hashed))
+      gives.1)
+
+  block_given : (block : ℕ) → BlockGiven want (found_in want old) (files_in want old) block → BlockGiven want (found_in want old) (files_in want new) block
+  block_given block gives = ⊎_elim
+      (λ of_piece. inl (of_piece.0, given (piece_of want.plan.piece_len block) of_piece.1))
+      (λ in_flight. inr (block_reach block in_flight.0, in_flight.1))
+      gives
+
+  pub still_piece : (piece : ℕ) → GivesPiece want old piece → GivesPiece want new piece
+  still_piece piece gives = subst (λ (f : Found). PieceGiven want f (files_in want new) piece) (sym same_found) (given piece gives)
+
+  pub still_block : (block : ℕ) → GivesBlock want old block → GivesBlock want new block
+  still_block block gives = subst (λ (f : Found). BlockGiven want f (files_in want new) block) (sym same_found) (block_given block gives)

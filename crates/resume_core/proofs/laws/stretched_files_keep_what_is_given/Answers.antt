@@ -1,0 +1,8 @@
+use Rattle.resume_core.proofs.Stretched.{still_piece, still_block}
+use Rattle.resume_core.proofs.laws.stretched_files_keep_what_is_given.Goals as goal
+
+pub returns-clause-pieces : goal.returns-clause-pieces
+returns-clause-pieces c = still_piece
+
+pub returns-clause-blocks : goal.returns-clause-blocks
+returns-clause-blocks c = still_block
