@@ -15,7 +15,8 @@ give_same want a b same = record {
 pub sound_same : (want : Want) (a b : Files) → SameFor want a b → Sound want a → Sound want b
 sound_same want a b same sound = record {
   right = rw (same.control, same.files) sound.right;
-  within = rw (same.control, same.files) sound.within;
+  pieces = rw (same.control, same.files) sound.pieces;
+  blocks = rw (same.control, same.files) sound.blocks;
 }
 
 pub agrees_same : (want : Want) (seen a b : Files) → SameFor want a b → Agrees want seen a → Agrees want seen b

@@ -33,7 +33,7 @@ written_is_used back want control listing =
     ap (judged want) (back control listing.rules) ∙ rw (listing_is_of want control listing) refl
 
 pub agrees_saved : (want : Want) (bytes : List ℕ) (seen image : Files) → IsSaved want bytes seen image → Agrees want seen image
-agrees_saved want bytes seen image saved block gives = rw saved.files refl
+agrees_saved want bytes seen image saved block gives i below = rw saved.files refl
 
 module _ (back : WrittenIsReadBack) (want : Want) (control : Control) (seen image : Files) (is : IsWant want)
     (listing : IsListingOf want control) (has : HasFiles want.dir want.layout seen)
@@ -58,5 +58,6 @@ module _ (back : WrittenIsReadBack) (want : Want) (control : Control) (seen imag
   pub sound_saved : MatchesListed want control seen → Sound want image
   sound_saved right = record {
     right = λ listed piece gives. rw saved.files (right listed piece ((gives_just.pieces piece).0 gives));
-    within = λ block below lists. rw saved.files (reach_block want is seen has block);
+    pieces = λ piece lists. rw saved.files (reach_piece want is seen has piece);
+    blocks = λ block lists. rw saved.files (reach_block want is seen has block);
   }

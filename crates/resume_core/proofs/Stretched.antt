@@ -1,5 +1,6 @@
 -- Under a control file that stands, files that get their lengths give what they gave.
 use Rattle.std.proofs.Common.{◌≡◌, ◌⊎◌, inl, inr, ⊎_elim, ℕ, ◌<◌, List, Option, Some, None, sym, subst, ap, ◌∙◌}
+use Rattle.sha1.specs.Sha1.{sha1}
 use Rattle.dl_disk.specs.Files.{Files}
 use Rattle.dl_kinds.specs.Plan.{blocks_of, piece_start, piece_end, block_start, block_end, piece_of}
 use Rattle.control_file.specs.declared.want.Want.{Want}
@@ -46,3 +47,39 @@ module _ (want : Want) (old new : Files) (under : StretchedUnder want old new) w
 
   pub still_block : (block : ℕ) → GivesBlock want old block → GivesBlock want new block
   still_block block gives = subst (λ (f : Found). BlockGiven want f (files_in want new) block) (sym same_found) (block_given block gives)
+
+  -- and nothing more, where the image was sound
+  module _ (sound : Sound want old) where
+    listed_before : (piece : ℕ) → GivesPiece want new piece → ListsPiece (found_in want old) piece
+    listed_before piece gives = ⊎_elim
+        (λ lists. subst (λ (f : Found). ListsPiece f piece) same_found lists)
+        (λ hashed. absurd (no_hash want (found_in want old) (files_in want new) piece under.stands
+          (subst (λ (f : Found). IsHashed want f (files_in want new) piece) same_found hashed)))
+        gives.1
+
+    was_piece : (piece : ℕ) → GivesPiece want new piece → GivesPiece want old piece
+    was_piece piece gives = let lists = listed_before piece gives in (sound.pieces piece lists, inl lists)
+
+    was_block : (block : ℕ) → GivesBlock want new block → GivesBlock want old block
+    was_block block gives = ⊎_elim
+        (λ of_piece. inl (of_piece.0, was_piece (piece_of want.plan.piece_len block) of_piece.1))
+        (λ in_flight.
+        let lists = subst (λ (f : Found). ListsInFlight want.plan.piece_len f block) same_found in_flight.1 in
+        inr (sound.blocks block lists, lists))
+        gives
+
+    pub gives_the_same : GiveSame want old new
+    gives_the_same = record {
+      pieces = λ piece. (was_piece piece, still_piece piece);
+      blocks = λ block. (was_block block, still_block block);
+    }
+
+    pub sound_still : Sound want new
+    sound_still = record {
+      right = λ listed piece gives.
+          let before = was_piece piece gives in
+          sound.right listed piece before
+          ∙ ap (λ (bytes : List ℕ). Some (sha1 bytes)) (sym (bytes_kept want old new under.files (piece_start want.plan.piece_len piece) (piece_end want.plan.total want.plan.piece_len piece) before.0));
+      pieces = λ piece lists. piece_reach piece (sound.pieces piece (subst (λ (f : Found). ListsPiece f piece) same_found lists));
+      blocks = λ block lists. block_reach block (sound.blocks block (subst (λ (f : Found). ListsInFlight want.plan.piece_len f block) same_found lists));
+    }

@@ -61,6 +61,10 @@ module _ (want : Want) (old new : Files) (stretches : Stretches want.dir want.la
   each : AllByRecursion (λ file. MayMake (Stretched file.len) (old (name_of want.dir file.path)) (new (name_of want.dir file.path))) want.layout
   each = recursion_from_All (λ file. MayMake (Stretched file.len) (old (name_of want.dir file.path)) (new (name_of want.dir file.path))) want.layout stretches.each
 
+  pub kept : (i : ℕ) → IsSome (byte_at want.layout (files_in want old) i)
+      → byte_at want.layout (files_in want new) i ≡ byte_at want.layout (files_in want old) i
+  kept i some = byte_kept want.dir old new want.layout each i some
+
   pub reach_kept : (start end : ℕ) → Reach want (files_in want old) start end → Reach want (files_in want new) start end
   reach_kept start end reach i below =
       subst (λ (o : Option ℕ). IsSome o) (sym (byte_kept want.dir old new want.layout each (start + i) (reach i below))) (reach i below)

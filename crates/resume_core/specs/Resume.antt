@@ -36,10 +36,6 @@ abbrev pub piece_bytes : Want → List (Option (List ℕ)) → ℕ → List ℕ
 piece_bytes want contents piece =
     bytes_from want contents (piece_start want.plan.piece_len piece) (piece_end want.plan.total want.plan.piece_len piece)
 
-abbrev pub block_bytes : Want → List (Option (List ℕ)) → ℕ → List ℕ
-block_bytes want contents block =
-    bytes_from want contents (block_start want.plan.piece_len block) (block_end want.plan.total want.plan.piece_len block)
-
 -- the piece has its listed digest (BEP 3, `pieces`)
 abbrev pub HasDigest : Want → List (Option (List ℕ)) → ℕ → Type 0
 HasDigest want contents piece = slice_get want.digests piece ≡ Some (sha1 (piece_bytes want contents piece))
@@ -70,14 +66,22 @@ GivesBlock want image block = BlockGiven want (found_in want image) (files_in wa
 -- Each piece that a listed want is given has its digest, and the control file lists nothing past the end of a file.
 pub record Sound (want : Want) (image : Files) : Type 0 where
   pub right : IsListed want → (piece : ℕ) → GivesPiece want image piece → HasDigest want (files_in want image) piece
-  pub within : (block : ℕ) → block < blocks_of want.plan.total want.plan.piece_len
-      → ListsBlock want.plan.piece_len (found_in want image) block → ReachesBlock want (files_in want image) block
+  pub pieces : (piece : ℕ) → ListsPiece (found_in want image) piece → ReachesPiece want (files_in want image) piece
+  pub blocks : (block : ℕ) → ListsInFlight want.plan.piece_len (found_in want image) block → ReachesBlock want (files_in want image) block
+
+-- the files have the same bytes from one place of the payload to another
+abbrev pub HaveSame : Want → List (Option (List ℕ)) → List (Option (List ℕ)) → ℕ → ℕ → Type 0
+HaveSame want old new start end =
+    (i : ℕ) → start + i < end → byte_at want.layout new (start + i) ≡ byte_at want.layout old (start + i)
+
+abbrev pub HaveSameBlock : Want → List (Option (List ℕ)) → List (Option (List ℕ)) → ℕ → Type 0
+HaveSameBlock want old new block =
+    HaveSame want old new (block_start want.plan.piece_len block) (block_end want.plan.total want.plan.piece_len block)
 
 -- each block that the image gives has in it the bytes that the disk reads there
 abbrev pub Agrees : Want → Files → Files → Type 0
 Agrees want seen image =
-    (block : ℕ) → GivesBlock want image block
-    → block_bytes want (files_in want image) block ≡ block_bytes want (files_in want seen) block
+    (block : ℕ) → GivesBlock want image block → HaveSameBlock want (files_in want seen) (files_in want image) block
 
 -- each image is sound, and agrees with what the disk reads
 abbrev pub AreSound : Want → Files → (Files → Type 0) → Type 0

@@ -28,3 +28,9 @@ StretchedGiveTheSame = (want : Want) (old new : Files) → StretchedUnder want o
 
 abbrev pub StretchedAreSound : Type 0
 StretchedAreSound = (want : Want) (old new : Files) → StretchedUnder want old new → Sound want old → Sound want new
+
+-- and agrees with what the disk reads, where that changes so too
+abbrev pub StretchedAgree : Type 0
+StretchedAgree =
+    (want : Want) (was now old new : Files) → StretchedUnder want old new → Stretches want.dir want.layout was now
+    → Sound want old → Agrees want was old → Agrees want now new

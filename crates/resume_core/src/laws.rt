@@ -1,6 +1,6 @@
 // Laws of what images give.
 ghost use Rattle.resume_core.specs.Laws.{SameGiveTheSame, SameAreAsSound, SameAgree, SameReadAgrees, WrittenIsUsed, SavedGivesJust, SavedIsSound, SavedAgrees};
-ghost use Rattle.resume_core.specs.StretchLaws.{StretchedKeepPieces, StretchedKeepBlocks};
+ghost use Rattle.resume_core.specs.StretchLaws.{StretchedKeepPieces, StretchedKeepBlocks, StretchedGiveTheSame, StretchedAreSound};
 
 use control_file::control_files_are_read;
 
@@ -27,4 +27,6 @@ pub fn saved_files_give_what_is_listed()
 pub fn stretched_files_keep_what_is_given()
     ensures pieces { StretchedKeepPieces }
     ensures blocks { StretchedKeepBlocks }
+    ensures same { StretchedGiveTheSame }
+    ensures sound { StretchedAreSound }
 {}

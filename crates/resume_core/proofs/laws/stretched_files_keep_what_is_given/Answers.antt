@@ -1,4 +1,4 @@
-use Rattle.resume_core.proofs.Stretched.{still_piece, still_block}
+use Rattle.resume_core.proofs.Stretched.{still_piece, still_block, gives_the_same, sound_still}
 use Rattle.resume_core.proofs.laws.stretched_files_keep_what_is_given.Goals as goal
 
 pub returns-clause-pieces : goal.returns-clause-pieces
@@ -6,3 +6,9 @@ returns-clause-pieces c = still_piece
 
 pub returns-clause-blocks : goal.returns-clause-blocks
 returns-clause-blocks c = still_block
+
+pub returns-clause-same : goal.returns-clause-same
+returns-clause-same c = gives_the_same
+
+pub returns-clause-sound : goal.returns-clause-sound
+returns-clause-sound c = sound_still
