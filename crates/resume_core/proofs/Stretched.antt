@@ -1,15 +1,31 @@
 -- Under a control file that stands, files that get their lengths give what they gave.
-use Rattle.std.proofs.Common.{◌≡◌, ◌⊎◌, inl, inr, ⊎_elim, ℕ, ◌<◌, List, Option, Some, None, sym, subst, ap, ◌∙◌}
+use Rattle.std.proofs.Common.{◌≡◌, ◌⊎◌, inl, inr, ⊎_elim, ℕ, ◌+◌, ◌*◌, ◌<◌, arith, List, Option, Some, None, sym, subst, ap, ◌∙◌}
+use Rattle.std.specs.Prelude.{IsSome}
+use Rattle.payload_files.specs.Changes.{Stretches}
 use Rattle.sha1.specs.Sha1.{sha1}
 use Rattle.dl_disk.specs.Files.{Files}
-use Rattle.dl_kinds.specs.Plan.{blocks_of, piece_start, piece_end, block_start, block_end, piece_of}
+use Rattle.dl_kinds.specs.Plan.{blocks_of, piece_start, piece_end, block_start, block_end, piece_of, place_of}
+use Rattle.dl_kinds.specs.declared.plan.TheConstants.{BLOCK_LEN}
 use Rattle.control_file.specs.declared.want.Want.{Want}
 use Rattle.resume_core.specs.Found.{Found, Absent, Refused, Used, Stands, found, found_in, ListsPiece, ListsInFlight, ListsBlock}
-use Rattle.resume_core.specs.Resume.{PieceGiven, BlockGiven, GivesPiece, GivesBlock, IsHashed, HasDigest, ReachesPiece, ReachesBlock, Sound, GiveSame}
+use Rattle.resume_core.specs.Resume.{PieceGiven, BlockGiven, GivesPiece, GivesBlock, IsHashed, HasDigest, ReachesPiece, ReachesBlock, Sound, GiveSame, Agrees, byte_at}
 use Rattle.resume_core.specs.StretchLaws.{StretchedUnder}
 use Rattle.resume_core.specs.Wants.{control_name, files_in}
 use Rattle.resume_core.proofs.Apart.{control_other}
-use Rattle.resume_core.proofs.Stretching.{reach_kept, bytes_kept}
+use Rattle.resume_core.proofs.Stretching.{kept, reach_kept, bytes_kept}
+
+-- a block that is given lies within the files
+block_reached : (want : Want) (f : Found) (contents : List (Option (List ℕ))) (block : ℕ) → BlockGiven want f contents block
+    → ReachesBlock want contents block
+block_reached want f contents block gives i below = ⊎_elim
+    (λ of_piece.
+    let piece = piece_of want.plan.piece_len block in
+    let place = place_of want.plan.piece_len block * BLOCK_LEN in
+    let start = piece_start want.plan.piece_len piece in
+    let at : start + (place + i) ≡ block_start want.plan.piece_len block + i = omega arith in
+    subst (λ (n : ℕ). IsSome (byte_at want.layout contents n)) at (of_piece.1.0 (place + i) (omega (arith, below))))
+    (λ in_flight. in_flight.0 i below)
+    gives
 
 -- where a control file stands nothing is given by digests
 no_hash : (want : Want) (f : Found) (contents : List (Option (List ℕ))) (piece : ℕ) → Stands f → IsHashed want f contents piece → ⊥
@@ -83,3 +99,12 @@ module _ (want : Want) (old new : Files) (under : StretchedUnder want old new) w
       pieces = λ piece lists. piece_reach piece (sound.pieces piece (subst (λ (f : Found). ListsPiece f piece) same_found lists));
       blocks = λ block lists. block_reach block (sound.blocks block (subst (λ (f : Found). ListsInFlight want.plan.piece_len f block) same_found lists));
     }
+
+    pub agrees_still : (was now : Files) → Stretches want.dir want.layout was now → Agrees want was old → Agrees want now new
+    agrees_still was now change agrees block gives i below =
+        let before = was_block block gives in
+        let there = block_reached want (found_in want old) (files_in want old) block before i below in
+        let at = block_start want.plan.piece_len block + i in
+        let same = agrees block before i below in
+        kept want old new under.files at there ∙ same
+        ∙ sym (kept want was now change at (subst (λ (o : Option ℕ). IsSome o) same there))

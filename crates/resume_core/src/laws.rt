@@ -1,6 +1,6 @@
 // Laws of what images give.
 ghost use Rattle.resume_core.specs.Laws.{SameGiveTheSame, SameAreAsSound, SameAgree, SameReadAgrees, WrittenIsUsed, SavedGivesJust, SavedIsSound, SavedAgrees};
-ghost use Rattle.resume_core.specs.StretchLaws.{StretchedKeepPieces, StretchedKeepBlocks, StretchedGiveTheSame, StretchedAreSound};
+ghost use Rattle.resume_core.specs.StretchLaws.{StretchedKeepPieces, StretchedKeepBlocks, StretchedGiveTheSame, StretchedAreSound, StretchedAgree};
 
 use control_file::control_files_are_read;
 
@@ -29,4 +29,5 @@ pub fn stretched_files_keep_what_is_given()
     ensures blocks { StretchedKeepBlocks }
     ensures same { StretchedGiveTheSame }
     ensures sound { StretchedAreSound }
+    ensures agree { StretchedAgree }
 {}
