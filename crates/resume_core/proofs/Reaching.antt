@@ -1,6 +1,6 @@
 -- Files with their lengths have every byte of the payload.
-use Rattle.std.proofs.Common.{◌≡◌, ℕ, zero, suc, ◌+◌, ◌-◌, ◌<◌, ◌≤◌, Bool, true, false, ltb, cond, List, [], ◌∷◌, length, get_or, map, All, slice_get, Option, Some, None, sym, subst, refl, ap, ◌∙◌, inl, inr, arith}
-use Rattle.std.specs.Prelude.{IsSome, IsSomeAnd, sum_by}
+use Rattle.std.proofs.Common.{◌≡◌, ℕ, ◌+◌, ◌-◌, ◌<◌, ◌≤◌, Bool, cond, List, [], ◌∷◌, length, map, slice_get, Option, Some, None, sym, subst, refl, inl, inr, arith}
+use Rattle.std.specs.Prelude.{IsSome, IsSomeAnd}
 use Rattle.std.specs.List.{AllByRecursion}
 use Rattle.std.proofs.lemmas.Bool.{cases_lt, lt-ltb, le-ltb}
 use Rattle.std.proofs.lemmas.List.Elements.{recursion_from_All}
@@ -44,11 +44,14 @@ module _ (dir : List ℕ) (seen : Files) where
 module _ (want : Want) (is : IsWant want) (seen : Files) (has : HasFiles want.dir want.layout seen) where
   pub reach_all : (start end : ℕ) → end ≤ want.plan.total → Reach want (files_in want seen) start end
   reach_all start end within i below =
-      let each = recursion_from_All (λ file. IsSomeAnd (seen (name_of want.dir file.path)) (λ bytes. length bytes ≡ file.len)) want.layout has in
+      let each = recursion_from_All (λ file. IsSomeAnd (seen (name_of want.dir file.path))
+      (λ bytes. length bytes ≡ file.len)) want.layout has in
       has_byte want.dir seen want.layout each (start + i) (omega (arith, below, within, is.total))
 
   pub reach_piece : (piece : ℕ) → ReachesPiece want (files_in want seen) piece
-  reach_piece piece = reach_all (piece_start want.plan.piece_len piece) (piece_end want.plan.total want.plan.piece_len piece) (omega arith)
+  reach_piece piece = reach_all (piece_start want.plan.piece_len piece)
+      (piece_end want.plan.total want.plan.piece_len piece) (omega arith)
 
   pub reach_block : (block : ℕ) → ReachesBlock want (files_in want seen) block
-  reach_block block = reach_all (block_start want.plan.piece_len block) (block_end want.plan.total want.plan.piece_len block) (omega arith)
+  reach_block block = reach_all (block_start want.plan.piece_len block)
+      (block_end want.plan.total want.plan.piece_len block) (omega arith)

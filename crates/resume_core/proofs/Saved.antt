@@ -1,5 +1,5 @@
 -- An image with a new control file gives what it lists.
-use Rattle.std.proofs.Common.{◌≡◌, ◌⊎◌, ◌↔◌, inl, inr, ⊎_elim, ℕ, ◌<◌, Bool, true, ◌&&◌, List, Some, Ok, eq-eqb, slice_get, refl, sym, ap, subst, ◌∙◌}
+use Rattle.std.proofs.Common.{◌≡◌, inl, inr, ⊎_elim, ℕ, Bool, true, ◌&&◌, List, Some, eq-eqb, refl, ap, ◌∙◌}
 use Rattle.std.proofs.lemmas.Slice.Eq.{bytes_eq-Decides}
 use Rattle.std.specs.Str.{bytes_eq}
 use Rattle.dl_disk.specs.Files.{Files}
@@ -10,11 +10,11 @@ use Rattle.control_file.specs.Spelling.{control_bytes}
 use Rattle.control_file.specs.declared.control.Control.{Control}
 use Rattle.control_file.specs.declared.fields.ByteOrder.TheVariants.{Big}
 use Rattle.control_file.specs.declared.want.Want.{Want}
-use Rattle.resume_core.specs.Found.{Found, Used, is_of, judged, found, found_in, hash_bytes}
+use Rattle.resume_core.specs.Found.{Used, is_of, judged, found, found_in}
 use Rattle.resume_core.specs.Listing.{IsListingOf, GivesJust, MatchesListed}
 use Rattle.resume_core.specs.Resume.{Sound, Agrees}
 use Rattle.resume_core.specs.Steps.{IsSaved}
-use Rattle.resume_core.specs.Wants.{IsWant, files_in}
+use Rattle.resume_core.specs.Wants.{IsWant}
 use Rattle.resume_core.proofs.Reaching.{reach_piece, reach_block}
 
 all_three : (a b c : Bool) → a ≡ true → b ≡ true → c ≡ true → (a && b && c) ≡ true
@@ -32,13 +32,13 @@ pub written_is_used : WrittenIsReadBack → (want : Want) (control : Control) �
 written_is_used back want control listing =
     ap (judged want) (back control listing.rules) ∙ rw (listing_is_of want control listing) refl
 
-pub agrees_saved : (want : Want) (bytes : List ℕ) (seen image : Files) → IsSaved want bytes seen image → Agrees want seen image
+pub agrees_saved : (want : Want) (bytes : List ℕ) (seen image : Files) → IsSaved want bytes seen image
+    → Agrees want seen image
 agrees_saved want bytes seen image saved block gives i below = rw saved.files refl
 
 module _ (back : WrittenIsReadBack) (want : Want) (control : Control) (seen image : Files) (is : IsWant want)
     (listing : IsListingOf want control) (has : HasFiles want.dir want.layout seen)
     (saved : IsSaved want (control_bytes Big control) seen image) where
-
   used : found_in want image ≡ Used control
   used = ap (found want) saved.control ∙ written_is_used back want control listing
 
@@ -49,9 +49,11 @@ module _ (back : WrittenIsReadBack) (want : Want) (control : Control) (seen imag
       λ lists. (reach_piece want is seen has piece, inl lists),
     );
     blocks = λ block. rw (used, saved.files) (
-      λ gives. ⊎_elim (λ of_piece. inl (of_piece.0, ⊎_elim (λ lists. lists) (λ hashed. absurd hashed) of_piece.1.1)) (λ in_flight. inr in_flight.1) gives,
-      λ lists. ⊎_elim (λ of_piece. inl (of_piece.0, (reach_piece want is seen has (piece_of want.plan.piece_len block), inl of_piece.1)))
-        (λ in_flight. inr (reach_block want is seen has block, in_flight)) lists,
+      λ gives. ⊎_elim (λ of_piece. inl (of_piece.0, ⊎_elim (λ lists. lists) (λ hashed. absurd hashed) of_piece.1.1))
+          (λ in_flight. inr in_flight.1) gives,
+      λ lists. ⊎_elim (λ of_piece. inl
+          (of_piece.0, (reach_piece want is seen has (piece_of want.plan.piece_len block), inl of_piece.1)))
+          (λ in_flight. inr (reach_block want is seen has block, in_flight)) lists,
     );
   }
 

@@ -11,8 +11,8 @@ use Rattle.control_file.specs.declared.want.Want.{Want}
 use Rattle.resume_core.specs.Wants.{control_name}
 
 pub data Found : Type 0 where
-  Absent : Found -- no control file
-  Refused : Found -- one that can't be used
+  Absent : Found  -- no control file
+  Refused : Found  -- one that can't be used
   Used : (control : Control) → Found
 
 -- the info hash, and none of an unlisted want

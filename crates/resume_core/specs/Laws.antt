@@ -1,5 +1,5 @@
 -- Laws of what images give. They speak of files alone, of no disk and of no moment.
-use Rattle.std.specs.Prelude.{◌≡◌, ◌⊎◌, Some, List, ℕ}
+use Rattle.std.specs.Prelude.{◌≡◌, Some, List, ℕ}
 use Rattle.dl_disk.specs.Files.{Files}
 use Rattle.control_file.specs.Spelling.{control_bytes}
 use Rattle.control_file.specs.declared.control.Control.{Control}
@@ -9,7 +9,7 @@ use Rattle.payload_files.specs.Payload.{HasFiles}
 use Rattle.resume_core.specs.Found.{found, Used}
 use Rattle.resume_core.specs.Listing.{IsListingOf, GivesJust, MatchesListed}
 use Rattle.resume_core.specs.Resume.{Sound, Agrees, GiveSame}
-use Rattle.resume_core.specs.Steps.{SameFor, IsSaved, Saves}
+use Rattle.resume_core.specs.Steps.{SameFor, IsSaved}
 use Rattle.resume_core.specs.Wants.{IsWant, files_in}
 
 -- the same files of a want give the same, as soundly

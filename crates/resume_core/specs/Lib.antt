@@ -3,5 +3,6 @@ pub mod Laws
 pub mod Listing
 pub mod Resume
 pub mod Steps
+pub mod SaveLaws
 pub mod StretchLaws
 pub mod Wants

@@ -1,12 +1,12 @@
 -- What an image gives of a want, and when it does so soundly. An image is what a crash may leave of the files.
-use Rattle.std.specs.Prelude.{◌≡◌, ◌↔◌, ◌⊎◌, ◌<◌, ℕ, ◌+◌, ◌-◌, nat_lt, if◌then◌else◌, List, [], ◌∷◌, map, slice_get, Option, Some, None, IsSome, unwrap_or}
+use Rattle.std.specs.Prelude.{◌≡◌, ◌↔◌, ◌⊎◌, ◌<◌, ℕ, ◌+◌, ◌-◌, nat_lt, if◌then◌else◌, List, ◌∷◌, map, slice_get, Option, Some, None, IsSome, unwrap_or}
 use Rattle.std.specs.List.{range_with_len}
 use Rattle.sha1.specs.Sha1.{sha1}
 use Rattle.dl_disk.specs.Files.{Files, file_bytes}
 use Rattle.dl_kinds.specs.Plan.{blocks_of, block_start, block_end, piece_start, piece_end, piece_of}
 use Rattle.span_map.specs.declared.files.FileLen.{FileLen}
 use Rattle.control_file.specs.declared.want.Want.{Want}
-use Rattle.resume_core.specs.Found.{Found, Absent, Refused, Used, found_in, ListsPiece, ListsInFlight, ListsBlock}
+use Rattle.resume_core.specs.Found.{Found, Absent, Refused, Used, found_in, ListsPiece, ListsInFlight}
 use Rattle.resume_core.specs.Wants.{IsListed, files_in}
 
 -- the byte at a place of the payload, where the files have one there

@@ -1,9 +1,7 @@
 -- What the calls of the store do to the files of a want.
-use Rattle.std.specs.Prelude.{◌≡◌, ◌≢◌, ◌⊎◌, ℕ, List, Some, None, All}
-use Rattle.std.specs.List.{AllZip}
-use Rattle.dl_disk.specs.Files.{Files, IsSame, MayMake, Stretched}
-use Rattle.payload_files.specs.Names.{name_of, IsOther}
-use Rattle.payload_files.specs.Changes.{Stretches}
+use Rattle.std.specs.Prelude.{◌≡◌, ◌≢◌, ◌⊎◌, ℕ, List, Some, None}
+use Rattle.dl_disk.specs.Files.{Files, IsSame}
+use Rattle.payload_files.specs.Names.{IsOther}
 use Rattle.control_file.specs.declared.want.Want.{Want}
 use Rattle.resume_core.specs.Wants.{control_name, temporary_name, files_in}
 

@@ -1,9 +1,8 @@
 -- What a store is to keep of a download, and where.
-use Rattle.std.specs.Prelude.{◌≡◌, ℕ, List, [], ◌∷◌, ◌++◌, length, map, codes, Option, Some, None, IfSome, All, IsSome}
+use Rattle.std.specs.Prelude.{◌≡◌, ℕ, List, [], ◌∷◌, ◌++◌, length, map, codes, Option, None, IfSome, All, IsSome}
 use Rattle.dl_disk.specs.Files.{Files}
 use Rattle.dl_kinds.specs.Plan.{IsPlan, pieces_of}
 use Rattle.span_map.specs.Layout.{IsLayout, total_of}
-use Rattle.span_map.specs.declared.files.FileLen.{FileLen}
 use Rattle.payload_files.specs.Names.{name_of}
 use Rattle.control_file.specs.declared.want.Want.{Want}
 

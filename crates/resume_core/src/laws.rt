@@ -1,6 +1,7 @@
 // Laws of what images give.
 ghost use Rattle.resume_core.specs.Laws.{SameGiveTheSame, SameAreAsSound, SameAgree, SameReadAgrees, WrittenIsUsed, SavedGivesJust, SavedIsSound, SavedAgrees};
 ghost use Rattle.resume_core.specs.StretchLaws.{StretchedKeepPieces, StretchedKeepBlocks, StretchedGiveTheSame, StretchedAreSound, StretchedAgree};
+ghost use Rattle.resume_core.specs.SaveLaws.{SavesGiveEither, SavesAreSound, SavesAgree, FinishedAreSound, FinishedAgree};
 
 use control_file::control_files_are_read;
 
@@ -30,4 +31,19 @@ pub fn stretched_files_keep_what_is_given()
     ensures same { StretchedGiveTheSame }
     ensures sound { StretchedAreSound }
     ensures agree { StretchedAgree }
+{}
+
+/// An image within a save gives what it gave or what the save lists, as soundly. It does nothing when it runs.
+pub fn saves_give_either()
+    ensures give { SavesGiveEither }
+    ensures sound { SavesAreSound }
+    ensures agree { SavesAgree }
+{
+    control_files_are_read();
+}
+
+/// An image without a control file, beside the payload that the disk reads, is sound. It does nothing when it runs.
+pub fn finished_files_are_sound()
+    ensures sound { FinishedAreSound }
+    ensures agree { FinishedAgree }
 {}

@@ -3,4 +3,7 @@
 
 mod laws;
 
-pub use laws::{same_files_give_the_same, saved_files_give_what_is_listed, stretched_files_keep_what_is_given};
+pub use laws::{
+    finished_files_are_sound, same_files_give_the_same, saved_files_give_what_is_listed,
+    saves_give_either, stretched_files_keep_what_is_given,
+};
