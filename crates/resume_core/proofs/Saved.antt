@@ -10,7 +10,7 @@ use Rattle.control_file.specs.Spelling.{control_bytes}
 use Rattle.control_file.specs.declared.control.Control.{Control}
 use Rattle.control_file.specs.declared.fields.ByteOrder.TheVariants.{Big}
 use Rattle.control_file.specs.declared.want.Want.{Want}
-use Rattle.resume_core.specs.Found.{Used, is_of, judged, found, found_in}
+use Rattle.resume_core.specs.Found.{Used, is_control_of, judged, found, found_in}
 use Rattle.resume_core.specs.Listing.{IsListingOf, GivesJust, MatchesListed}
 use Rattle.resume_core.specs.Resume.{Sound, Agrees}
 use Rattle.resume_core.specs.Steps.{IsSaved}
@@ -23,7 +23,7 @@ all_three a b c p q r = rw (p, q, r) refl
 same_bytes : (a b : List ℕ) → a ≡ b → bytes_eq a b ≡ true
 same_bytes a b same = (bytes_eq-Decides a b).1 same
 
-pub listing_is_of : (want : Want) (control : Control) → IsListingOf want control → is_of want control ≡ true
+pub listing_is_of : (want : Want) (control : Control) → IsListingOf want control → is_control_of want control ≡ true
 listing_is_of want control listing =
     all_three _ _ _ (same_bytes _ _ listing.hash) (eq-eqb _ _ listing.piece_len) (eq-eqb _ _ listing.total)
 

@@ -8,7 +8,7 @@ use Rattle.control_file.specs.declared.fields.ByteOrder.TheVariants.{Big}
 use Rattle.control_file.specs.declared.want.Want.{Want}
 use Rattle.resume_core.specs.Found.{Found, Absent, found, found_in, ListsPiece, ListsInFlight}
 use Rattle.resume_core.specs.Listing.{GivesJust, MatchesListed}
-use Rattle.resume_core.specs.Resume.{PieceGiven, Sound, Agrees, GiveSame}
+use Rattle.resume_core.specs.Resume.{PieceResumed, Sound, Agrees, GiveSame}
 use Rattle.resume_core.specs.SaveLaws.{SavesListing}
 use Rattle.resume_core.specs.Steps.{IsFinished}
 use Rattle.resume_core.specs.Wants.{files_in}
@@ -42,8 +42,8 @@ module _ (want : Want) (seen image : Files) (finished : IsFinished want seen ima
   pub sound_finished : Sound want image
   sound_finished = record {
     right = λ listed piece gives.
-        let given : PieceGiven want Absent (files_in want image) piece =
-        subst (λ (f : Found). PieceGiven want f (files_in want image) piece) absent gives in
+        let given : PieceResumed want Absent (files_in want image) piece =
+        subst (λ (f : Found). PieceResumed want f (files_in want image) piece) absent gives in
         ⊎_elim (λ lists. absurd lists) (λ hashed. hashed.2) given.1;
     pieces = λ piece lists. absurd (subst (λ (f : Found). ListsPiece f piece) absent lists);
     blocks = λ block lists. absurd (subst (λ (f : Found). ListsInFlight want.plan.piece_len f block) absent lists);

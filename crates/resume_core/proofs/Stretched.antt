@@ -7,8 +7,8 @@ use Rattle.dl_disk.specs.Files.{Files}
 use Rattle.dl_kinds.specs.Plan.{piece_start, piece_end, block_start, block_end, piece_of, place_of}
 use Rattle.dl_kinds.specs.declared.plan.TheConstants.{BLOCK_LEN}
 use Rattle.control_file.specs.declared.want.Want.{Want}
-use Rattle.resume_core.specs.Found.{Found, Absent, Refused, Used, Stands, found, found_in, ListsPiece, ListsInFlight}
-use Rattle.resume_core.specs.Resume.{PieceGiven, BlockGiven, GivesPiece, GivesBlock, IsHashed, ReachesPiece, ReachesBlock, Sound, GiveSame, Agrees, byte_at}
+use Rattle.resume_core.specs.Found.{Found, Absent, Refused, Used, ControlStands, found, found_in, ListsPiece, ListsInFlight}
+use Rattle.resume_core.specs.Resume.{PieceResumed, BlockResumed, ResumesPiece, ResumesBlock, IsHashed, ReachesPiece, ReachesBlock, Sound, GiveSame, Agrees, byte_at}
 use Rattle.resume_core.specs.StretchLaws.{StretchedUnder}
 use Rattle.resume_core.specs.Wants.{control_name, files_in}
 use Rattle.resume_core.proofs.Apart.{control_other}
@@ -16,7 +16,7 @@ use Rattle.resume_core.proofs.Stretching.{kept, reach_kept, bytes_kept}
 
 -- a block that is given lies within the files
 block_reached : (want : Want) (f : Found) (contents : List (Option (List ℕ))) (block : ℕ)
-    → BlockGiven want f contents block
+    → BlockResumed want f contents block
     → ReachesBlock want contents block
 block_reached want f contents block gives i below = ⊎_elim
     (λ of_piece.
@@ -29,7 +29,7 @@ block_reached want f contents block gives i below = ⊎_elim
     gives
 
 -- where a control file stands nothing is given by digests
-no_hash : (want : Want) (f : Found) (contents : List (Option (List ℕ))) (piece : ℕ) → Stands f
+no_hash : (want : Want) (f : Found) (contents : List (Option (List ℕ))) (piece : ℕ) → ControlStands f
     → IsHashed want f contents piece → ⊥
 no_hash want Absent contents piece stands hashed = stands
 no_hash want Refused contents piece stands hashed = hashed
@@ -50,8 +50,8 @@ module _ (want : Want) (old new : Files) (under : StretchedUnder want old new) w
   block_reach block = reach_kept want old new under.files (block_start want.plan.piece_len block)
       (block_end want.plan.total want.plan.piece_len block)
 
-  given : (piece : ℕ) → PieceGiven want (found_in want old) (files_in want old) piece
-      → PieceGiven want (found_in want old) (files_in want new) piece
+  given : (piece : ℕ) → PieceResumed want (found_in want old) (files_in want old) piece
+      → PieceResumed want (found_in want old) (files_in want new) piece
   given piece gives = (
     piece_reach piece gives.0,
     ⊎_elim
@@ -60,34 +60,34 @@ module _ (want : Want) (old new : Files) (under : StretchedUnder want old new) w
         gives.1,
   )
 
-  block_given : (block : ℕ) → BlockGiven want (found_in want old) (files_in want old) block
-      → BlockGiven want (found_in want old) (files_in want new) block
+  block_given : (block : ℕ) → BlockResumed want (found_in want old) (files_in want old) block
+      → BlockResumed want (found_in want old) (files_in want new) block
   block_given block gives = ⊎_elim
       (λ of_piece. inl (of_piece.0, given (piece_of want.plan.piece_len block) of_piece.1))
       (λ in_flight. inr (block_reach block in_flight.0, in_flight.1))
       gives
 
-  pub still_piece : (piece : ℕ) → GivesPiece want old piece → GivesPiece want new piece
-  still_piece piece gives = subst (λ (f : Found). PieceGiven want f (files_in want new) piece) (sym same_found)
+  pub still_piece : (piece : ℕ) → ResumesPiece want old piece → ResumesPiece want new piece
+  still_piece piece gives = subst (λ (f : Found). PieceResumed want f (files_in want new) piece) (sym same_found)
       (given piece gives)
 
-  pub still_block : (block : ℕ) → GivesBlock want old block → GivesBlock want new block
-  still_block block gives = subst (λ (f : Found). BlockGiven want f (files_in want new) block) (sym same_found)
+  pub still_block : (block : ℕ) → ResumesBlock want old block → ResumesBlock want new block
+  still_block block gives = subst (λ (f : Found). BlockResumed want f (files_in want new) block) (sym same_found)
       (block_given block gives)
 
   -- and nothing more, where the image was sound
   module _ (sound : Sound want old) where
-    listed_before : (piece : ℕ) → GivesPiece want new piece → ListsPiece (found_in want old) piece
+    listed_before : (piece : ℕ) → ResumesPiece want new piece → ListsPiece (found_in want old) piece
     listed_before piece gives = ⊎_elim
         (λ lists. subst (λ (f : Found). ListsPiece f piece) same_found lists)
         (λ hashed. absurd (no_hash want (found_in want old) (files_in want new) piece under.stands
         (subst (λ (f : Found). IsHashed want f (files_in want new) piece) same_found hashed)))
         gives.1
 
-    was_piece : (piece : ℕ) → GivesPiece want new piece → GivesPiece want old piece
+    was_piece : (piece : ℕ) → ResumesPiece want new piece → ResumesPiece want old piece
     was_piece piece gives = let lists = listed_before piece gives in (sound.pieces piece lists, inl lists)
 
-    was_block : (block : ℕ) → GivesBlock want new block → GivesBlock want old block
+    was_block : (block : ℕ) → ResumesBlock want new block → ResumesBlock want old block
     was_block block gives = ⊎_elim
         (λ of_piece. inl (of_piece.0, was_piece (piece_of want.plan.piece_len block) of_piece.1))
         (λ in_flight.

@@ -12,7 +12,7 @@ use Rattle.span_map.specs.declared.files.FileLen.{FileLen}
 use Rattle.payload_files.specs.Names.{name_of}
 use Rattle.payload_files.specs.Changes.{Stretches}
 use Rattle.control_file.specs.declared.want.Want.{Want}
-use Rattle.resume_core.specs.Resume.{byte_at, Reach, bytes_from}
+use Rattle.resume_core.specs.Resume.{byte_at, Reach, payload_bytes}
 use Rattle.resume_core.specs.Wants.{files_in}
 
 none_is_some : {P : Type 0} → IsSome {T = ℕ} None → P
@@ -80,7 +80,7 @@ module _ (want : Want) (old new : Files) (stretches : Stretches want.dir want.la
       (sym (byte_kept want.dir old new want.layout each (start + i) (reach i below))) (reach i below)
 
   pub bytes_kept : (start end : ℕ) → Reach want (files_in want old) start end
-      → bytes_from want (files_in want new) start end ≡ bytes_from want (files_in want old) start end
+      → payload_bytes want (files_in want new) start end ≡ payload_bytes want (files_in want old) start end
   bytes_kept start end reach =
       let count = end - start in
       let was = λ (i : ℕ). unwrap_or (byte_at want.layout (files_in want old) (start + i)) 0 in

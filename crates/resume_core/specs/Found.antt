@@ -21,14 +21,14 @@ hash_bytes None = []
 hash_bytes (Some hash) = hash
 
 -- whether the control file is of this want
-abbrev pub is_of : Want → Control → Bool
-is_of want control =
+abbrev pub is_control_of : Want → Control → Bool
+is_control_of want control =
     bytes_eq control.info_hash (hash_bytes want.info_hash)
     && control.piece_len == want.plan.piece_len && control.total == want.plan.total
 
 abbrev pub judged : Want → Result Control ControlErr → Found
 judged want (Err fault) = Refused
-judged want (Ok control) = if is_of want control then Used control else Refused
+judged want (Ok control) = if is_control_of want control then Used control else Refused
 
 -- what the bytes under its name come to
 abbrev pub found : Want → Option (List ℕ) → Found
@@ -39,10 +39,10 @@ abbrev pub found_in : Want → Files → Found
 found_in want image = found want (image (control_name want))
 
 -- a control file stands, of use or not
-abbrev pub Stands : Found → Type 0
-Stands Absent = ⊥
-Stands Refused = Unit {0}
-Stands (Used control) = Unit {0}
+abbrev pub ControlStands : Found → Type 0
+ControlStands Absent = ⊥
+ControlStands Refused = Unit {0}
+ControlStands (Used control) = Unit {0}
 
 -- the piece stands in the bit field
 abbrev pub ListsPiece : Found → ℕ → Type 0

@@ -6,8 +6,8 @@ use Rattle.control_file.specs.Spelling.{IsWritableControl}
 use Rattle.control_file.specs.declared.control.Control.{Control}
 use Rattle.control_file.specs.declared.want.Want.{Want}
 use Rattle.resume_core.specs.Found.{IsBlockInFlight, hash_bytes}
-use Rattle.resume_core.specs.Resume.{GivesPiece, GivesBlock, HasDigest}
-use Rattle.resume_core.specs.Wants.{IsListed, files_in}
+use Rattle.resume_core.specs.Resume.{ResumesPiece, ResumesBlock, HasDigest}
+use Rattle.resume_core.specs.Wants.{IsListedWant, files_in}
 
 -- a control file of the want, as a writer has it
 pub record IsListingOf (want : Want) (control : Control) : Type 0 where
@@ -27,10 +27,10 @@ BlockListed want control block =
 
 -- the image gives just what is listed
 pub record GivesJust (want : Want) (control : Control) (image : Files) : Type 0 where
-  pub pieces : (piece : ℕ) → GivesPiece want image piece ↔ PieceListed control piece
-  pub blocks : (block : ℕ) → GivesBlock want image block ↔ BlockListed want control block
+  pub pieces : (piece : ℕ) → ResumesPiece want image piece ↔ PieceListed control piece
+  pub blocks : (block : ℕ) → ResumesBlock want image block ↔ BlockListed want control block
 
 -- the listed pieces of a listed want have their digests as the disk reads them
 abbrev pub MatchesListed : Want → Control → Files → Type 0
 MatchesListed want control seen =
-    IsListed want → (piece : ℕ) → PieceListed control piece → HasDigest want (files_in want seen) piece
+    IsListedWant want → (piece : ℕ) → PieceListed control piece → HasDigest want (files_in want seen) piece

@@ -7,7 +7,7 @@ use Rattle.dl_kinds.specs.Plan.{blocks_of, block_start, block_end, piece_start, 
 use Rattle.span_map.specs.declared.files.FileLen.{FileLen}
 use Rattle.control_file.specs.declared.want.Want.{Want}
 use Rattle.resume_core.specs.Found.{Found, Absent, Refused, Used, found_in, ListsPiece, ListsInFlight}
-use Rattle.resume_core.specs.Wants.{IsListed, files_in}
+use Rattle.resume_core.specs.Wants.{IsListedWant, files_in}
 
 -- the byte at a place of the payload, where the files have one there
 abbrev pub byte_at : List FileLen → List (Option (List ℕ)) → ℕ → Option ℕ
@@ -20,8 +20,8 @@ abbrev pub Reach : Want → List (Option (List ℕ)) → ℕ → ℕ → Type 0
 Reach want contents start end = (i : ℕ) → start + i < end → IsSome (byte_at want.layout contents (start + i))
 
 -- these bytes; 0 for one that the files don't have
-abbrev pub bytes_from : Want → List (Option (List ℕ)) → ℕ → ℕ → List ℕ
-bytes_from want contents start end =
+abbrev pub payload_bytes : Want → List (Option (List ℕ)) → ℕ → ℕ → List ℕ
+payload_bytes want contents start end =
     map (λ i. unwrap_or (byte_at want.layout contents (start + i)) 0) (range_with_len 0 (end - start))
 
 abbrev pub ReachesPiece : Want → List (Option (List ℕ)) → ℕ → Type 0
@@ -32,40 +32,40 @@ abbrev pub ReachesBlock : Want → List (Option (List ℕ)) → ℕ → Type 0
 ReachesBlock want contents block =
     Reach want contents (block_start want.plan.piece_len block) (block_end want.plan.total want.plan.piece_len block)
 
-abbrev pub piece_bytes : Want → List (Option (List ℕ)) → ℕ → List ℕ
-piece_bytes want contents piece =
-    bytes_from want contents (piece_start want.plan.piece_len piece) (piece_end want.plan.total want.plan.piece_len piece)
+abbrev pub piece_payload : Want → List (Option (List ℕ)) → ℕ → List ℕ
+piece_payload want contents piece =
+    payload_bytes want contents (piece_start want.plan.piece_len piece) (piece_end want.plan.total want.plan.piece_len piece)
 
 -- the piece has its listed digest (BEP 3, `pieces`)
 abbrev pub HasDigest : Want → List (Option (List ℕ)) → ℕ → Type 0
-HasDigest want contents piece = slice_get want.digests piece ≡ Some (sha1 (piece_bytes want contents piece))
+HasDigest want contents piece = slice_get want.digests piece ≡ Some (sha1 (piece_payload want contents piece))
 
 -- without a control file the pieces of a listed want are those whose bytes have their digests
 abbrev pub IsHashed : Want → Found → List (Option (List ℕ)) → ℕ → Type 0
-IsHashed want Absent contents piece = IsListed want × (piece < want.plan.pieces) × HasDigest want contents piece
+IsHashed want Absent contents piece = IsListedWant want × (piece < want.plan.pieces) × HasDigest want contents piece
 IsHashed want Refused contents piece = ⊥
 IsHashed want (Used control) contents piece = ⊥
 
 -- the pieces and the blocks that a control file, or none, gives beside these files
-abbrev pub PieceGiven : Want → Found → List (Option (List ℕ)) → ℕ → Type 0
-PieceGiven want found contents piece =
+abbrev pub PieceResumed : Want → Found → List (Option (List ℕ)) → ℕ → Type 0
+PieceResumed want found contents piece =
     ReachesPiece want contents piece × (ListsPiece found piece ⊎ IsHashed want found contents piece)
 
-abbrev pub BlockGiven : Want → Found → List (Option (List ℕ)) → ℕ → Type 0
-BlockGiven want found contents block =
-    ((block < blocks_of want.plan.total want.plan.piece_len) × PieceGiven want found contents (piece_of want.plan.piece_len block))
+abbrev pub BlockResumed : Want → Found → List (Option (List ℕ)) → ℕ → Type 0
+BlockResumed want found contents block =
+    ((block < blocks_of want.plan.total want.plan.piece_len) × PieceResumed want found contents (piece_of want.plan.piece_len block))
     ⊎ (ReachesBlock want contents block × ListsInFlight want.plan.piece_len found block)
 
 -- Resume: the pieces and the blocks that an image gives
-abbrev pub GivesPiece : Want → Files → ℕ → Type 0
-GivesPiece want image piece = PieceGiven want (found_in want image) (files_in want image) piece
+abbrev pub ResumesPiece : Want → Files → ℕ → Type 0
+ResumesPiece want image piece = PieceResumed want (found_in want image) (files_in want image) piece
 
-abbrev pub GivesBlock : Want → Files → ℕ → Type 0
-GivesBlock want image block = BlockGiven want (found_in want image) (files_in want image) block
+abbrev pub ResumesBlock : Want → Files → ℕ → Type 0
+ResumesBlock want image block = BlockResumed want (found_in want image) (files_in want image) block
 
 -- Each piece that a listed want is given has its digest, and the control file lists nothing past the end of a file.
 pub record Sound (want : Want) (image : Files) : Type 0 where
-  pub right : IsListed want → (piece : ℕ) → GivesPiece want image piece → HasDigest want (files_in want image) piece
+  pub right : IsListedWant want → (piece : ℕ) → ResumesPiece want image piece → HasDigest want (files_in want image) piece
   pub pieces : (piece : ℕ) → ListsPiece (found_in want image) piece → ReachesPiece want (files_in want image) piece
   pub blocks : (block : ℕ) → ListsInFlight want.plan.piece_len (found_in want image) block → ReachesBlock want (files_in want image) block
 
@@ -81,7 +81,7 @@ HaveSameBlock want old new block =
 -- each block that the image gives has in it the bytes that the disk reads there
 abbrev pub Agrees : Want → Files → Files → Type 0
 Agrees want seen image =
-    (block : ℕ) → GivesBlock want image block → HaveSameBlock want (files_in want seen) (files_in want image) block
+    (block : ℕ) → ResumesBlock want image block → HaveSameBlock want (files_in want seen) (files_in want image) block
 
 -- each image is sound, and agrees with what the disk reads
 abbrev pub AreSound : Want → Files → (Files → Type 0) → Type 0
@@ -89,12 +89,12 @@ AreSound want seen images = (image : Files) → images image → Sound want imag
 
 -- both give the same
 pub record GiveSame (want : Want) (a b : Files) : Type 0 where
-  pub pieces : (piece : ℕ) → GivesPiece want b piece ↔ GivesPiece want a piece
-  pub blocks : (block : ℕ) → GivesBlock want b block ↔ GivesBlock want a block
+  pub pieces : (piece : ℕ) → ResumesPiece want b piece ↔ ResumesPiece want a piece
+  pub blocks : (block : ℕ) → ResumesBlock want b block ↔ ResumesBlock want a block
 
 -- one of the images before gave no more
 pub record GivesAtLeast (want : Want) (images : Files → Type 0) (image : Files) : Type 0 where
   pub before : Files
   pub left : images before
-  pub pieces : (piece : ℕ) → GivesPiece want before piece → GivesPiece want image piece
-  pub blocks : (block : ℕ) → GivesBlock want before block → GivesBlock want image block
+  pub pieces : (piece : ℕ) → ResumesPiece want before piece → ResumesPiece want image piece
+  pub blocks : (block : ℕ) → ResumesBlock want before block → ResumesBlock want image block

@@ -19,8 +19,8 @@ abbrev pub temporary_name : Want → List ℕ
 temporary_name want = payload_name want ++ codes ".aria2__temp"
 
 -- a listed want has digests
-abbrev pub IsListed : Want → Type 0
-IsListed want = IsSome want.info_hash
+abbrev pub IsListedWant : Want → Type 0
+IsListedWant want = IsSome want.info_hash
 
 -- The plan is that of the files, each listed piece has a digest, and each path begins with `base`, so that the control
 -- file and the temporary one are no files of the payload.
@@ -30,7 +30,7 @@ pub record IsWant (want : Want) : Type 0 where
   pub plan : IsPlan want.plan.total want.plan.piece_len
   pub pieces : want.plan.pieces ≡ pieces_of want.plan.total want.plan.piece_len
   pub hash : IfSome want.info_hash (λ hash. length hash ≡ 20)
-  pub digests : IsListed want → length want.digests ≡ want.plan.pieces
+  pub digests : IsListedWant want → length want.digests ≡ want.plan.pieces
   pub unlisted : want.info_hash ≡ None → want.digests ≡ []
   pub behind : All (λ file. (rest : List (List ℕ)) × (file.path ≡ want.base ∷ rest)) want.layout
 
