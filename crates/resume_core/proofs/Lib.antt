@@ -5,3 +5,4 @@ pub mod Saved
 pub mod Saving
 pub mod Stretched
 pub mod Stretching
+pub mod Wholes

@@ -2,6 +2,7 @@
 #![tactic(auto)]
 
 mod laws;
+mod whole_files;
 
 pub use laws::{
     finished_files_are_sound, same_files_give_the_same, saved_files_give_what_is_listed,
