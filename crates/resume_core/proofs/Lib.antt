@@ -1,4 +1,5 @@
 pub mod Apart
+pub mod Puts
 pub mod Reaching
 pub mod Same
 pub mod Saved
