@@ -1,3 +1,4 @@
+mod Back
 pub mod Ones
 pub mod Places
 pub mod Rows

@@ -1,3 +1,4 @@
 pub mod Kept
 pub mod Row
+pub mod RowLaws
 pub mod Runs

@@ -1,0 +1,13 @@
+pub mod Flights
+pub mod Found
+pub mod Numbers
+pub mod Open
+pub mod Ordered
+pub mod Plans
+pub mod Progress
+pub mod RowBytes
+pub mod Sections
+pub mod Spare
+pub mod Steps
+pub mod Taken
+pub mod Written
