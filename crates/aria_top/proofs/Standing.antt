@@ -47,7 +47,7 @@ stand_more info files piece at len bytes place size held right stand = record {
 -- files that are the same hold the same pieces
 pub stand_same : SameFilesHold → (info : Info) (old new : Files) (count : ℕ) → AreSame here info.files new old → PiecesStand info old count → PiecesStand info new count
 stand_same law info old new count same stand =
-    let held = law info.files old new same stand.lengths in
+    let held = law here info.files old new same stand.lengths in
     record {
       lengths = held.0;
       pieces = λ piece within. ap (λ (payload : List ℕ). sha1 (part_at payload (start_of info piece) (size_of info piece))) held.1 ∙ stand.pieces piece within;

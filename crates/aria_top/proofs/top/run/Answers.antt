@@ -34,7 +34,7 @@ pub returns-clause-no_control_file : goal.returns-clause-no_control_file
 returns-clause-no_control_file g c tells info to lacks =
     let named : file_named c.args.words.now ≡ Some c.in-Some.name.now = sym c.metainfo_name.ensures ∙ ap option_copied c.in-Some.is in
     let says = to_says c.args.words.now (g.D.Disk.state c.args.disk).seen c.in-Some.name.now info named to in
-    lacks_on info.files _ _ _ _ _ (control_is_other info (says_sound c.metainfo_is_sound.ensures _ info says)) (c.run_named-status.ensures.others tells info says) lacks
+    lacks_on info.files _ _ _ (control_is_other info (says_sound c.metainfo_is_sound.ensures _ info says)) (c.run_named-status.ensures.others tells info says) lacks
 
 pub returns-clause-summary : goal.returns-clause-summary
 returns-clause-summary g c not_memory not_sink tells sink_tells info to =
