@@ -1,5 +1,6 @@
 // The real disk: names are paths, relative to the current folder.
-ghost use Rattle.std.specs.Prelude.{[], false, None, refl};
+ghost use Rattle.std.specs.Prelude.{false};
+ghost use Rattle.dl_disk.specs.State.{no_disk};
 
 use crate::faults::Faults;
 use dl_disk::Disk;
@@ -51,10 +52,26 @@ impl<'a, R: Files<File = File>> FileDisk<'a, R> {
             Err(e) if e.kind() == ErrorKind::NotFound => {}
             Err(e) => return Err(e),
         }
+        self.write_out_folder_of(name)
+    }
+
+    fn write_out_folder_of(&self, name: &str) -> io::Result<()> {
         match Path::new(name).parent() {
             Some(folder) => self.write_out_folder(folder),
             None => Ok(()),
         }
+    }
+
+    // The folders of both names are written out, so that a crash leaves the file under the new name alone.
+    fn move_file(&self, from: &str, to: &str) -> io::Result<()> {
+        fs::rename(self.rt, from, to)?;
+        self.write_out_folder_of(to)?;
+        self.write_out_folder_of(from)
+    }
+
+    fn remove_file(&self, name: &str) -> io::Result<()> {
+        fs::remove_file(self.rt, name)?;
+        self.write_out_folder_of(name)
     }
 
     fn write_out_folder(&self, folder: Path<'_>) -> io::Result<()> {
@@ -84,27 +101,9 @@ impl<'a, R: Files<File = File>> FileDisk<'a, R> {
 impl<'a, R: Files<File = File>> Disk for FileDisk<'a, R> {
     ghost tells = { false };
 
-    ghost seen = { λ _ _. None };
-
-    ghost may_leave = { λ _ _. Unit {0} };
-
-    ghost moment = { λ _. 0 };
-
-    ghost seen_at = { λ _ _ _. None };
-
-    ghost left_at = { λ _ _ _. Unit {0} };
-
-    ghost reads = { λ _ _. 0 };
-
-    ghost folders = { λ _. [] };
+    ghost state = { λ _. no_disk };
 
     ghost faults = { λ disk. disk.faults.count };
-
-    ghost own_image = { λ disk told. tt };
-
-    ghost now_seen = { λ disk name told. refl };
-
-    ghost now_left = { λ disk image told. (λ x. x, λ x. x) };
 
     fn faults(&self) -> u64 {
         self.faults.count
@@ -134,6 +133,16 @@ impl<'a, R: Files<File = File>> Disk for FileDisk<'a, R> {
 
     fn sync(&mut self, name: &str) -> Result<(), IoErr> {
         let outcome = self.write_out(name);
+        self.faults.note(outcome)
+    }
+
+    fn replace(&mut self, from: &str, to: &str) -> Result<(), IoErr> {
+        let outcome = self.move_file(from, to);
+        self.faults.note(outcome)
+    }
+
+    fn remove(&mut self, name: &str) -> Result<(), IoErr> {
+        let outcome = self.remove_file(name);
         self.faults.note(outcome)
     }
 

@@ -1,7 +1,6 @@
 // How often a real thing failed.
-ghost use Rattle.std.specs.Prelude.{◌≡◌, Ok, IfOk, IsErrOf};
+ghost use Rattle.std.specs.Prelude.{◌≡◌, Ok, IfOk};
 ghost use Rattle.dl_kinds.specs.Causes.{HasCause};
-ghost use Rattle.dl_kinds.specs.declared.outside.IoErr.TheVariants.{NoMemory};
 
 use dl_kinds::IoErr;
 use std::io;
@@ -20,7 +19,6 @@ impl Faults {
     /// Hands an outcome on, and counts it where it is a failure.
     pub fn note<T>(&mut self, outcome: io::Result<T>) -> Result<T, IoErr>
         ensures cause { HasCause self.old.count self.new.count result }
-        ensures same { IsErrOf result NoMemory → self.new.count ≡ self.old.count }
         ensures value { IfOk result (λ value. outcome ≡ Ok value) }
     {
         match outcome {

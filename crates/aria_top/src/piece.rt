@@ -22,8 +22,8 @@ ghost use Rattle.memory_serving_laws.specs.Serving.{GivesAll};
 use dl_kinds::{NoMemory, Run};
 use fetch_session::{Fetch, FetchRoom, Loss};
 use link_source::Links;
-use metainfo::Meta;
 use memory_serving_laws::{gains_are_honest, served_comes};
+use metainfo::Meta;
 use span_map::{Job, JobPart, JobParts, Part};
 use std::alloc::Global;
 

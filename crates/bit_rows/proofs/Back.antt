@@ -63,29 +63,29 @@ byte_back (a ∷ b ∷ c ∷ d ∷ e ∷ f ∷ g ∷ []) long = absurd (omega (a
 byte_back (a ∷ b ∷ c ∷ d ∷ e ∷ f ∷ g ∷ h ∷ i ∷ bits) long = absurd (omega (arith, long))
 byte_back (a ∷ b ∷ c ∷ d ∷ e ∷ f ∷ g ∷ h ∷ []) long =
     let a_is = digit_back a _ (digit_a (digit a) (digit b) (digit c) (digit d) (digit e) (digit f) (digit g) (digit h)
-        (digit_small a) (digit_small b) (digit_small c) (digit_small d) (digit_small e) (digit_small f)
-        (digit_small g) (digit_small h)) in
+    (digit_small a) (digit_small b) (digit_small c) (digit_small d) (digit_small e) (digit_small f)
+    (digit_small g) (digit_small h)) in
     let b_is = digit_back b _ (digit_b (digit a) (digit b) (digit c) (digit d) (digit e) (digit f) (digit g) (digit h)
-        (digit_small a) (digit_small b) (digit_small c) (digit_small d) (digit_small e) (digit_small f)
-        (digit_small g) (digit_small h)) in
+    (digit_small a) (digit_small b) (digit_small c) (digit_small d) (digit_small e) (digit_small f)
+    (digit_small g) (digit_small h)) in
     let c_is = digit_back c _ (digit_c (digit a) (digit b) (digit c) (digit d) (digit e) (digit f) (digit g) (digit h)
-        (digit_small a) (digit_small b) (digit_small c) (digit_small d) (digit_small e) (digit_small f)
-        (digit_small g) (digit_small h)) in
+    (digit_small a) (digit_small b) (digit_small c) (digit_small d) (digit_small e) (digit_small f)
+    (digit_small g) (digit_small h)) in
     let d_is = digit_back d _ (digit_d (digit a) (digit b) (digit c) (digit d) (digit e) (digit f) (digit g) (digit h)
-        (digit_small a) (digit_small b) (digit_small c) (digit_small d) (digit_small e) (digit_small f)
-        (digit_small g) (digit_small h)) in
+    (digit_small a) (digit_small b) (digit_small c) (digit_small d) (digit_small e) (digit_small f)
+    (digit_small g) (digit_small h)) in
     let e_is = digit_back e _ (digit_e (digit a) (digit b) (digit c) (digit d) (digit e) (digit f) (digit g) (digit h)
-        (digit_small a) (digit_small b) (digit_small c) (digit_small d) (digit_small e) (digit_small f)
-        (digit_small g) (digit_small h)) in
+    (digit_small a) (digit_small b) (digit_small c) (digit_small d) (digit_small e) (digit_small f)
+    (digit_small g) (digit_small h)) in
     let f_is = digit_back f _ (digit_f (digit a) (digit b) (digit c) (digit d) (digit e) (digit f) (digit g) (digit h)
-        (digit_small a) (digit_small b) (digit_small c) (digit_small d) (digit_small e) (digit_small f)
-        (digit_small g) (digit_small h)) in
+    (digit_small a) (digit_small b) (digit_small c) (digit_small d) (digit_small e) (digit_small f)
+    (digit_small g) (digit_small h)) in
     let g_is = digit_back g _ (digit_g (digit a) (digit b) (digit c) (digit d) (digit e) (digit f) (digit g) (digit h)
-        (digit_small a) (digit_small b) (digit_small c) (digit_small d) (digit_small e) (digit_small f)
-        (digit_small g) (digit_small h)) in
+    (digit_small a) (digit_small b) (digit_small c) (digit_small d) (digit_small e) (digit_small f)
+    (digit_small g) (digit_small h)) in
     let h_is = digit_back h _ (digit_h (digit a) (digit b) (digit c) (digit d) (digit e) (digit f) (digit g) (digit h)
-        (digit_small a) (digit_small b) (digit_small c) (digit_small d) (digit_small e) (digit_small f)
-        (digit_small g) (digit_small h)) in
+    (digit_small a) (digit_small b) (digit_small c) (digit_small d) (digit_small e) (digit_small f)
+    (digit_small g) (digit_small h)) in
     rw (a_is, b_is, c_is, d_is, e_is, f_is, g_is, h_is) refl
 
 -- ---- the bits of bytes
@@ -99,7 +99,7 @@ from_here xs (suc n) a long =
     let here : length (take 8 rest) ≡ 8 = omega (arith, length-take 8 rest, length-drop (8 * a) xs, long) in
     let next : drop (8 * (a + 1)) xs ≡ drop 8 rest = ap (λ k. drop k xs) (omega arith) ∙ sym (drop-drop 8 (8 * a) xs) in
     ap (λ bits. bits ++ bits_of (map (λ at. bits_number (take 8 (drop (8 * at) xs))) (range_with_len (a + 1) n)))
-        (byte_back (take 8 rest) here)
+    (byte_back (take 8 rest) here)
     ∙ ap (λ bits. take 8 rest ++ bits) (from_here xs n (a + 1) (omega (arith, long)) ∙ next)
     ∙ take-append-drop 8 rest
 
@@ -108,7 +108,7 @@ bits_back row =
     let n = bytes_for (length row) in
     let spare = 8 * n - length row in
     from_here (padded row) n 0 (length-append row (replicate spare false)
-        ∙ omega (arith, length-replicate {A = Bool} spare false))
+    ∙ omega (arith, length-replicate {A = Bool} spare false))
 
 none_false : (n : ℕ) → Contains (replicate n false) true → ⊥
 none_false n (k, within, is) =

@@ -54,11 +54,11 @@ chosen choice edit file =
     else if choice == 1 then Some (edited edit (file_bytes file)) else Some (flooded choice edit (file_bytes file))
 
 -- what a crash leaves after a call, from what it leaves before it
-abbrev pub left_by : ℕ → List ℕ → Action → Files → Files
-left_by choice name (Change edit) left other = if bytes_eq name other then chosen choice edit (left name) else left other
-left_by choice name (Replace to) left other = if choice == 0 then left other else moved left name to other
-left_by choice name Remove left other = if choice == 0 then left other else if bytes_eq name other then None else left other
-left_by choice name action left other = left other
+abbrev pub remains_by : ℕ → List ℕ → Action → Files → Files
+remains_by choice name (Change edit) left other = if bytes_eq name other then chosen choice edit (left name) else left other
+remains_by choice name (Replace to) left other = if choice == 0 then left other else moved left name to other
+remains_by choice name Remove left other = if choice == 0 then left other else if bytes_eq name other then None else left other
+remains_by choice name action left other = left other
 
 -- the choice for a call before these ones: the next one given where a crash may lose it, and otherwise as it was
 abbrev pub choice_of : List ℕ → Call → List Call → ℕ
@@ -73,7 +73,7 @@ choices_after choices call later = if is_pending call later then drop 1 choices 
 abbrev pub crashed : Files → List ℕ → List Call → Files
 crashed left choices [] = left
 crashed left choices (call ∷ later) =
-    crashed (left_by (choice_of choices call later) call.name call.action left) (choices_after choices call later) later
+    crashed (remains_by (choice_of choices call later) call.name call.action left) (choices_after choices call later) later
 
 -- what a crash of this disk leaves
 abbrev pub crash_of : MemDisk → List ℕ → Files

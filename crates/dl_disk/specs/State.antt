@@ -1,5 +1,5 @@
 -- What a disk tells of itself.
-use Rattle.std.specs.Prelude.{◌≡◌, ◌↔◌, ◌≤◌, ℕ, List}
+use Rattle.std.specs.Prelude.{◌≡◌, ◌↔◌, ◌≤◌, ℕ, List, [], None, refl}
 use Rattle.dl_disk.specs.Files.{Files}
 
 -- What a read gives now, and the images: what a crash now may leave. The moment is raised by one by each call that is
@@ -29,3 +29,18 @@ ReadSince disk t files = (k : ℕ) × (t ≤ k) × (k ≤ disk.moment) × (files
 -- whatever a crash leaves, it has of this file what a read gives
 abbrev pub IsDurable : List ℕ → DiskState → Type 0
 IsDurable name disk = (image : Files) → disk.may_leave image → image name ≡ disk.seen name
+
+-- what a disk of which nothing is told is taken for
+abbrev pub no_disk : DiskState
+no_disk = record {
+  seen = λ name. None;
+  may_leave = λ image. Unit {0};
+  moment = 0;
+  seen_at = λ t name. None;
+  left_at = λ t image. Unit {0};
+  reads = λ name. 0;
+  folders = [];
+  own_image = tt;
+  now_seen = refl;
+  now_left = λ image. (λ left. left, λ left. left);
+}

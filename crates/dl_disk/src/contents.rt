@@ -57,7 +57,8 @@ impl Contents {
 
     /// Makes this file, in place of one of its name.
     pub fn put(&mut self, alloc: Global, name: &str, bytes: Vec<u8>) -> Result<(), AllocError>
-        ensures ok { OnOk result (Puts name.now (Some bytes.items) (files_of self.old) (files_of self.new)) }
+        ensures ok { OnOk result (Puts name.now (Some bytes.items) (files_of self.old)
+            (files_of self.new)) }
         ensures err { OnErr result (IsSame (files_of self.old) (files_of self.new)) }
     {
         self.files.insert(String::from_str(alloc, name)?, bytes)?;
@@ -82,7 +83,8 @@ impl Contents {
     // Makes an empty file where there is none.
     fn make(&mut self, alloc: Global, name: &str) -> Result<(), AllocError>
         ensures stands { OnOk result (IsSome (files_of self.new name.now)) }
-        ensures others { (other : List ℕ) → other ≢ name.now → files_of self.new other ≡ files_of self.old other }
+        ensures others { (other : List ℕ) → other ≢ name.now → files_of self.new other
+            ≡ files_of self.old other }
         ensures err { OnErr result (IsSame (files_of self.old) (files_of self.new)) }
     {
         if self.get(name).is_some() {
@@ -104,7 +106,8 @@ impl Contents {
     /// Puts a file in the place of another.
     pub fn rename(&mut self, alloc: Global, from: &str, to: &str) -> Result<(), AllocError>
         requires { IsSome (files_of self.old from.now) }
-        ensures ok { OnOk result (IsSame (moved (files_of self.old) from.now to.now) (files_of self.new)) }
+        ensures ok { OnOk result (IsSame (moved (files_of self.old) from.now to.now)
+            (files_of self.new)) }
         ensures err { OnErr result (IsSame (files_of self.old) (files_of self.new)) }
     {
         if from == to {
@@ -118,7 +121,8 @@ impl Contents {
 
     /// Puts what stands under one name in the place of another; where nothing stands there, nothing stands then.
     pub fn move_over(&mut self, alloc: Global, from: &str, to: &str) -> Result<(), AllocError>
-        ensures { OnOk result (IsSame (moved (files_of self.old) from.now to.now) (files_of self.new)) }
+        ensures { OnOk result (IsSame (moved (files_of self.old) from.now to.now)
+            (files_of self.new)) }
     {
         if from == to {
             return Ok(());
@@ -135,7 +139,8 @@ impl Contents {
     /// Edits a file, and makes it where there is none.
     pub fn edit(&mut self, alloc: Global, name: &str, edit: &Edit) -> Result<(), AllocError>
         requires { IsTrue (fits edit.now) }
-        ensures ok { OnOk result (EditsFile name.now edit.now (files_of self.old) (files_of self.new)) }
+        ensures ok { OnOk result (EditsFile name.now edit.now (files_of self.old)
+            (files_of self.new)) }
         ensures err { OnErr result (IsSame (files_of self.old) (files_of self.new)) }
     {
         if let Some(bytes) = self.files.get_mut(name) {

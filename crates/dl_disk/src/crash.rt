@@ -1,7 +1,7 @@
 // What a crash leaves of a disk in memory.
 ghost use Rattle.std.specs.Prelude.{◌≡◌, ◌+◌, ◌<◌, length, drop, IfOk, OnOk, IsTrue};
 ghost use Rattle.dl_disk.specs.Contents.{files_of};
-ghost use Rattle.dl_disk.specs.Crash.{lasts_by, is_pending, chosen, flooded, left_by, choice_of, choices_after, crashed};
+ghost use Rattle.dl_disk.specs.Crash.{lasts_by, is_pending, chosen, flooded, remains_by, choice_of, choices_after, crashed};
 ghost use Rattle.dl_disk.specs.Edit.{fits};
 ghost use Rattle.dl_disk.specs.Files.{IsSame, Puts};
 
@@ -49,7 +49,8 @@ impl Call {
     // Makes of the files what a crash leaves of the call by this choice.
     fn leave(&self, alloc: Global, choice: u8, left: &mut Contents) -> Result<(), AllocError>
         ensures { OnOk result
-            (IsSame (left_by choice self.now.name self.now.action (files_of left.old)) (files_of left.new)) }
+            (IsSame (remains_by choice self.now.name self.now.action (files_of left.old))
+            (files_of left.new)) }
     {
         let name = self.name.as_str();
         match &self.action {
@@ -137,7 +138,8 @@ pub fn survivors(
     calls: &[Call],
     choices: &[u8],
 ) -> Result<Contents, AllocError>
-    ensures { IfOk result (λ left. IsSame (crashed (files_of start.now) choices.now calls.now) (files_of left)) }
+    ensures { IfOk result (λ left. IsSame (crashed (files_of start.now) choices.now calls.now)
+        (files_of left)) }
 {
     let mut left = start.copy()?;
     let mut choices = choices;

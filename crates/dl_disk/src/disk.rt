@@ -30,13 +30,15 @@ pub trait Disk {
 
     /// The length of a file in bytes, and None where there is no such file.
     fn len(&mut self, name: &str) -> Result<Option<u64>, IoErr>
-        ensures len { IfOk result (λ len. IsTrue tells → len ≡ option_map length ((state self.old).seen name.now)) }
+        ensures len { IfOk result (λ len. IsTrue tells
+            → len ≡ option_map length ((state self.old).seen name.now)) }
         ensures looks { IsTrue tells → Looks (state self.old) (state self.new) result }
         ensures cause { HasCause (faults self.old) (faults self.new) result };
 
     /// Fills the buffer from the byte at `at` on. Past the end of the file it is a fault.
     fn read_at(&mut self, name: &str, at: u64, into: &mut [u8]) -> Result<(), IoErr>
-        ensures read { OnOk result (IsTrue tells → ReadsAt ((state self.old).seen name.now) at into.new) }
+        ensures read { OnOk result (IsTrue tells
+            → ReadsAt ((state self.old).seen name.now) at into.new) }
         ensures looks { IsTrue tells → LooksInto name.now (state self.old) (state self.new) result }
         ensures cause { HasCause (faults self.old) (faults self.new) result };
 
@@ -45,7 +47,8 @@ pub trait Disk {
         ensures written { OnOk result (IsTrue tells
             → Writes name.now at bytes.now (state self.old).seen (state self.new).seen) }
         ensures alters { IsTrue tells
-            → Alters (TornWrite name.now at (length bytes.now)) (state self.old) (state self.new) result }
+            → Alters (TornWrite name.now at (length bytes.now)) (state self.old)
+            (state self.new) result }
         ensures cause { HasCause (faults self.old) (faults self.new) result };
 
     /// Cuts the file to this length, or lengthens it by zeros, and makes it where there is none.
@@ -81,6 +84,7 @@ pub trait Disk {
     /// Makes this folder and its parents, and is content where it stands. Folders are no files; one that was made with
     /// Ok outlasts a crash.
     fn make_dir(&mut self, name: &str) -> Result<(), IoErr>
-        ensures made { IsTrue tells → MakesFolder name.now (state self.old) (state self.new) result }
+        ensures made { IsTrue tells → MakesFolder name.now (state self.old)
+            (state self.new) result }
         ensures cause { HasCause (faults self.old) (faults self.new) result };
 }

@@ -48,7 +48,7 @@ fn reaches(file: Option<&[u8]>, at: u64, len: u64) -> bool
 impl MemDisk {
     ghost use Rattle.std.specs.Prelude.{length};
     ghost use Rattle.dl_disk.specs.Files.{ReadsAt};
-    ghost use Rattle.dl_disk.specs.MemDisk.{reading, failing_calls, next_call, will_do, IsFresh, Notes, Counts};
+    ghost use Rattle.dl_disk.specs.MemDisk.{reading, failing_calls, next_call, will_do, IsFresh, Notes, IsNumbered};
     ghost use Rattle.dl_disk.specs.Crash.{IsCrashed, IsHealed};
 
     /// A disk with these files, all of them durable; of one name the last counts. The calls of the numbers in
@@ -134,7 +134,7 @@ impl MemDisk {
     // Makes a call, and notes it.
     fn call(&mut self, name: &str, action: Action) -> Result<(), IoErr>
         ensures notes { Notes self.old self.new name.now action result }
-        ensures counts { Counts self.old self.new result }
+        ensures counts { IsNumbered self.old self.new result }
         ensures can_do { OnOk result (IsTrue (can_do (reading self.old) name.now action)) }
         ensures cause { HasCause self.old.faults self.new.faults result }
     {
@@ -167,7 +167,7 @@ impl Disk for MemDisk {
     ghost use Rattle.dl_disk.specs.State.{IsDurable};
     ghost use Rattle.dl_disk.specs.Calls.{Looks, LooksInto, Alters, IsTaken, MakesFolder};
     ghost use Rattle.dl_disk.specs.Files.{ReadsAt, Writes, TornWrite, Resizes, TornResize, Moved, Removes, MayBe};
-    ghost use Rattle.dl_disk.specs.MemDisk.{reading, failed_calls, Notes, Counts};
+    ghost use Rattle.dl_disk.specs.MemDisk.{reading, failed_calls, Notes, IsNumbered};
     ghost use Rattle.dl_disk.specs.MemState.{state_of};
 
     ghost tells = { true };
@@ -185,7 +185,7 @@ impl Disk for MemDisk {
         ensures looks { Looks (state_of self.old) (state_of self.new) result }
         ensures cause { HasCause (failed_calls self.old) (failed_calls self.new) result }
         ensures noted { Notes self.old self.new name.now Look result }
-        ensures counted { Counts self.old self.new result }
+        ensures counted { IsNumbered self.old self.new result }
     {
         self.call(name, Action::Look)?;
         Ok(self.file(name).map(|bytes| bytes.len() as u64))
@@ -196,7 +196,7 @@ impl Disk for MemDisk {
         ensures looks { LooksInto name.now (state_of self.old) (state_of self.new) result }
         ensures cause { HasCause (failed_calls self.old) (failed_calls self.new) result }
         ensures noted { Notes self.old self.new name.now (Read at (length into.old)) result }
-        ensures counted { Counts self.old self.new result }
+        ensures counted { IsNumbered self.old self.new result }
     {
         let len = into.len() as u64;
         let outcome = self.call(name, Action::Read { at, len });
@@ -207,11 +207,13 @@ impl Disk for MemDisk {
     }
 
     fn write_at(&mut self, name: &str, at: u64, bytes: &[u8]) -> Result<(), IoErr>
-        ensures written { OnOk result (Writes name.now at bytes.now (reading self.old) (reading self.new)) }
-        ensures alters { Alters (TornWrite name.now at (length bytes.now)) (state_of self.old) (state_of self.new) result }
+        ensures written { OnOk result (Writes name.now at bytes.now (reading self.old)
+            (reading self.new)) }
+        ensures alters { Alters (TornWrite name.now at (length bytes.now)) (state_of self.old)
+            (state_of self.new) result }
         ensures cause { HasCause (failed_calls self.old) (failed_calls self.new) result }
         ensures noted { Notes self.old self.new name.now (Change (Write at bytes.now)) result }
-        ensures counted { Counts self.old self.new result }
+        ensures counted { IsNumbered self.old self.new result }
     {
         let bytes = Blob::of(self.alloc, bytes)?;
         self.call(name, Action::Change(Edit::Write { at, bytes }))
@@ -219,10 +221,11 @@ impl Disk for MemDisk {
 
     fn set_len(&mut self, name: &str, len: u64) -> Result<(), IoErr>
         ensures resized { OnOk result (Resizes name.now len (reading self.old) (reading self.new)) }
-        ensures alters { Alters (TornResize name.now len) (state_of self.old) (state_of self.new) result }
+        ensures alters { Alters (TornResize name.now len) (state_of self.old)
+            (state_of self.new) result }
         ensures cause { HasCause (failed_calls self.old) (failed_calls self.new) result }
         ensures noted { Notes self.old self.new name.now (Change (Resize len)) result }
-        ensures counted { Counts self.old self.new result }
+        ensures counted { IsNumbered self.old self.new result }
     {
         self.call(name, Action::Change(Edit::Resize { len }))
     }
@@ -232,28 +235,32 @@ impl Disk for MemDisk {
         ensures looks { Looks (state_of self.old) (state_of self.new) result }
         ensures cause { HasCause (failed_calls self.old) (failed_calls self.new) result }
         ensures noted { Notes self.old self.new name.now Sync result }
-        ensures counted { Counts self.old self.new result }
+        ensures counted { IsNumbered self.old self.new result }
     {
         self.call(name, Action::Sync)
     }
 
     fn replace(&mut self, from: &str, to: &str) -> Result<(), IoErr>
-        ensures moved { OnOk result (IsTaken (Moved from.now to.now) (state_of self.old) (state_of self.new)) }
-        ensures alters { Alters (MayBe (Moved from.now to.now)) (state_of self.old) (state_of self.new) result }
+        ensures moved { OnOk result (IsTaken (Moved from.now to.now) (state_of self.old)
+            (state_of self.new)) }
+        ensures alters { Alters (MayBe (Moved from.now to.now)) (state_of self.old)
+            (state_of self.new) result }
         ensures cause { HasCause (failed_calls self.old) (failed_calls self.new) result }
         ensures noted { Notes self.old self.new from.now (Replace to.now) result }
-        ensures counted { Counts self.old self.new result }
+        ensures counted { IsNumbered self.old self.new result }
     {
         let to = Text::of(self.alloc, to)?;
         self.call(from, Action::Replace { to })
     }
 
     fn remove(&mut self, name: &str) -> Result<(), IoErr>
-        ensures removed { OnOk result (IsTaken (Removes name.now) (state_of self.old) (state_of self.new)) }
-        ensures alters { Alters (MayBe (Removes name.now)) (state_of self.old) (state_of self.new) result }
+        ensures removed { OnOk result (IsTaken (Removes name.now) (state_of self.old)
+            (state_of self.new)) }
+        ensures alters { Alters (MayBe (Removes name.now)) (state_of self.old)
+            (state_of self.new) result }
         ensures cause { HasCause (failed_calls self.old) (failed_calls self.new) result }
         ensures noted { Notes self.old self.new name.now Remove result }
-        ensures counted { Counts self.old self.new result }
+        ensures counted { IsNumbered self.old self.new result }
     {
         self.call(name, Action::Remove)
     }
@@ -262,7 +269,7 @@ impl Disk for MemDisk {
         ensures made { MakesFolder name.now (state_of self.old) (state_of self.new) result }
         ensures cause { HasCause (failed_calls self.old) (failed_calls self.new) result }
         ensures noted { Notes self.old self.new name.now MakeDir result }
-        ensures counted { Counts self.old self.new result }
+        ensures counted { IsNumbered self.old self.new result }
     {
         self.call(name, Action::MakeDir)
     }

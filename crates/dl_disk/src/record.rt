@@ -14,17 +14,12 @@ use std::alloc::{AllocError, Global};
 pub enum Action {
     /// Its length.
     Look,
-    Read {
-        at: u64,
-        len: u64,
-    },
+    Read { at: u64, len: u64 },
     Change(Edit),
     Sync,
     MakeDir,
     /// Its place under another name.
-    Replace {
-        to: Text,
-    },
+    Replace { to: Text },
     Remove,
 }
 
@@ -44,7 +39,8 @@ impl Action {
         contents: &mut Contents,
     ) -> Result<(), AllocError>
         requires { IsTrue (can_do (files_of contents.old) name.now self.now) }
-        ensures ok { OnOk result (IsSame (changed (files_of contents.old) name.now self.now) (files_of contents.new)) }
+        ensures ok { OnOk result (IsSame (changed (files_of contents.old) name.now self.now)
+            (files_of contents.new)) }
         ensures err { OnErr result (IsSame (files_of contents.old) (files_of contents.new)) }
     {
         match self {

@@ -26,7 +26,7 @@ number_push added new gid fresh =
     (length (added ++ new ∷ [])) (at_most (λ (a : Added). a.gid.0 == gid.0) added) (length-append added (new ∷ []))
     (position_or_len_push (λ (a : Added). a.gid.0 == gid.0) added new)
     (λ same. subst (λ (n : ℕ). nat_lt (position_or_len (λ (a : Added). a.gid.0 == n) added) (length added) ≡ false)
-      (eqb-true new.gid.0 gid.0 same) fresh)
+    (eqb-true new.gid.0 gid.0 same) fresh)
 
 -- where no number is found, the download wasn't added
 pub fresh_from : (b : Bool) (n : ℕ) (o : Option ℕ) → o ≡ cond b (Some n) None → false ≡ is_some o → b ≡ false

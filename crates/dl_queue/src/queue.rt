@@ -9,8 +9,8 @@ ghost use Rattle.dl_queue.specs.Calls.{QueueCall, refusal, effect, after, answer
 
 use crate::kinds::ending_of;
 use crate::places::{active_place, queued_place, stopped_place, target};
-use crate::room::{give_number, reserve, reserve_deque};
 use crate::rising::{insert, move_up, set_all_paused, set_aside, set_paused};
+use crate::room::{give_number, reserve, reserve_deque};
 use crate::{Added, Ending, How, MAX_DOWNLOADS, QueueErr, Queued, Stopped};
 use dl_kinds::{Gid, GidKey, Status};
 use option_set::{Options, Setting};
@@ -97,7 +97,11 @@ impl Queue {
             return Ok(Status::Active);
         }
         if let Some(download) = self.waiting.get(queued_place(&self.waiting, gid)) {
-            return Ok(if download.paused { Status::Paused } else { Status::Waiting });
+            return Ok(if download.paused {
+                Status::Paused
+            } else {
+                Status::Waiting
+            });
         }
         match self.stopped.get(stopped_place(&self.stopped, gid)) {
             Some(download) => Ok(download.status()),
@@ -119,7 +123,8 @@ impl Queue {
     {
         let place = active_place(&self.active, gid);
         self.active.remove(place);
-        self.waiting.push_front_reserved(Queued { gid, paused: true });
+        self.waiting
+            .push_front_reserved(Queued { gid, paused: true });
         move_up(self.limit, &mut self.active, &mut self.waiting);
     }
 
@@ -293,7 +298,9 @@ impl Queue {
         }
         let count = self.added.len();
         if count >= MAX_DOWNLOADS {
-            return Err(QueueErr::Full { count: count as u32 });
+            return Err(QueueErr::Full {
+                count: count as u32,
+            });
         }
         reserve(&mut self.active, count)?;
         reserve(&mut self.stopped, count)?;

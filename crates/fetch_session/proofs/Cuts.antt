@@ -3,7 +3,7 @@ use Rattle.std.proofs.Common.{◌≡◌, ℕ, zero, suc, ◌-◌, ◌+◌, ◌*�
 use Rattle.std.proofs.lemmas.Bool.{cases_lt}
 use Rattle.std.proofs.lemmas.Bool.Decides.{nat_tests}
 use Rattle.dl_kinds.specs.Plan.{blocks_of, block_start, block_end}
-use Rattle.dl_kinds.specs.PlanLaws.{BlocksFollow, Follows}
+use Rattle.dl_kinds.specs.PlanLaws.{BlocksFollow, BlockFollows}
 use Rattle.dl_kinds.specs.declared.plan.Plan.{Plan}
 use Rattle.fetch_session.specs.Blocks.{cut}
 
@@ -18,7 +18,7 @@ cut_behind plan block le = grind (arith, nat_tests)
 -- a block ends where the next one is cut
 pub cut_next : (plan : Plan) (block : ℕ) → BlocksFollow → block < blocks_of plan.total plan.piece_len → block_end plan.total plan.piece_len block ≡ cut plan (block + 1)
 cut_next plan block follow below =
-    let f : Follows plan.total plan.piece_len block = follow plan.total plan.piece_len block plan.is_plan below in
+    let f : BlockFollows plan.total plan.piece_len block = follow plan.total plan.piece_len block plan.is_plan below in
     ⊎_elim
     (λ (less : block + 1 < blocks_of plan.total plan.piece_len). f.next less ∙ sym (cut_inside plan (block + 1) less))
     (λ (le : blocks_of plan.total plan.piece_len ≤ block + 1). f.last (omega arith) ∙ sym (cut_behind plan (block + 1) le))
@@ -27,7 +27,7 @@ cut_next plan block follow below =
 -- each block has bytes, 16,384 at most
 pub cut_grows : (plan : Plan) (block : ℕ) → BlocksFollow → block < blocks_of plan.total plan.piece_len → (cut plan block < cut plan (block + 1)) × (cut plan (block + 1) ≤ cut plan block + 16384)
 cut_grows plan block follow below =
-    let f : Follows plan.total plan.piece_len block = follow plan.total plan.piece_len block plan.is_plan below in
+    let f : BlockFollows plan.total plan.piece_len block = follow plan.total plan.piece_len block plan.is_plan below in
     let start : cut plan block ≡ block_start plan.piece_len block = cut_inside plan block below in
     let end : block_end plan.total plan.piece_len block ≡ cut plan (block + 1) = cut_next plan block follow below in
     let some : block_start plan.piece_len block < block_end plan.total plan.piece_len block = f.some in

@@ -206,7 +206,8 @@ impl Options {
         option: Opt,
         pairs: &mut Vec<(Text, Text)>,
     ) -> Result<(), AllocError>
-        ensures { OnOk result (pairs.new.items ≡ pairs.old.items ++ shown_pairs self.now scope option) }
+        ensures { OnOk result (pairs.new.items
+            ≡ pairs.old.items ++ shown_pairs self.now scope option) }
     {
         if !is_shown(scope, option) {
             return Ok(());

@@ -28,12 +28,14 @@ fn make_folder<D: Disk>(
     path: &Texts,
     last: Option<String>,
 ) -> Result<Option<String>, IoErr>
-    requires { IsTrue D.tells → IfSome (option_map string_bytes last) (Contains (D.state disk.old).folders) }
+    requires { IsTrue D.tells → IfSome (option_map string_bytes last)
+        (Contains (D.state disk.old).folders) }
     ensures last { IfOk result (λ last. IsTrue D.tells
         → IfSome (option_map string_bytes last) (Contains (D.state disk.new).folders)) }
     ensures made { OnOk result (IsTrue D.tells
         → IfSome (folder_of dir.now path.now) (Contains (D.state disk.new).folders)) }
-    ensures stay { IsTrue D.tells → KeepsFolders (D.state disk.old).folders (D.state disk.new).folders }
+    ensures stay { IsTrue D.tells → KeepsFolders (D.state disk.old).folders
+        (D.state disk.new).folders }
     ensures performs { IsTrue D.tells → Performs IsSame (D.state disk.old) (D.state disk.new) }
     ensures cause { HasCause (D.faults disk.old) (D.faults disk.new) result }
 {
@@ -57,7 +59,8 @@ fn make_each<D: Disk>(
 ) -> Result<(), IoErr>
     ensures folders { OnOk result (IsTrue D.tells
         → HasFolders dir.now files.now (D.state disk.new).folders) }
-    ensures stay { IsTrue D.tells → KeepsFolders (D.state disk.old).folders (D.state disk.new).folders }
+    ensures stay { IsTrue D.tells → KeepsFolders (D.state disk.old).folders
+        (D.state disk.new).folders }
     ensures performs { IsTrue D.tells → Performs IsSame (D.state disk.old) (D.state disk.new) }
     ensures cause { HasCause (D.faults disk.old) (D.faults disk.new) result }
 {
@@ -77,7 +80,8 @@ pub fn make_folders<D: Disk>(
 ) -> Result<(), IoErr>
     ensures folders { OnOk result (IsTrue D.tells
         → HasFolders dir.now layout.now (D.state disk.new).folders) }
-    ensures stay { IsTrue D.tells → KeepsFolders (D.state disk.old).folders (D.state disk.new).folders }
+    ensures stay { IsTrue D.tells → KeepsFolders (D.state disk.old).folders
+        (D.state disk.new).folders }
     ensures performs { IsTrue D.tells → Performs IsSame (D.state disk.old) (D.state disk.new) }
     ensures cause { HasCause (D.faults disk.old) (D.faults disk.new) result }
 {

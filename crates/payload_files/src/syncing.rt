@@ -14,12 +14,7 @@ use dl_kinds::IoErr;
 use span_map::{FileLen, Layout};
 use std::alloc::Global;
 
-fn sync_file<D: Disk>(
-    alloc: Global,
-    disk: &mut D,
-    dir: &str,
-    file: &FileLen,
-) -> Result<(), IoErr>
+fn sync_file<D: Disk>(alloc: Global, disk: &mut D, dir: &str, file: &FileLen) -> Result<(), IoErr>
     ensures durable { OnOk result (IsTrue D.tells
         → IsDurable (name_of dir.now file.now.path) (D.state disk.new)) }
     ensures stays { IsTrue D.tells → Stays (D.state disk.old) (D.state disk.new) }
@@ -38,7 +33,8 @@ pub fn sync_files<D: Disk>(
     dir: &str,
     layout: &Layout,
 ) -> Result<(), IoErr>
-    ensures durable { OnOk result (IsTrue D.tells → AreDurable dir.now layout.now (D.state disk.new)) }
+    ensures durable { OnOk result (IsTrue D.tells
+        → AreDurable dir.now layout.now (D.state disk.new)) }
     ensures stays { IsTrue D.tells → Stays (D.state disk.old) (D.state disk.new) }
     ensures performs { IsTrue D.tells → Performs IsSame (D.state disk.old) (D.state disk.new) }
     ensures folders { IsTrue D.tells → (D.state disk.new).folders ≡ (D.state disk.old).folders }

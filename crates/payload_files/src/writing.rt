@@ -25,7 +25,8 @@ fn write_part<D: Disk>(
     requires part { IsPart layout.now part.now }
     requires len { length bytes.now ≡ part.now.len }
     ensures written { OnOk result (IsTrue D.tells → WritesSlice dir.now layout.now
-        (part_start layout.now part.now) bytes.now (D.state disk.old).seen (D.state disk.new).seen) }
+        (part_start layout.now part.now) bytes.now (D.state disk.old).seen
+        (D.state disk.new).seen) }
     ensures performs { IsTrue D.tells → Performs (TornSlice dir.now layout.now
         (part_start layout.now part.now) (length bytes.now)) (D.state disk.old) (D.state disk.new) }
     ensures folders { IsTrue D.tells → (D.state disk.new).folders ≡ (D.state disk.old).folders }
@@ -51,7 +52,8 @@ pub fn write_slice<D: Disk>(
         (D.state disk.old).seen (D.state disk.new).seen) }
     ensures stands { OnOk result (IsTrue D.tells → HoldsSlice dir.now layout.now at bytes.now
         (D.state disk.old).seen (D.state disk.new).seen) }
-    ensures performs { IsTrue D.tells → Performs (TornSlice dir.now layout.now at (length bytes.now))
+    ensures performs { IsTrue D.tells → Performs
+        (TornSlice dir.now layout.now at (length bytes.now))
         (D.state disk.old) (D.state disk.new) }
     ensures folders { IsTrue D.tells → (D.state disk.new).folders ≡ (D.state disk.old).folders }
     ensures cause { HasCause (D.faults disk.old) (D.faults disk.new) result }

@@ -105,7 +105,8 @@ fn are_apart(alloc: Global, files: &[FileLen]) -> Result<bool, AllocError>
 // The first file whose path clashes with an earlier one.
 fn first_clash(alloc: Global, files: &[FileLen]) -> Result<Option<usize>, AllocError>
     requires { All (λ file. IsPath file.path) files.now }
-    ensures { IfOk result (λ found. MatchOption found (AreApart files.now) (IsFirstClash files.now)) }
+    ensures { IfOk result (λ found. MatchOption found (AreApart files.now)
+        (IsFirstClash files.now)) }
 {
     if are_apart(alloc, files)? {
         return Ok(None);

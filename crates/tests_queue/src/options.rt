@@ -111,7 +111,17 @@ fn values_are_read_and_shown(rt: HostRuntime) -> Result<(), Fail> {
 #[test]
 fn empty_values_are_wrong(rt: HostRuntime) -> Result<(), Fail> {
     let alloc = rt.alloc();
-    for name in ["split", "min-split-size", "pause", "dir", "out", "checksum", "gid", "select-file", "rpc-secret"] {
+    for name in [
+        "split",
+        "min-split-size",
+        "pause",
+        "dir",
+        "out",
+        "checksum",
+        "gid",
+        "select-file",
+        "rpc-secret",
+    ] {
         let answer = answered(alloc, name, "")?;
         assert_eq!(rt; answer.as_str(), "bad", "{name}");
     }

@@ -5,7 +5,9 @@ use option_set::Options;
 use std::test::Fail;
 
 const A: Gid = Gid(10);
+
 const B: Gid = Gid(11);
+
 const C: Gid = Gid(12);
 
 #[test]
@@ -15,16 +17,28 @@ fn one_download_at_a_time(rt: HostRuntime) -> Result<(), Fail> {
     for gid in [A, B, C] {
         queue.add(gid, Options::new(alloc)?, false, None)?;
     }
-    assert_eq!(rt; queue.add(A, Options::new(alloc)?, false, None), Err(QueueErr::SameGid));
+    assert_eq!(rt;
+        queue.add(A, Options::new(alloc)?, false, None),
+        Err(QueueErr::SameGid)
+    );
     assert_eq!(rt; queue.active(), [A].as_slice());
     assert_eq!(rt; queue.pause(A), Ok(()));
     assert_eq!(rt; queue.active(), [B].as_slice());
-    assert_eq!(rt; queue.waiting().get(0).map(|download| download.gid), Some(A));
-    assert_eq!(rt; queue.waiting().get(1).map(|download| download.gid), Some(C));
+    assert_eq!(rt;
+        queue.waiting().get(0).map(|download| download.gid),
+        Some(A)
+    );
+    assert_eq!(rt;
+        queue.waiting().get(1).map(|download| download.gid),
+        Some(C)
+    );
     assert_eq!(rt; queue.pause(A), Err(QueueErr::WrongStatus(Status::Paused)));
     assert_eq!(rt; queue.unpause(A), Ok(()));
     assert_eq!(rt; queue.change_position(A, 1, How::Cur), Ok(1));
-    assert_eq!(rt; queue.waiting().get(0).map(|download| download.gid), Some(C));
+    assert_eq!(rt;
+        queue.waiting().get(0).map(|download| download.gid),
+        Some(C)
+    );
     assert_eq!(rt; queue.change_position(A, -9, How::End), Ok(0));
     assert_eq!(rt; queue.stop(B, Status::Complete), Ok(()));
     assert_eq!(rt; queue.active(), [A].as_slice());

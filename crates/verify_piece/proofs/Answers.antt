@@ -12,8 +12,8 @@ are_comparisons (bytes ∷ pieces) (digest ∷ digests) [] same len each = let n
 are_comparisons (bytes ∷ pieces) (digest ∷ digests) (answer ∷ answers) same len each =
     let first : answer ≡ has_digest bytes digest = each 0 (omega arith) in
     let rest : answers ≡ comparisons pieces digests =
-        are_comparisons pieces digests answers (omega (arith, same)) (omega (arith, len))
-        (λ place within. each (suc place) (omega (arith, within))) in
+    are_comparisons pieces digests answers (omega (arith, same)) (omega (arith, len))
+    (λ place within. each (suc place) (omega (arith, within))) in
     cc
 
 -- a vector whose elements were all written anew

@@ -22,7 +22,8 @@ fn has_digest(bytes: &[u8], digest: &[u8; 20]) -> bool
 fn is_right(pieces: &[Blob], digests: &Digests, place: usize) -> bool
     requires pieces { place < length pieces.now }
     requires digests { place < length digests.now }
-    ensures { result ≡ has_digest (slice_index_or pieces.now place []) (slice_index_or digests.now place []) }
+    ensures { result ≡ has_digest (slice_index_or pieces.now place [])
+        (slice_index_or digests.now place []) }
 {
     match digests.get(place) {
         Some(digest) => has_digest(pieces[place].bytes(), digest),
@@ -43,9 +44,12 @@ fn compare<R: Threads + Sync>(
     requires answers { length answers.old ≡ length pieces.now }
     ensures { AreAnswers pieces.now digests.now answers.new }
 {
-    thread::for_each_mut(rt, answers, threads, &|place, answer| {
-        *answer = is_right(pieces, digests, place)
-    });
+    thread::for_each_mut(
+        rt,
+        answers,
+        threads,
+        &|place, answer| { *answer = is_right(pieces, digests, place) },
+    );
 }
 
 /// Whether each piece has the digest at its place. Threads share the work, as many as the system has processors for, and

@@ -103,7 +103,8 @@ impl WholeHash {
     /// Takes the bytes that come next.
     pub fn update(&mut self, bytes: &[u8])
         ensures check { self.new.checksum ≡ self.old.checksum }
-        ensures message { (hash : HashType) → (message : List ℕ) → TookMessage hash self.old.hasher message
+        ensures message { (hash : HashType) → (message : List ℕ)
+            → TookMessage hash self.old.hasher message
             → TookMessage hash self.new.hasher (message ++ bytes.now) }
     {
         updated(&mut self.hasher, bytes);
