@@ -1,6 +1,6 @@
 -- Places in lists that are two parts.
 use Rattle.std.proofs.Math.ListN.{set}
-use Rattle.std.proofs.Common.{◌≡◌, ◌<◌, ◌≤◌, ◌+◌, ℕ, zero, suc, cond, map, take, drop, get_or, Bool, true, false, not, List, [], ◌∷◌, ◌++◌, length, Option, None, Some, OnSome, refl, sym, ◌∙◌, ap, arith}
+use Rattle.std.proofs.Common.{◌≡◌, ◌<◌, ◌≤◌, ◌+◌, ℕ, zero, suc, cond, map, take, drop, get_or, Bool, true, false, not, List, [], ◌∷◌, ◌++◌, length, Option, None, Some, OnSome, refl, ap, arith}
 use Rattle.std.specs.List.{position_or_len}
 
 -- a choice whose test is known
@@ -49,7 +49,7 @@ on_some (Some y) x is fact = fact
 -- one element more of a list is changed
 pub changes_next : {A : Type 0} (f : A → A) (xs : List A) (i : ℕ) (d : A) → i < length xs
     → set (map f (take i xs) ++ drop i xs) i (f (get_or (map f (take i xs) ++ drop i xs) i d))
-      ≡ map f (take (suc i) xs) ++ drop (suc i) xs
+    ≡ map f (take (suc i) xs) ++ drop (suc i) xs
 changes_next f [] i d within = let none : ⊥ = omega (arith, within) in absurd none
 changes_next f (x ∷ xs) zero d within = refl
 changes_next f (x ∷ xs) (suc i) d within = ap (λ ys. f x ∷ ys) (changes_next f xs i d (omega (arith, within)))

@@ -32,7 +32,11 @@ pub fn reserve_deque(list: &mut VecDeque<Queued>, count: usize) -> Result<(), Al
 }
 
 /// Gives a gid its number.
-pub fn give_number(numbers: &mut BTreeMap<u64, usize>, gid: Gid, number: usize) -> Result<(), AllocError>
+pub fn give_number(
+    numbers: &mut BTreeMap<u64, usize>,
+    gid: Gid,
+    number: usize,
+) -> Result<(), AllocError>
     ensures ok { OnOk result ((other : ℕ) → get nat_cmp numbers.new other
         ≡ (if gid.0 == other then Some number else get nat_cmp numbers.old other)) }
     ensures err { OnErr result ((other : ℕ) → get nat_cmp numbers.new other ≡ get nat_cmp numbers.old other) }

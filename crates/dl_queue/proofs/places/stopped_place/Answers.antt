@@ -8,9 +8,9 @@ use Rattle.dl_queue.proofs.places.stopped_place.Goals as goal
 pub returns-then-other-gid : goal.returns-then-other-gid
 returns-then-other-gid c =
     sym (position_or_len_is (is_stopped c.args.gid) c.args.stopped.now c.loop-place.place any_is_stopped (omega arith) c.loop-place.invariant
-      (λ within. search (rules, tests)))
+    (λ within. search (rules, tests)))
 
 pub returns : goal.returns
 returns c =
     sym (position_or_len_is (is_stopped c.args.gid) c.args.stopped.now _ any_is_stopped (omega arith)
-      (λ k within. c.loop-place.invariant k (omega arith)) (λ within. absurd (let none : ⊥ = omega arith in none)))
+    (λ k within. c.loop-place.invariant k (omega arith)) (λ within. absurd (let none : ⊥ = omega arith in none)))

@@ -1,5 +1,4 @@
-use Rattle.std.proofs.Common.{◌≡◌, ◌∙◌, ◌+◌, ◌==◌, ◌++◌, ◌∷◌, [], cond, Some, Option, List, ℕ, false, length, ap, sym, arith, length-append}
-use Rattle.dl_kinds.specs.declared.gid.Gid.{Gid}
+use Rattle.std.proofs.Common.{◌≡◌, ◌∙◌, ◌+◌, ◌==◌, ◌++◌, ◌∷◌, [], cond, Some, List, false, length, ap, sym, arith, length-append}
 use Rattle.dl_queue.specs.declared.kinds.Added.{Added}
 use Rattle.dl_queue.specs.Calls.{was_added, added_place}
 use Rattle.dl_queue.specs.Room.{number_in}
@@ -14,11 +13,19 @@ invariant_of-self-2 c =
     let many : c.len-count.result ≡ length added = omega (arith, c.len-count.ensures) in
     let more : length c.push_reserved.new.self.items ≡ length added + 1 = omega (arith, ap length items, length-append added (new ∷ [])) in
     let fresh : was_added added c.args.gid ≡ false =
-        fresh_from (was_added added c.args.gid) (added_place c.args.gid added) _ (c.self.invariant.numbers_are c.args.gid) c.if-contains_key.ensures in
+    fresh_from (was_added added c.args.gid) (added_place c.args.gid added) _ (c.self.invariant.numbers_are c.args.gid) c.if-contains_key.ensures in
     record {
       few = omega (arith, more, many);
-      each = omega (arith, more, c.self.invariant.each, c.move_up.ensures.count, c.insert.ensures.len,
-        ap length c.reserve.ensures.items, ap length c.reserve-2.ensures.items, ap length c.reserve_deque.ensures.items);
+      each = omega (
+        arith,
+        more,
+        c.self.invariant.each,
+        c.move_up.ensures.count,
+        c.insert.ensures.len,
+        ap length c.reserve.ensures.items,
+        ap length c.reserve-2.ensures.items,
+        ap length c.reserve_deque.ensures.items,
+      );
       active_room = omega (arith, more, many, c.move_up.ensures.active_room, c.in_ok-reserve.ensures.ok);
       waiting_room = omega (arith, more, many, c.move_up.ensures.waiting_room, c.insert.ensures.room, c.in_ok-reserve_deque.ensures.ok);
       stopped_room = omega (arith, more, many, c.in_ok-reserve-2.ensures.ok);
