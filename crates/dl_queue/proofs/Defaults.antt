@@ -1,5 +1,5 @@
 -- Values that stand for the elements past the end of a list.
-use Rattle.std.proofs.Common.{ℕ, false}
+use Rattle.std.proofs.Common.{false}
 use Rattle.dl_kinds.specs.declared.gid.Gid.{Gid}
 use Rattle.dl_queue.specs.declared.kinds.Ending.TheVariants.{Failed}
 use Rattle.dl_queue.specs.declared.kinds.Queued.{Queued}

@@ -2,3 +2,5 @@ mod Defaults
 mod Parts
 mod Numbers
 mod Ups
+mod Names
+mod Finds

@@ -1,12 +1,15 @@
 -- The numbers of downloads in the order of adding.
-use Rattle.std.proofs.Common.{◌≡◌, ◌<◌, ◌≤◌, ◌+◌, ◌==◌, ℕ, cond, Bool, true, false, not, List, [], ◌∷◌, ◌++◌, length, Option, None, Some, is_some, refl, sym, ◌∙◌, ap, subst, arith, nat_lt, nat_eq, length-append, rules}
-use borrow.Author.Tests.{tests, eqb-true}
+use Rattle.std.proofs.Common.{◌≡◌, ◌≤◌, ◌+◌, ◌==◌, ℕ, cond, Bool, true, false, List, [], ◌∷◌, ◌++◌, length, Option, None, Some, is_some, refl, ◌∙◌, ap, subst, arith, nat_lt, nat_eq, length-append}
+use borrow.Author.Tests.{eqb-true, ltb-false}
 use Rattle.std.proofs.lemmas.Grind.{common_steps}
 use Rattle.std.specs.List.{position_or_len}
-use Rattle.std.proofs.lemmas.List.Folds.{position_or_len_push}
+use Rattle.std.proofs.lemmas.List.Folds.{position_or_len_push, find_at}
 use Rattle.dl_kinds.specs.declared.gid.Gid.{Gid}
 use Rattle.dl_queue.specs.declared.kinds.Added.{Added}
-use Rattle.dl_queue.specs.Calls.{added_place, was_added}
+use Rattle.dl_queue.specs.Calls.{added_place, was_added, options_in}
+use Rattle.std.specs.Option.{option_map}
+use Rattle.std.specs.List.{slice_get}
+use Rattle.std.proofs.lemmas.Option.{slice_get_past}
 use Rattle.dl_queue.specs.Room.{number_in}
 use Rattle.dl_queue.proofs.Parts.{at_most}
 
@@ -32,3 +35,26 @@ number_push added new gid fresh =
 pub fresh_from : (b : Bool) (n : ℕ) (o : Option ℕ) → o ≡ cond b (Some n) None → false ≡ is_some o → b ≡ false
 fresh_from true n o is none = let both : false ≡ true = none ∙ ap is_some is in cc
 fresh_from false n o is none = refl
+
+some_is : (b : Bool) (p n : ℕ) → cond b (Some p) None ≡ Some n → p ≡ n
+some_is true p n is = cc
+some_is false p n is = cc
+
+none_is : (b : Bool) (p : ℕ) → cond b (Some p) None ≡ None → b ≡ false
+none_is true p is = cc
+none_is false p is = refl
+
+-- the download that stands at a gid's number has its options
+pub options_at : (added : List Added) (gid : Gid) (n : ℕ) → number_in added gid ≡ Some n
+    → options_in added gid ≡ option_map (λ (a : Added). a.options) (slice_get added n)
+options_at added gid n is =
+    ap (option_map (λ (a : Added). a.options)) (find_at (λ (a : Added). a.gid.0 == gid.0) added
+    ∙ ap (slice_get added) (some_is (was_added added gid) (added_place gid added) n is))
+
+-- where a gid has no number, there are none
+pub no_options : (added : List Added) (gid : Gid) → number_in added gid ≡ None → options_in added gid ≡ None
+no_options added gid is =
+    let past : length added ≤ added_place gid added =
+    omega (arith, ltb-false (added_place gid added) (length added) (none_is (was_added added gid) (added_place gid added) is)) in
+    ap (option_map (λ (a : Added). a.options)) (find_at (λ (a : Added). a.gid.0 == gid.0) added
+    ∙ slice_get_past added (added_place gid added) past)

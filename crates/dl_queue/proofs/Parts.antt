@@ -1,6 +1,6 @@
 -- Places in lists that are two parts.
 use Rattle.std.proofs.Math.ListN.{set}
-use Rattle.std.proofs.Common.{◌≡◌, ◌<◌, ◌≤◌, ◌+◌, ℕ, zero, suc, cond, map, take, drop, get_or, Bool, true, false, not, List, [], ◌∷◌, ◌++◌, length, Option, None, Some, OnSome, refl, sym, ◌∙◌, ap, arith}
+use Rattle.std.proofs.Common.{◌≡◌, ◌<◌, ◌≤◌, ◌+◌, ℕ, zero, suc, cond, map, take, drop, get_or, Bool, true, false, not, List, [], ◌∷◌, ◌++◌, length, Option, None, Some, OnSome, refl, ap, arith}
 use Rattle.std.specs.List.{position_or_len}
 
 -- a choice whose test is known

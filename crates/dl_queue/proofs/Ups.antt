@@ -1,5 +1,5 @@
 -- How waiting downloads move up one by one.
-use Rattle.std.proofs.Common.{◌≡◌, ◌<◌, ◌≤◌, ◌+◌, ℕ, zero, suc, cond, Bool, true, false, not, List, [], ◌∷◌, ◌++◌, length, get_or, take, drop, refl, sym, ◌∙◌, ap, subst, arith, ◌-◌, append_assoc, length-append}
+use Rattle.std.proofs.Common.{◌≡◌, ◌<◌, ◌≤◌, ◌+◌, ℕ, zero, suc, cond, Bool, true, false, not, List, [], ◌∷◌, ◌++◌, length, get_or, refl, sym, ◌∙◌, ap, subst, arith, ◌-◌, append_assoc, length-append}
 use Rattle.std.specs.List.{position_or_len}
 use Rattle.std.specs.Prelude.{remove}
 use Rattle.dl_kinds.specs.declared.gid.Gid.{Gid}

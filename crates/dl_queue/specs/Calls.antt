@@ -1,6 +1,6 @@
 -- One step of a queue by a call (aria2 manual, "RPC interface": addUri, pause, unpause, pauseAll, unpauseAll, remove,
 -- changePosition, removeDownloadResult, purgeDownloadResult). A history of calls is a list of these steps.
-use Rattle.std.specs.Prelude.{◌≡◌, ◌==◌, ◌+◌, ◌-◌, ◌/◌, ◌^◌, ◌<◌, count_by, IsSome, IsTrue, ℕ, ℤ, pos, negsuc, min, Bool, true, false, List, [], ◌∷◌, ◌++◌, length, map, insert, remove, slice_set, slice_index_or, nat_le, nat_lt, find, unwrap_or, Option, None, Some, Result, Ok, Err, if◌then◌else◌}
+use Rattle.std.specs.Prelude.{◌≡◌, ◌==◌, ◌+◌, ◌-◌, ◌/◌, ◌^◌, ◌<◌, count_by, IsSome, IsTrue, ℕ, ℤ, pos, negsuc, min, Bool, true, false, List, [], ◌∷◌, ◌++◌, length, map, insert, remove, slice_set, nat_le, nat_lt, find, unwrap_or, Option, None, Some, Result, Ok, Err, if◌then◌else◌}
 use Rattle.std.specs.List.{position_or_len}
 use Rattle.std.specs.Option.{option_map}
 use Rattle.dl_kinds.specs.declared.gid.Gid.{Gid}

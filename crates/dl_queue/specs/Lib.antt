@@ -4,3 +4,4 @@ pub mod Places
 pub mod Rising
 pub mod Calls
 pub mod Room
+pub mod Named

@@ -2,6 +2,7 @@
 #![tactic(auto)]
 
 mod kinds;
+mod named;
 mod places;
 mod queue;
 mod rising;

@@ -5,9 +5,10 @@ ghost use Rattle.dl_kinds.specs.declared.status.Status.TheVariants.{Active};
 ghost use Rattle.dl_queue.specs.declared.kinds.QueueErr.TheVariants.{NotFound, NoMemory};
 ghost use Rattle.dl_queue.specs.Places.{status_of, active_place, queued_place, stopped_place, StandsAmong};
 ghost use Rattle.dl_queue.specs.Rising.{moved_up};
-ghost use Rattle.dl_queue.specs.Calls.{QueueCall, refusal, effect, after, answer_of, has_stopped, stopped_from, paused_from, with_pause, target_of, options_in};
+ghost use Rattle.dl_queue.specs.Calls.{QueueCall, refusal, effect, after, answer_of, has_stopped, stopped_from, paused_from, with_pause, target_of, options_in, Finds};
 
 use crate::kinds::ending_of;
+use crate::named::{named_active, named_queued, named_stopped};
 use crate::places::{active_place, queued_place, stopped_place, target};
 use crate::rising::{insert, move_up, set_all_paused, set_aside, set_paused};
 use crate::room::{give_number, reserve, reserve_deque};
@@ -313,5 +314,32 @@ impl Queue {
         insert(&mut self.waiting, place, Queued { gid, paused });
         move_up(self.limit, &mut self.active, &mut self.waiting);
         Ok(())
+    }
+
+    /// The one download whose gid begins with the key's digits. NotFound comes where none does, Ambiguous where several do.
+    pub fn find(&self, key: GidKey) -> Result<Gid, QueueErr>
+        ensures { Finds self.now key result }
+    {
+        let active = named_active(&self.active, key);
+        let queued = named_queued(&self.waiting, key);
+        let named = active.and(queued).and(named_stopped(&self.stopped, key));
+        match named.gid {
+            None => Err(QueueErr::NotFound),
+            Some(gid) if named.count == 1 => Ok(gid),
+            Some(_) => Err(QueueErr::Ambiguous {
+                count: named.count as u32,
+            }),
+        }
+    }
+
+    /// The options of a download that was added in this run.
+    pub fn options(&self, gid: Gid) -> Option<&Options>
+        ensures { option_copied result ≡ options_in self.now.added gid }
+    {
+        let number = *self.numbers.get(&gid.0)?;
+        match self.added.get(number) {
+            Some(download) => Some(&download.options),
+            None => None,
+        }
     }
 }

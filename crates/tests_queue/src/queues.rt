@@ -60,16 +60,19 @@ fn one_download_at_a_time(rt: HostRuntime) -> Result<(), Fail> {
 fn many_downloads_are_added_paused_and_stopped(rt: HostRuntime) -> Result<(), Fail> {
     let alloc = rt.alloc();
     let mut queue = Queue::new(alloc, 5);
-    for number in 1..2_049u64 {
-        queue.add(Gid(number), Options::new(alloc)?, false, None)?;
+    for number in 1..65_537u64 {
+        queue.add(Gid(number), Options::new(alloc)?, number % 8 == 0, None)?;
     }
-    for number in 1..1_025u64 {
-        assert_eq!(rt; queue.pause(Gid(number)), Ok(()));
+    let full = queue.add(Gid(65_537), Options::new(alloc)?, false, None);
+    assert_eq!(rt; full, Err(QueueErr::Full { count: 65_536 }));
+    for number in 1..32_769u64 {
+        let answer = if number % 8 == 0 { Err(QueueErr::WrongStatus(Status::Paused)) } else { Ok(()) };
+        assert_eq!(rt; queue.pause(Gid(number)), answer);
     }
-    for number in 1_025..2_049u64 {
+    for number in 32_769..65_537u64 {
         assert_eq!(rt; queue.stop(Gid(number), Status::Complete), Ok(()));
     }
-    assert_eq!(rt; queue.waiting().len(), 1_024);
-    assert_eq!(rt; queue.stopped().len(), 1_024);
+    assert_eq!(rt; queue.waiting().len(), 32_768);
+    assert_eq!(rt; queue.stopped().len(), 32_768);
     Ok(())
 }

@@ -1,6 +1,6 @@
-use Rattle.std.proofs.Common.{◌≡◌, ◌∙◌, ◌+◌, sym, ap, length, arith}
+use Rattle.std.proofs.Common.{◌∙◌, ◌+◌, sym, ap, length, arith}
 use Rattle.std.specs.List.{position_or_len}
-use Rattle.dl_queue.specs.Places.{is_queued, is_ready}
+use Rattle.dl_queue.specs.Places.{is_queued}
 use Rattle.dl_queue.proofs.Parts.{in_front, behind}
 use Rattle.dl_queue.proofs.places.queued_place.Goals as goal
 

@@ -1,4 +1,4 @@
-use Rattle.std.proofs.Common.{ℕ, ◌<◌, sym, not, ap, arith, rules}
+use Rattle.std.proofs.Common.{sym, not, ap, arith, rules}
 use borrow.Author.Tests.{tests}
 use Rattle.std.proofs.lemmas.List.Sums.{position_or_len_is}
 use Rattle.dl_queue.specs.Places.{is_ready}

@@ -1,4 +1,4 @@
-use Rattle.std.proofs.Common.{◌≡◌, ◌-◌, ◌<◌, ◌≤◌, ◌++◌, length, get_or, sym, ◌∙◌, ap, arith, append-nil}
+use Rattle.std.proofs.Common.{◌-◌, ◌<◌, ◌≤◌, ◌++◌, length, get_or, sym, ◌∙◌, ap, arith, append-nil}
 use Rattle.std.specs.List.{position_or_len}
 use Rattle.std.specs.Prelude.{remove}
 use Rattle.dl_queue.specs.declared.kinds.Queued.{Queued}

@@ -1,5 +1,5 @@
-use Rattle.std.proofs.Common.{◌≡◌, ◌+◌, ◌-◌, ◌≤◌, ◌++◌, length, vec_capacity}
-use Rattle.std.specs.VecDeque.{deque_capacity, deque_len}
+use Rattle.std.proofs.Common.{◌≡◌, ◌+◌, ◌-◌, ◌++◌, length, vec_capacity}
+use Rattle.std.specs.VecDeque.{deque_capacity}
 use Rattle.dl_queue.specs.Rising.{risen, left_waiting}
 use Rattle.dl_queue.proofs.rising.move_up.Given as goal
 

@@ -1,5 +1,5 @@
 use Rattle.std.proofs.Math.ListN.{set, length-set}
-use Rattle.std.proofs.Common.{◌≡◌, ◌∙◌, ◌<◌, ◌+◌, ◌++◌, suc, map, take, drop, get_or, length, ap, sym, arith, add-one}
+use Rattle.std.proofs.Common.{◌∙◌, ◌<◌, get_or, length, ap, arith, add-one}
 use Rattle.dl_queue.specs.declared.kinds.Queued.{Queued}
 use Rattle.dl_queue.specs.Calls.{as_paused}
 use Rattle.dl_queue.proofs.Parts.{changes_next}

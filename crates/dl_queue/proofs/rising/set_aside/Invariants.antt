@@ -1,5 +1,5 @@
-use Rattle.std.proofs.Common.{◌≡◌, ◌+◌, ◌++◌, map, length, vec_capacity, vec_len}
-use Rattle.std.specs.VecDeque.{deque_capacity, deque_len}
+use Rattle.std.proofs.Common.{◌≡◌, ◌+◌, ◌++◌, map, length, vec_capacity}
+use Rattle.std.specs.VecDeque.{deque_capacity}
 use Rattle.dl_queue.specs.Calls.{aside}
 use Rattle.dl_queue.proofs.rising.set_aside.Given as goal
 

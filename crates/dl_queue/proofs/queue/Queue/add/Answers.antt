@@ -1,5 +1,4 @@
-use Rattle.std.proofs.Common.{◌≡◌, ◌∙◌, ◌+◌, ◌==◌, ◌++◌, ◌∷◌, [], cond, Some, Option, List, ℕ, false, length, ap, sym, arith, length-append}
-use Rattle.dl_kinds.specs.declared.gid.Gid.{Gid}
+use Rattle.std.proofs.Common.{◌≡◌, ◌∙◌, ◌+◌, ◌==◌, ◌++◌, ◌∷◌, [], cond, Some, List, false, length, ap, sym, arith, length-append}
 use Rattle.dl_queue.specs.declared.kinds.Added.{Added}
 use Rattle.dl_queue.specs.Calls.{was_added, added_place}
 use Rattle.dl_queue.specs.Room.{number_in}
