@@ -2,6 +2,7 @@
 #![tactic(auto)]
 
 mod laws;
+mod names;
 mod whole_files;
 
 pub use laws::{
