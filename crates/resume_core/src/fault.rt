@@ -1,7 +1,10 @@
 // Why a call of the store failed.
+ghost use Rattle.std.specs.Prelude.{◌≡◌};
 ghost use Rattle.resume_core.specs.Causes.{IsFailedBy};
+ghost use Rattle.resume_core.specs.declared.fault.StoreErr.TheVariants.{NoMemory};
 
 use dl_kinds::IoErr;
+use std::alloc::{AllocError, AllocFailed};
 use thiserror::Error;
 
 /// Why a call of the store failed.
@@ -21,5 +24,21 @@ impl From<IoErr> for StoreErr {
             IoErr::Fault => StoreErr::Disk,
             IoErr::NoMemory => StoreErr::NoMemory,
         }
+    }
+}
+
+impl From<AllocError> for StoreErr {
+    ghost from_gives = { λ _ e. e ≡ NoMemory };
+
+    fn from(_: AllocError) -> Self {
+        StoreErr::NoMemory
+    }
+}
+
+impl<T: Drop> From<AllocFailed<T>> for StoreErr {
+    ghost from_gives = { λ _ e. e ≡ NoMemory };
+
+    fn from(_: AllocFailed<T>) -> Self {
+        StoreErr::NoMemory
     }
 }

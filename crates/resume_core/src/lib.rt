@@ -8,6 +8,7 @@ mod names;
 mod whole_files;
 
 pub use fault::StoreErr;
+pub use finishing::finish;
 pub use laws::{
     finished_files_are_sound, same_files_give_the_same, saved_files_give_what_is_listed,
     saves_give_either, stretched_files_keep_what_is_given,
