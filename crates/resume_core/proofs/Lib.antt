@@ -1,4 +1,6 @@
 pub mod Apart
+pub mod Ends
+pub mod Filed
 pub mod Puts
 pub mod Reaching
 pub mod Same

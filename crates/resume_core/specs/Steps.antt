@@ -47,3 +47,7 @@ pub record IsFinished (want : Want) (seen image : Files) : Type 0 where
 pub record Finishes (want : Want) (seen before image : Files) : Type 0 where
   pub others : (name : List ℕ) → name ≢ control_name want → image name ≡ before name
   pub files : IsSame before image ⊎ IsFinished want seen image
+
+-- so is every image
+abbrev pub AreFinished : Want → Files → (Files → Type 0) → Type 0
+AreFinished want seen images = (image : Files) → images image → IsFinished want seen image
