@@ -8,7 +8,7 @@ use Rattle.span_map.specs.declared.files.FileLen.{FileLen}
 use Rattle.span_map.specs.declared.files.Part.{Part}
 use Rattle.span_map.specs.declared.jobs.JobPart.{JobPart}
 use Rattle.metainfo.specs.Info.{Info}
-use Rattle.request_chain.specs.Chains.{IsJobPart}
+use Rattle.span_map.specs.Jobs.{IsJobPart}
 use Rattle.aria_top.specs.Payload.{here}
 use Rattle.aria_top.specs.Askings.{asked_part}
 

@@ -6,7 +6,7 @@ use Rattle.link_source.specs.Streams.{Stream}
 use Rattle.metainfo.specs.Info.{Info}
 use Rattle.reply_reader.specs.declared.loss.Loss.{Loss}
 use Rattle.reply_reader.specs.declared.loss.Loss.TheVariants as losses
-use Rattle.request_chain.specs.Chains.{IsJobPart}
+use Rattle.span_map.specs.Jobs.{IsJobPart}
 use Rattle.request_chain.specs.Fetched.{Fetched}
 use Rattle.request_chain.specs.Honest.{IsHonest, AreHonest}
 use Rattle.request_chain.specs.Plans.{Done, Open, Lost}

@@ -112,7 +112,7 @@ pub record Summarized (gids : ℕ) (info : Info) (status : ℕ) (seen : Files) (
   pub counts : counted pieces
   pub taken : new ≡ old ++ summary gids info status (bytes_of_pieces info pieces)
 
--- what stands of a thing in the first place, or this where there is none
+-- `f` of the first element, or `none` for an empty list
 abbrev pub at_first : {A : Type 0} {B : Type 0} → (A → B) → B → List A → B
 at_first f none [] = none
 at_first f none (x ∷ xs) = f x

@@ -5,13 +5,12 @@ ghost use Rattle.dl_kinds.specs.Plan.{full_blocks, blocks_of_piece};
 ghost use Rattle.span_map.specs.Slices.{IsPart as IsFilePart};
 ghost use Rattle.metainfo.specs.Info.{info_of};
 ghost use Rattle.reply_reader.specs.declared.loss.Loss.TheVariants.{NoMemory as NoMemoryLoss};
-ghost use Rattle.request_chain.specs.Chains.{IsJobPart};
+ghost use Rattle.span_map.specs.Jobs.{IsJob, IsJobPart, run_end, run_start};
 ghost use Rattle.aria_top.specs.Askings.{asked_part, piece_parts, start_of, size_of};
 ghost use Rattle.aria_top.specs.Ends.{loss_status, IsLossStatus, IsLinkLoss};
 ghost use Rattle.aria_top.specs.Fetched.{FetchEnds, IsFetching, IsLost};
-ghost use Rattle.fetch_session.specs.Blocks.{cut, run_start, run_end};
+ghost use Rattle.fetch_session.specs.Blocks.{cut};
 ghost use Rattle.fetch_session.specs.Fetches.{fetch_plan, rest_of, ready_of, lost_of, IsFetch};
-ghost use Rattle.fetch_session.specs.Jobs.{IsJob};
 ghost use Rattle.link_source.specs.Streams.{Stream};
 ghost use Rattle.span_map.specs.declared.jobs.Job.{Job};
 ghost use Rattle.aria_top.specs.Payload.{IsFetchable};
@@ -192,7 +191,7 @@ pub fn fetch_piece<L: Links>(
     ensures link { IfErr result (λ loss. IsLinkLoss loss → Rose (L.faults link.old) (L.faults link.new)) }
     ensures later { L.faults link.old ≤ L.faults link.new }
 {
-    // Over streams of mirrors that serve the parts they come.
+    // Where the mirrors serve every part, its bytes arrive.
     served_comes();
     gains_are_honest();
     piece.clear();

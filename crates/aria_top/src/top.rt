@@ -59,7 +59,7 @@ fn fetch_and_report<D: Disk, L: Links, O: Sink>(
         (λ pieces. IsTrue L.tells → CountsRight (info_of meta.now) (gained (L.state link.old).streams (L.state link.new).streams) result pieces)
         (O.taken out.old) (O.taken out.new) }
 {
-    // The streams tell one thing.
+    // The same streams determine one result.
     fetched_is_one();
     let progress = fetch_payload(alloc, disk, link, meta);
     report_progress(alloc, gids, meta, &progress, out)

@@ -153,6 +153,8 @@ fn list_value(alloc: Global, levels: u32, place: u32, bytes: &[u8]) -> Result<Be
         rest = behind(len, rest);
         items.push(item)?;
     }
+    // Of the room to grow a list of one value has three times as much as that value takes.
+    items.shrink_to_fit();
     Ok(Ben {
         start: place,
         end: next + 1,
@@ -204,6 +206,7 @@ fn dict_value(alloc: Global, levels: u32, place: u32, bytes: &[u8]) -> Result<Be
         next = end;
         members.push(member)?;
     }
+    members.shrink_to_fit();
     Ok(Ben {
         start: place,
         end: next + 1,

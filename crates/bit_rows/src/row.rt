@@ -142,7 +142,8 @@ impl BitRow {
         requires { at < length self.now }
         ensures few { result ≤ 8 }
         ensures found { result ≡ 0 → slice_get self.now at ≡ Some wanted }
-        ensures passed { (place : ℕ) → at ≤ place → place < at + result → slice_get self.now place ≢ Some wanted }
+        ensures passed { (place : ℕ) → at ≤ place → place < at + result
+            → slice_get self.now place ≢ Some wanted }
     {
         let other = if wanted { 0 } else { 255 };
         if at % 8 == 0 && self.bytes[at as usize / 8] == other {
@@ -159,7 +160,8 @@ impl BitRow {
         ensures within { result ≤ length self.now }
         ensures found { result < length self.now → slice_get self.now result ≡ Some wanted }
         ensures later { result < length self.now → from ≤ result }
-        ensures passed { (place : ℕ) → from ≤ place → place < result → slice_get self.now place ≢ Some wanted }
+        ensures passed { (place : ℕ) → from ≤ place → place < result
+            → slice_get self.now place ≢ Some wanted }
     {
         let len = self.len();
         let mut at = from as u64;

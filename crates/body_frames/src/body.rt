@@ -76,15 +76,18 @@ impl Body {
         // An error comes where the stream is wrong, for what is wrong there, and nowhere else.
         ensures right { ForEachStream self.old (λ framing stream.
             OnOk result (¬ IsWrong framing (stream ++ piece.now))) }
-        ensures wrong { ForEachStream self.old (λ framing stream. IfErr result (λ error. IsFault error →
-            (¬ IsWrong framing stream) × (standing_of framing (stream ++ piece.now) ≡ Wrong error))) }
+        ensures wrong { ForEachStream self.old
+            (λ framing stream. IfErr result (λ error. IsFault error →
+            (¬ IsWrong framing stream)
+            × (standing_of framing (stream ++ piece.now) ≡ Wrong error))) }
         ensures after_error { ForEachStream self.old (λ framing stream.
             IsErrOf result BodyErr.AfterError ↔ IsWrong framing stream) }
 
         // Memory is wanted only where out has no room, and then nothing changes.
         ensures room { IsErrOf result BodyErr.NoMemory →
             vec_capacity out.old < vec_len out.old + length piece.now }
-        ensures same { IsErrOf result BodyErr.NoMemory → (self.new ≡ self.old) × VecUnchanged out.old out.new }
+        ensures same { IsErrOf result BodyErr.NoMemory
+            → (self.new ≡ self.old) × VecUnchanged out.old out.new }
     {
         match self.phase {
             Phase::Stopped => return Err(BodyErr::AfterError),
@@ -128,7 +131,8 @@ impl Body {
         ensures len { vec_len out.new ≤ vec_len out.old + length piece.now }
         ensures capacity { vec_capacity out.old ≤ vec_capacity out.new }
         ensures used { IfOk result (λ used. used ≤ length piece.now) }
-        ensures all { IfOk result (λ used. (used ≡ length piece.now) ⊎ (self.new.phase ≡ Phase.Over)) }
+        ensures all { IfOk result
+            (λ used. (used ≡ length piece.now) ⊎ (self.new.phase ≡ Phase.Over)) }
         ensures ok { IfOk result (λ used.
             Reads self.old.phase (take used piece.now) out.old.items out.new.items self.new.phase) }
         ensures err { IfErr result (λ error.
@@ -154,7 +158,8 @@ impl Body {
         ensures len { IfOk result (λ taken. vec_len out.new ≤ vec_len out.old + taken) }
         ensures capacity { vec_capacity out.old ≤ vec_capacity out.new }
         ensures ok { IfOk result (λ taken.
-            Reads self.old.phase (take taken piece.now) out.old.items out.new.items self.new.phase) }
+            Reads self.old.phase (take taken piece.now) out.old.items out.new.items
+            self.new.phase) }
         ensures err { IfErr result (λ error. Stops self.old.phase (take 1 piece.now) [] error) }
         ensures same { OnErr result (out.new.items ≡ out.old.items) }
         ensures stopped { OnErr result (self.new.phase ≡ Phase.Stopped) }

@@ -62,11 +62,18 @@ pub fn pieces_join()
     ensures content { (framing : Framing) (a b : List ℕ) → (added : List ℕ)
         × (content_of framing (a ++ b) ≡ content_of framing a ++ added) }
     ensures over { (framing : Framing) (a b : List ℕ) → IsOver framing a → body_of framing (a ++ b)
-        ≡ record { content = content_of framing a; rest = (body_of framing a).rest ++ b; standing = Whole } }
+        ≡ record {
+          content = content_of framing a;
+          rest = (body_of framing a).rest ++ b;
+          standing
+              = Whole;
+        } }
     ensures wrong { (framing : Framing) (a b : List ℕ) → IsWrong framing a →
         body_of framing (a ++ b) ≡ body_of framing a }
-    ensures not_over { (framing : Framing) (a : List ℕ) → (¬ IsOver framing a) → (body_of framing a).rest ≡ [] }
-    ensures end { (framing : Framing) (a : List ℕ) → (body_of framing a).rest ≡ drop (used_of framing a) a }
+    ensures not_over { (framing : Framing) (a : List ℕ) → (¬ IsOver framing a)
+        → (body_of framing a).rest ≡ [] }
+    ensures end { (framing : Framing) (a : List ℕ)
+        → (body_of framing a).rest ≡ drop (used_of framing a) a }
 {}
 
 /// Chunks that are written out are read as their bytes.

@@ -2,15 +2,19 @@
 use Rattle.std.proofs.Common.{◌≡◌, ◌∙◌, ap, sym, subst, ℕ, ◌+◌, ◌<◌, List, [], ◌∷◌, ◌++◌, take, length, get_or, Vec, Bool, true, false, cond, Option, None, Some, nat_cmp, option_map, refl}
 use Rattle.std.proofs.lemmas.List.{take_more}
 use Rattle.std.proofs.lemmas.Map.Text.{btree_map_updates_text}
-use Rattle.std.specs.BTreeMap.{UpdatesBy, get_by_text}
+use Rattle.std.specs.BTreeMap.{UpdatesBy, get_by_text, is_at, IsClone}
+use Rattle.std.specs.List.{AllZip, each_same}
+use Rattle.std.specs.Map.{lookup}
+use Rattle.std.specs.Vec.{vec_len}
 use Rattle.std.specs.Cmp.Lexicographic.{slice_cmp}
 use Rattle.std.specs.Option.{option_or}
 use Rattle.std.specs.Str.{bytes_eq}
+use Rattle.std.specs.Prelude.{String}
 use Rattle.std.specs.String.{string_bytes, string_cmp}
 use Rattle.std.specs.declared.alloc.Global.{Global}
 use Rattle.dl_disk.specs.Contents.{files_listed, files_of}
 use Rattle.dl_disk.specs.Edit.{edited}
-use Rattle.dl_disk.specs.Files.{Files, Puts, file_bytes}
+use Rattle.dl_disk.specs.Files.{Files, IsSame, Puts, file_bytes}
 use Rattle.dl_disk.specs.declared.contents.Contents.{Contents}
 use Rattle.dl_disk.specs.declared.edits.Edit.{Edit}
 use Rattle.dl_disk.proofs.Names.{bytes_eq-same, bytes_eq-other, by_name}
@@ -78,3 +82,32 @@ module _ (old new : Contents) (name : List ℕ) (was now : Vec ℕ Global) (foun
   pub same_kept : now.items ≡ was.items → (other : List ℕ) → files_of new other ≡ files_of old other
   same_kept stays = puts_same name (Some now.items) (files_of old) (files_of new) (puts_updated old new name now updates)
       (ap (λ (bytes : List ℕ). Some bytes) stays ∙ ap (option_map (λ (bytes : Vec ℕ Global). bytes.items)) found)
+
+-- ---- copies
+
+abbrev Entry : Type 0
+Entry = String Global × Vec ℕ Global
+
+-- what stands at a name among entries whose names and bytes are the same
+same_entries : (name : List ℕ) (xs ys : List Entry) → AllZip (λ (x y : Entry). (string_bytes y.0 ≡ string_bytes x.0) × (AllZip (λ (a b : ℕ). b ≡ a) x.1.items y.1.items × (vec_len y.1 ≡ vec_len x.1))) xs ys
+    → option_map (λ (bytes : Vec ℕ Global). bytes.items) (lookup (is_at (λ (key : String Global). slice_cmp nat_cmp name (string_bytes key))) ys)
+    ≡ option_map (λ (bytes : Vec ℕ Global). bytes.items) (lookup (is_at (λ (key : String Global). slice_cmp nat_cmp name (string_bytes key))) xs)
+same_entries name [] [] zipped = refl
+same_entries name [] (y ∷ ys) zipped = absurd zipped
+same_entries name (x ∷ xs) [] zipped = absurd zipped
+same_entries name (x ∷ xs) (y ∷ ys) zipped =
+    let rest = same_entries name xs ys zipped.1 in
+    let bytes = each_same x.1.items y.1.items zipped.0.1.0 in
+    rw zipped.0.0 (by_case (is_at (λ (key : String Global). slice_cmp nat_cmp name (string_bytes key)) x.0) rest bytes)
+  where
+    by_case : (here : Bool) → option_map (λ (bytes : Vec ℕ Global). bytes.items) (lookup (is_at (λ (key : String Global). slice_cmp nat_cmp name (string_bytes key))) ys)
+        ≡ option_map (λ (bytes : Vec ℕ Global). bytes.items) (lookup (is_at (λ (key : String Global). slice_cmp nat_cmp name (string_bytes key))) xs)
+        → y.1.items ≡ x.1.items
+        → option_map (λ (bytes : Vec ℕ Global). bytes.items) (cond here (Some y.1) (lookup (is_at (λ (key : String Global). slice_cmp nat_cmp name (string_bytes key))) ys))
+        ≡ option_map (λ (bytes : Vec ℕ Global). bytes.items) (cond here (Some x.1) (lookup (is_at (λ (key : String Global). slice_cmp nat_cmp name (string_bytes key))) xs))
+    by_case true rest bytes = ap (λ (l : List ℕ). Some l) bytes
+    by_case false rest bytes = rest
+
+pub copied : (old new : Contents) → IsClone (λ (s t : String Global). string_bytes t ≡ string_bytes s) (λ (v w : Vec ℕ Global). AllZip (λ (a b : ℕ). b ≡ a) v.items w.items × (vec_len w ≡ vec_len v)) old.files new.files
+    → IsSame (files_of old) (files_of new)
+copied old new clone name = same_entries name old.files.entries new.files.entries clone

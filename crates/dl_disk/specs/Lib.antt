@@ -1,5 +1,6 @@
 pub mod Calls
 pub mod Contents
+pub mod Crash
 pub mod Edit
 pub mod Files
 pub mod MemDisk

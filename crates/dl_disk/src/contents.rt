@@ -37,6 +37,14 @@ impl Contents {
         Ok(contents)
     }
 
+    pub fn copy(&self) -> Result<Self, AllocError>
+        ensures { IfOk result (λ copy. IsSame (files_of self.now) (files_of copy)) }
+    {
+        Ok(Contents {
+            files: self.files.clone()?,
+        })
+    }
+
     /// The bytes of a file.
     pub fn get(&self, name: &str) -> Option<&[u8]>
         ensures { option_copied result ≡ files_of self.now name.now }
@@ -106,6 +114,22 @@ impl Contents {
         let bytes = self.take(from).unwrap();
         self.set(to, bytes);
         Ok(())
+    }
+
+    /// Puts what stands under one name in the place of another; where nothing stands there, nothing stands then.
+    pub fn move_over(&mut self, alloc: Global, from: &str, to: &str) -> Result<(), AllocError>
+        ensures { OnOk result (IsSame (moved (files_of self.old) from.now to.now) (files_of self.new)) }
+    {
+        if from == to {
+            return Ok(());
+        }
+        match self.take(from) {
+            Some(bytes) => self.put(alloc, to, bytes),
+            None => {
+                self.remove(to);
+                Ok(())
+            }
+        }
     }
 
     /// Edits a file, and makes it where there is none.

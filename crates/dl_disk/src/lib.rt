@@ -3,6 +3,7 @@
 #![tactic(auto)]
 
 mod contents;
+mod crash;
 mod disk;
 mod edits;
 mod memory;

@@ -8,6 +8,7 @@ ghost use Rattle.dl_disk.specs.declared.edits.Edit.TheVariants.{Write, Resize};
 
 use crate::Disk;
 use crate::contents::Contents;
+use crate::crash::survivors;
 use crate::edits::Edit;
 use crate::record::{Action, Call};
 use dl_kinds::{Blob, IoErr, Text};
@@ -48,6 +49,7 @@ impl MemDisk {
     ghost use Rattle.std.specs.Prelude.{length};
     ghost use Rattle.dl_disk.specs.Files.{ReadsAt};
     ghost use Rattle.dl_disk.specs.MemDisk.{reading, failing_calls, next_call, will_do, IsFresh, Notes, Counts};
+    ghost use Rattle.dl_disk.specs.Crash.{IsCrashed, IsHealed};
 
     /// A disk with these files, all of them durable; of one name the last counts. The calls of the numbers in
     /// `failing` will fail.
@@ -76,6 +78,34 @@ impl MemDisk {
         ensures { option_copied result ≡ reading self.now name.now }
     {
         self.contents.get(name)
+    }
+
+    /// What a crash leaves, by a choice for each change that it may lose, in their order: 0, also where it is missing,
+    /// drops the change, 1 keeps it, and another number keeps it with that byte for each new one. Such changes are the
+    /// edits of a file that wasn't synced since, and the moves and removals that failed and may be done all the same. All
+    /// that is left is durable; the calls are numbered on.
+    pub fn crash(self, alloc: Global, choices: &[u8]) -> Result<Self, AllocError>
+        ensures { IfOk result (IsCrashed self choices.now) }
+    {
+        let start = survivors(alloc, &self.start, &self.calls, choices)?;
+        Ok(MemDisk {
+            alloc,
+            contents: start.copy()?,
+            start,
+            calls: Vec::new(alloc),
+            next: self.next,
+            failing: self.failing,
+            faults: 0,
+        })
+    }
+
+    /// The disk from now on without calls that fail by their number.
+    pub fn healed(self) -> Self
+        ensures { IsHealed self result }
+    {
+        let mut disk = self;
+        disk.failing.clear();
+        disk
     }
 
     // Whether the next call is to be done.

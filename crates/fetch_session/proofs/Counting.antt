@@ -9,7 +9,8 @@ use Rattle.dl_kinds.specs.Plan.{blocks_of, block_end}
 use Rattle.dl_kinds.specs.PlanLaws.{BlocksFollow}
 use Rattle.dl_kinds.specs.declared.plan.Plan.{Plan}
 use Rattle.dl_kinds.specs.declared.runs.Run.{Run}
-use Rattle.fetch_session.specs.Blocks.{cut, run_start, whole_blocks, ready_blocks, AreReady}
+use Rattle.fetch_session.specs.Blocks.{cut, whole_blocks, ready_blocks, AreReady}
+use Rattle.span_map.specs.Jobs.{run_start}
 use Rattle.fetch_session.proofs.Cuts.{cut_next, cut_grows, cuts_ordered}
 
 -- ---- tests that pass up to a place

@@ -12,12 +12,11 @@ use Rattle.reply_reader.specs.Answers.{Turn, Due, Given, Away, Lost as LostTurn,
 use Rattle.reply_reader.specs.Fills.{AnswerFills, AnswersFill}
 use Rattle.reply_reader.specs.declared.loss.Loss.{Loss}
 use Rattle.reply_reader.specs.declared.loss.Loss.TheVariants.{Redirects}
-use Rattle.request_chain.specs.Chains.{IsJobPart}
+use Rattle.span_map.specs.Jobs.{IsJobPart, parts_len}
 use Rattle.request_chain.specs.Exchanges.{Replies}
 use Rattle.request_chain.specs.Fetched.{FetchedBy}
 use Rattle.request_chain.specs.Plans.{Ending, Done, Open, Lost, Plan, Ask, Over, plan_of, plan_behind, plan_at, rest_behind, asked_of, next_plan, unusable}
 use Rattle.request_chain.specs.Redirects.{moved_to, redirect_limit}
-use Rattle.fetch_session.specs.Jobs.{parts_len}
 use Rattle.fetch_session.specs.Lengths.{Fits, FetchedFits}
 
 len_of-cons : (part : JobPart) (parts : List JobPart) → parts_len (part ∷ parts) ≡ part.len + parts_len parts

@@ -13,14 +13,14 @@ use Rattle.span_map.specs.declared.jobs.Job.{Job}
 use Rattle.span_map.specs.declared.jobs.JobPart.{JobPart}
 use Rattle.reply_reader.specs.declared.loss.Loss.{Loss}
 use Rattle.reply_reader.specs.declared.loss.Loss.TheVariants.{Link, NotFound, Refused, BadReply, Length, Short, Redirects, NoMemory}
-use Rattle.request_chain.specs.Chains.{IsJobPart, IsChain, Gains, ReadsChain, Loses, TellsLoss, received_by}
+use Rattle.request_chain.specs.Chains.{IsChain, Gains, ReadsChain, Loses, TellsLoss, received_by}
+use Rattle.span_map.specs.Jobs.{IsJob, IsJobPart, parts_len, run_start}
 use Rattle.request_chain.specs.Fetched.{Fetched}
 use Rattle.request_chain.specs.Plans.{Ending, Done, Open, Lost}
 use Rattle.request_chain.specs.declared.chain.Chain.{Chain}
 use Rattle.request_chain.specs.declared.chain.ChainRead.{ChainRead}
-use Rattle.fetch_session.specs.Blocks.{cut, run_start, ready_blocks, AreReady}
+use Rattle.fetch_session.specs.Blocks.{cut, ready_blocks, AreReady}
 use Rattle.fetch_session.specs.Fetches.{rest_of, IsShort, HasCome, IsFetch, SameButSpare, CountsNow, FetchSteps, Fails}
-use Rattle.fetch_session.specs.Jobs.{IsJob, parts_len}
 use Rattle.fetch_session.specs.Lengths.{Fits, FetchedFits}
 use Rattle.fetch_session.specs.declared.fetch.Fetch.{Fetch}
 use Rattle.fetch_session.specs.declared.fetch.Got.{Got}

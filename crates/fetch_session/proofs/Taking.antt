@@ -14,9 +14,9 @@ use Rattle.request_chain.specs.Chains.{IsChain}
 use Rattle.request_chain.specs.Fetched.{Fetched}
 use Rattle.request_chain.specs.Plans.{Done}
 use Rattle.request_chain.specs.declared.chain.Chain.{Chain}
-use Rattle.fetch_session.specs.Blocks.{cut, run_start, run_end, AreReady}
+use Rattle.fetch_session.specs.Blocks.{cut, AreReady}
+use Rattle.span_map.specs.Jobs.{IsJob, parts_len, run_end, run_start}
 use Rattle.fetch_session.specs.Fetches.{HasCome, IsFetch}
-use Rattle.fetch_session.specs.Jobs.{IsJob, parts_len}
 use Rattle.fetch_session.specs.declared.fetch.Fetch.{Fetch}
 use Rattle.fetch_session.proofs.Cuts.{cut_inside, cut_next, cut_grows, cuts_ordered}
 use Rattle.fetch_session.proofs.Stepping.{job_end}

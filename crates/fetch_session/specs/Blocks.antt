@@ -4,13 +4,7 @@ use Rattle.std.specs.List.{range_with_len}
 use Rattle.dl_kinds.specs.Plan.{blocks_of, block_start, block_end}
 use Rattle.dl_kinds.specs.declared.plan.Plan.{Plan}
 use Rattle.dl_kinds.specs.declared.runs.Run.{Run}
-
--- the bytes of a run: from where its first block begins in the payload to before where its last one ends
-abbrev pub run_start : Plan → Run → ℕ
-run_start plan run = block_start plan.piece_len run.first
-
-abbrev pub run_end : Plan → Run → ℕ
-run_end plan run = block_end plan.total plan.piece_len (run.first + run.count - 1)
+use Rattle.span_map.specs.Jobs.{run_start}
 
 -- how many blocks of the run are whole, where so many of its bytes came
 abbrev pub whole_blocks : Plan → Run → ℕ → ℕ

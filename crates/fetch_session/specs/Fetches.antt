@@ -11,8 +11,8 @@ use Rattle.request_chain.specs.Chains.{IsChain, Gains, TellsLoss, received_by}
 use Rattle.request_chain.specs.Fetched.{Fetched}
 use Rattle.request_chain.specs.Plans.{Ending, Done}
 use Rattle.request_chain.specs.declared.chain.Chain.{Chain}
-use Rattle.fetch_session.specs.Blocks.{cut, run_start, ready_blocks}
-use Rattle.fetch_session.specs.Jobs.{IsJob, parts_len}
+use Rattle.fetch_session.specs.Blocks.{cut, ready_blocks}
+use Rattle.span_map.specs.Jobs.{IsJob, parts_len, run_start}
 use Rattle.fetch_session.specs.declared.fetch.Fetch.{Fetch}
 use Rattle.fetch_session.specs.declared.fetch.Got.{Got}
 

@@ -2,10 +2,9 @@
 use Rattle.std.specs.Prelude.{◌≡◌, ◌≤◌, ℕ, List, [], length, All}
 use Rattle.link_source.specs.Streams.{Stream}
 use Rattle.span_map.specs.declared.jobs.JobPart.{JobPart}
-use Rattle.request_chain.specs.Chains.{IsJobPart}
+use Rattle.span_map.specs.Jobs.{IsJobPart, parts_len}
 use Rattle.request_chain.specs.Fetched.{Fetched}
 use Rattle.request_chain.specs.Plans.{Ending, Done}
-use Rattle.fetch_session.specs.Jobs.{parts_len}
 
 -- no more than the parts have, and as many exactly where all came
 pub record Fits (parts : List JobPart) (bytes : List ℕ) (ending : Ending) : Type 0 where

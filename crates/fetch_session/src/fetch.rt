@@ -8,7 +8,7 @@ ghost use Rattle.fetch_session.specs.Blocks.{AreReady};
 ghost use Rattle.fetch_session.specs.Known.{is_known};
 
 use crate::blocks::{cut, missing, take_front, whole_from};
-use crate::laws::fetched_law;
+use crate::laws::fetched_bytes_fit_their_parts;
 use crate::room::{BUFFER, FetchRoom, make_buffer};
 use dl_kinds::{Blob, NoMemory, Plan, Run, plan_laws};
 use link_source::Links;
@@ -54,9 +54,9 @@ impl Fetch {
     ghost use Rattle.request_chain.specs.Chains.{Gains};
     ghost use Rattle.request_chain.specs.Links.{IsHonestSince, StaysHonest};
     ghost use Rattle.span_map.specs.declared.jobs.Job.{Job};
-    ghost use Rattle.fetch_session.specs.Blocks.{cut, run_start, run_end};
+    ghost use Rattle.fetch_session.specs.Blocks.{cut};
+    ghost use Rattle.span_map.specs.Jobs.{IsJob, run_end, run_start};
     ghost use Rattle.fetch_session.specs.Fetches.{fetch_plan, rest_of, ready_of, lost_of, IsFetch, SameButSpare, FetchSteps, Fails};
-    ghost use Rattle.fetch_session.specs.Jobs.{IsJob};
 
     /// Begins the fetch of a run, with the parts of resources that are its bytes.
     pub fn begin(job: Job, room: FetchRoom) -> Fetch
@@ -142,7 +142,7 @@ impl Fetch {
             → Rose (L.faults link.old) (L.faults link.new) }
         ensures later { L.faults link.old ≤ L.faults link.new }
     {
-        fetched_law();
+        fetched_bytes_fit_their_parts();
         plan_laws();
         if let Some(loss) = self.lost {
             return Err(loss);
@@ -210,7 +210,7 @@ impl Fetch {
         ensures cause { (count : ℕ) → lost_of self.new ≡ Some (Link count) → Rose (L.faults link.old) (L.faults link.new) }
         ensures later { L.faults link.old ≤ L.faults link.new }
     {
-        fetched_law();
+        fetched_bytes_fit_their_parts();
         plan_laws();
         let before = self.held.len();
         match self.chain.read(alloc, link, &mut self.held, room, allow) {

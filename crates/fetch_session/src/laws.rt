@@ -1,11 +1,11 @@
 // Laws of what is fetched.
 ghost use Rattle.fetch_session.specs.Lengths.{FetchedFits};
 
-use reply_reader::answers_fill_law;
+use reply_reader::answers_fill_what_is_asked;
 
 /// How many bytes are fetched. It does nothing when it runs.
-pub fn fetched_law()
+pub fn fetched_bytes_fit_their_parts()
     ensures fits { FetchedFits }
 {
-    answers_fill_law();
+    answers_fill_what_is_asked();
 }

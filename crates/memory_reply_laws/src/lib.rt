@@ -2,39 +2,6 @@
 //! nothing when they run.
 #![tactic(auto)]
 
-ghost use Rattle.memory_reply_laws.specs.Answers.{RequestsAreAlike, RequestsAreAnswered, NoneIsNext};
-ghost use Rattle.memory_reply_laws.specs.Replies.{PartIsRead, ChunkedPartIsRead, WholeIsRead, StreamIsRead, MovedIsRead, NotFoundIsRead, EmptyIsRead, ToldContentIsPlain, FrontsAreRead, HeadFrontsAreRead};
+mod laws;
 
-use body_frames::{chunks_are_read, pieces_join};
-use range_http::{head_laws, range_laws};
-
-/// How each reply is read: by its head the verdict, and behind it the content.
-pub fn replies_are_read()
-    ensures part { PartIsRead }
-    ensures chunked_part { ChunkedPartIsRead }
-    ensures whole { WholeIsRead }
-    ensures stream { StreamIsRead }
-    ensures moved { MovedIsRead }
-    ensures not_found { NotFoundIsRead }
-    ensures empty { EmptyIsRead }
-    ensures plain { ToldContentIsPlain }
-{
-    range_laws();
-    chunks_are_read();
-}
-
-/// What each front of a reply is read as.
-pub fn fronts_are_read()
-    ensures whole { FrontsAreRead }
-    ensures head { HeadFrontsAreRead }
-{
-    head_laws();
-    pieces_join();
-}
-
-/// What is due after a request on a stream that had nothing more to give.
-pub fn requests_are_answered()
-    ensures alike { RequestsAreAlike }
-    ensures answered { RequestsAreAnswered }
-    ensures none_next { NoneIsNext }
-{}
+pub use laws::{fronts_are_read, replies_are_read, requests_are_answered};

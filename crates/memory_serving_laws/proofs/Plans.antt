@@ -12,7 +12,7 @@ use Rattle.link_source.specs.Leads.{StandsAt, IsJoined, Redirects, Leads}
 use Rattle.link_source.specs.Mirrors.{Content}
 use Rattle.link_source.specs.declared.mirrors.MemFile.{MemFile}
 use Rattle.link_source.specs.declared.mirrors.MemFile.TheVariants.{Bytes}
-use Rattle.request_chain.specs.Chains.{IsJobPart}
+use Rattle.span_map.specs.Jobs.{IsJobPart}
 use Rattle.request_chain.specs.Plans.{Done, Open, Lost, Plan, Ask, Over, plan_of}
 use Rattle.request_chain.specs.Redirects.{location_text, joined_to, moved_to, redirect_limit}
 use Rattle.memory_serving_laws.specs.Serving.{GivesAll}

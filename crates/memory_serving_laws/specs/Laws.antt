@@ -2,7 +2,8 @@
 use Rattle.std.specs.Prelude.{◌≡◌, ◌⊎◌, ◌<◌, ◌^◌, ℕ, List, [], All}
 use Rattle.link_source.specs.Mirrors.{Content}
 use Rattle.link_source.specs.Streams.{Stream}
-use Rattle.request_chain.specs.Chains.{IsJobPart, Gains}
+use Rattle.request_chain.specs.Chains.{Gains}
+use Rattle.span_map.specs.Jobs.{IsJobPart}
 use Rattle.request_chain.specs.Fetched.{Fetched}
 use Rattle.request_chain.specs.Honest.{IsHonest, AreHonest}
 use Rattle.request_chain.specs.Plans.{Ending, Done, Open}

@@ -98,7 +98,8 @@ impl Marks {
     /// Whether a mirror has a try left for each of the pieces from `first` to `last`.
     pub fn eligible(&self, mirror: u16, first: u32, last: u32) -> bool
         requires { first ≤ last }
-        ensures { IsTrue result ↔ IsEligibleForAll self.now.max_tries self.now.marks mirror first last }
+        ensures { IsTrue result
+            ↔ IsEligibleForAll self.now.max_tries self.now.marks mirror first last }
     {
         self.max_tries > 0 && !has_used(run_of(&self.order, first, last), mirror, self.max_tries)
     }
@@ -130,7 +131,8 @@ impl Marks {
         requires mirror { mirror < length standing.now }
         requires best { IfSome best (λ other. other < mirror) }
         ensures { IsTrue result ↔ MatchOption best (Unit {0}) (λ other.
-            GoesBefore (total_marks self.now.max_tries self.now.marks) (slice_index standing.now) mirror other) }
+            GoesBefore (total_marks self.now.max_tries self.now.marks) (slice_index standing.now)
+            mirror other) }
     {
         let Some(other) = best else {
             return true;
@@ -147,9 +149,11 @@ impl Marks {
         requires order { first ≤ last }
         requires each { length standing.now ≡ self.now.mirrors }
         ensures choice { (mirror : ℕ) → (result ≡ Some mirror)
-            ↔ IsChoice self.now.mirrors self.now.max_tries self.now.marks first last standing.now limit mirror }
+            ↔ IsChoice self.now.mirrors self.now.max_tries self.now.marks first last standing.now
+            limit mirror }
         ensures none { IsNone result ↔ ((mirror : ℕ)
-            → IsCandidate self.now.mirrors self.now.max_tries self.now.marks first last standing.now limit mirror → ⊥) }
+            → IsCandidate self.now.mirrors self.now.max_tries self.now.marks first last
+            standing.now limit mirror → ⊥) }
     {
         let mut best: Option<u16> = None;
         for mirror in 0..self.mirrors {

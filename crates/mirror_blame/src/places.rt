@@ -40,7 +40,8 @@ pub fn put(places: &mut Vec<Place>, new: Place)
     requires room { vec_len places.old < vec_capacity places.old }
     ensures sorted { IsNonDecreasingBy (λ place. place.piece) places.new.items }
     ensures each { (piece : ℕ) → filter (stands_at piece) places.new.items
-        ≡ (if new.piece == piece then new ∷ filter (stands_at piece) places.old.items else filter (stands_at piece) places.old.items) }
+        ≡ (if new.piece == piece then new ∷ filter (stands_at piece) places.old.items else filter
+        (stands_at piece) places.old.items) }
     ensures len { vec_len places.new ≡ vec_len places.old + 1 }
     ensures capacity { vec_capacity places.new ≡ vec_capacity places.old }
 {
@@ -59,7 +60,8 @@ pub fn count_of(places: &[Place], mirror: u16) -> usize
 pub fn has_used(places: &[Place], mirror: u16, tries: u8) -> bool
     requires sorted { IsNonDecreasingBy (λ place. place.piece) places.now }
     requires some { 1 ≤ tries }
-    ensures { IsTrue result ↔ (piece : ℕ) × (tries ≤ count_by (is_place_of mirror piece) places.now) }
+    ensures { IsTrue result ↔ (piece : ℕ)
+        × (tries ≤ count_by (is_place_of mirror piece) places.now) }
 {
     let mut piece = 0;
     let mut used = 0;

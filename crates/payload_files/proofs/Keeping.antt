@@ -1,17 +1,17 @@
 -- What stays over several calls.
-use Rattle.std.proofs.Common.{◌≡◌, ◌≢◌, ◌∙◌, sym, subst, ℕ, ◌+◌, ◌<◌, List, [], ◌∷◌, take, get_or, length, length-take, Option, refl, arith}
+use Rattle.std.proofs.Common.{◌≡◌, ◌≢◌, ◌∙◌, sym, subst, ℕ, ◌+◌, ◌<◌, List, [], ◌∷◌, take, get_or, length, length-take, refl, arith}
 use Rattle.std.proofs.lemmas.List.{take-take, get_or-take}
 use Rattle.std.proofs.lemmas.List.Elements.{All-cons, All-nil, All-take, All-more, Contains-append_right}
 use Rattle.std.proofs.lemmas.Option.{IfSome_then}
 use Rattle.std.specs.Prelude.{IfSome, Contains}
 use Rattle.dl_disk.specs.Calls.{Stays}
-use Rattle.dl_disk.specs.Files.{Files, IsSame, Follows}
-use Rattle.dl_disk.specs.Passes.{Performs, performs_more, image_before}
+use Rattle.dl_disk.specs.Files.{Files, IsSame}
+use Rattle.dl_disk.specs.Passes.{Performs, performs_more}
 use Rattle.dl_disk.specs.State.{DiskState, IsDurable}
 use Rattle.span_map.specs.declared.files.FileLen.{FileLen}
 use Rattle.payload_files.specs.Names.{name_of, folder_of, IsOther, HasFolders, KeepsFolders}
 use Rattle.payload_files.specs.Payload.{AreDurable}
-use Rattle.payload_files.specs.Changes.{AreSameBeside, KeepsOthers}
+use Rattle.payload_files.specs.Changes.{AreSameBeside}
 
 -- ---- states
 

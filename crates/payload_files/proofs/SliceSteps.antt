@@ -12,7 +12,7 @@ use Rattle.span_map.specs.declared.files.FileLen.{FileLen}
 use Rattle.span_map.specs.declared.files.Part.{Part}
 use Rattle.payload_files.specs.Names.{name_of}
 use Rattle.payload_files.specs.Payload.{HasFiles, payload_in, part_start}
-use Rattle.payload_files.specs.Changes.{SameOutside, TornFile, AreTorn, TornSlice}
+use Rattle.payload_files.specs.Changes.{SameOutside, TornSlice}
 use Rattle.payload_files.proofs.FileNames.{names_differ}
 use Rattle.payload_files.proofs.ListEdits.{SameSides, replaced_middle, replaced_on, part_at_replaced, overwritten_within, outside_of, sides_of_middle, outside_none, outside_on, outside_wider, torn_sides}
 use Rattle.payload_files.proofs.Contents.{OneChanges, Cut, cut_at, one_stands, has_len, payload_len}

@@ -1,6 +1,6 @@
 -- Each file by itself after a write of a slice that is cut short.
-use Rattle.std.proofs.Common.{◌≡◌, ◌≢◌, ◌⊎◌, ◌∙◌, ap, sym, subst, ℕ, ◌+◌, ◌<◌, ◌≤◌, max, List, [], length, take, Option, Some, None, refl, arith, inl, inr, slice_get, ⊎_elim}
-use Rattle.std.proofs.lemmas.Bool.{cases_eq, cases_lt}
+use Rattle.std.proofs.Common.{◌≡◌, ◌∙◌, ap, sym, subst, ℕ, ◌+◌, ◌≤◌, List, [], take, Option, Some, None, refl, arith, inl, inr, slice_get, ⊎_elim}
+use Rattle.std.proofs.lemmas.Bool.{cases_eq}
 use Rattle.std.proofs.lemmas.Option.{same_Some}
 use Rattle.dl_disk.specs.Files.{Files, Torn, MayMake}
 use Rattle.span_map.specs.Layout.{total_of}

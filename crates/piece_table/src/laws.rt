@@ -10,6 +10,8 @@ ghost use Rattle.piece_table.specs.Steps.{started};
 /// wrong pieces that the calls keep are those that the list of it all says.
 pub fn kept_is_afresh()
     ensures { (total piece_len : ℕ) (verified landed : List Bool) (changes : List Change)
-        → IsPlan total piece_len → IsStart total piece_len verified landed → All (IsWithin total piece_len) changes
-        → IsAfresh total piece_len verified landed changes (after_changes (started total piece_len verified landed) changes) }
+        → IsPlan total piece_len → IsStart total piece_len verified landed
+        → All (IsWithin total piece_len) changes
+        → IsAfresh total piece_len verified landed changes
+        (after_changes (started total piece_len verified landed) changes) }
 {}

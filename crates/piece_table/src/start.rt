@@ -31,7 +31,8 @@ fn count_landed(landed: &BitRow, run: Run) -> u16
 /// The number of each piece's landed blocks.
 pub fn counts_of(alloc: Global, plan: &Plan, landed: &BitRow) -> Result<Vec<u16>, AllocError>
     requires { length landed.now ≡ blocks_of plan.now.total plan.now.piece_len }
-    ensures { IfOk result (λ held. AreCounts plan.now.total plan.now.piece_len landed.now held.items) }
+    ensures { IfOk result
+        (λ held. AreCounts plan.now.total plan.now.piece_len landed.now held.items) }
 {
     let mut held = Vec::with_capacity(alloc, plan.pieces as usize)?;
     for piece in 0..plan.pieces {

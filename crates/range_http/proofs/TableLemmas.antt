@@ -104,7 +104,7 @@ module _ (head : Head) (asked : Asked) where
       → is_asked_part asked framing span_part ≡ true → TellsPart head asked framing span_part.1 range.total
   tells-asked framing range span_part is span holds =
       let outer = and_parts ((span_part.0 == asked.first) && nat_le span_part.1 asked.last)
-          (is_told (told_length framing) (span_part.1 - span_part.0 + 1)) holds in
+      (is_told (told_length framing) (span_part.1 - span_part.0 + 1)) holds in
       let inner = and_parts (span_part.0 == asked.first) (nat_le span_part.1 asked.last) outer.0 in
       let first : span_part.0 ≡ asked.first = eqb-true span_part.0 asked.first inner.0 in
       let span_is : range.span ≡ Some (asked.first, span_part.1) = span ∙ ap (λ f. Some (f, span_part.1)) first in
@@ -143,16 +143,16 @@ module _ (head : Head) (asked : Asked) where
       → (span : Option (ℕ × ℕ)) → range.span ≡ span → IsVerdict head asked (part_verdict asked framing span range.total)
   spanned-line framing range is content None span = other_part framing content (λ last total tells.
       none-some (asked.first, last) (sym span ∙ ap (λ (r : ContentRange). r.span) (same_Some range _ (sym is
-          ∙ tells.range))))
+      ∙ tells.range))))
   spanned-line framing range is content (Some span_part) span =
       cond_both (is_asked_part asked framing span_part) (sized asked.total range.total
-          (Part span_part.1 range.total framing)) unexpected (IsVerdict head asked)
+      (Part span_part.1 range.total framing)) unexpected (IsVerdict head asked)
       (λ holds. sized-part framing span_part.1 content asked.total refl range.total
-          (tells-asked framing range span_part is span holds))
+      (tells-asked framing range span_part is span holds))
       (λ no. other_part framing content (λ last total tells.
       let ranges = same_Some range _ (sym is ∙ tells.range) in
       let parts : span_part ≡ (asked.first, last) =
-          same_Some span_part (asked.first, last) (sym span ∙ ap (λ (r : ContentRange). r.span) ranges) in
+      same_Some span_part (asked.first, last) (sym span ∙ ap (λ (r : ContentRange). r.span) ranges) in
       both_ways (is_asked_part asked framing span_part) no
       (ap (is_asked_part asked framing) parts ∙ asked-told framing last total tells)))
 
@@ -168,7 +168,7 @@ module _ (head : Head) (asked : Asked) where
       → AgreesOnLength asked.total (told_length framing)
   agree framing known told known_is told_is agrees =
       subst (λ k. AgreesOnLength k (told_length framing)) (sym known_is) (subst (AgreesOnLength known)
-          (sym told_is) agrees)
+      (sym told_is) agrees)
 
   whole-line : (framing : Framing) → HasContent head 200 framing → (known told : Option ℕ)
       → asked.total ≡ known → told_length framing ≡ told
@@ -176,10 +176,10 @@ module _ (head : Head) (asked : Asked) where
   whole-line framing content None None known_is told_is = whole_of_any framing content told_is known_is
   whole-line framing content None (Some told) known_is told_is =
       subst (λ t. IsVerdict head asked (Whole t framing)) told_is (whole framing content (agree framing None
-          (Some told) known_is told_is tt))
+      (Some told) known_is told_is tt))
   whole-line framing content (Some known) None known_is told_is =
       subst (λ t. IsVerdict head asked (Whole t framing)) told_is (whole framing content (agree framing
-          (Some known) None known_is told_is tt))
+      (Some known) None known_is told_is tt))
   whole-line framing content (Some known) (Some told) known_is told_is =
       cond_both (told == known) (Whole (Some told) framing) (WrongLength told) (IsVerdict head asked)
       (λ same. subst (λ t. IsVerdict head asked (Whole t framing)) told_is
@@ -193,17 +193,17 @@ module _ (head : Head) (asked : Asked) where
   framed-line status plain None is = bad_content (record { status_is = status; bad = inr is })
   framed-line status plain (Some framing) is =
       cond_both (head.status == 206) (ranged_verdict asked framing (told_range head))
-          (whole_verdict asked framing) (IsVerdict head asked)
+      (whole_verdict asked framing) (IsVerdict head asked)
       (λ partial.
-          let content : HasContent head 206 framing = record { status_is = eqb-true head.status 206 partial; plain = plain; framed = is } in
-          ranged-line framing content (told_range head) refl)
+      let content : HasContent head 206 framing = record { status_is = eqb-true head.status 206 partial; plain = plain; framed = is } in
+      ranged-line framing content (told_range head) refl)
       (λ other.
       let all : head.status ≡ 200 = elim status [
         | inl e ↦ e
         | inr e ↦ absurd (both_ways (head.status == 206) other (eq-eqb head.status 206 e))
       ] in
       whole-line framing (record { status_is = all; plain = plain; framed = is }) asked.total
-          (told_length framing) refl refl)
+      (told_length framing) refl refl)
 
   content-line : (head.status ≡ 200) ⊎ (head.status ≡ 206) → IsVerdict head asked (content_verdict head asked)
   content-line status =
@@ -250,19 +250,22 @@ module _ (head : Head) (asked : Asked) where
   means : IsVerdict head asked (verdict_of head asked)
   means =
       cond_both (head.status == 404) NotFound by_allowed (IsVerdict head asked) (λ e. not_found
-          (eqb-true head.status 404 e)) (λ n404.
+      (eqb-true head.status 404 e)) (λ n404.
       cond_both (head.status == 401) unauthorized by_ready (IsVerdict head asked) (λ e. not_allowed
-          (eqb-true head.status 401 e)) (λ n401.
+      (eqb-true head.status 401 e)) (λ n401.
       cond_both (head.status == 503) overloaded by_moved (IsVerdict head asked) (λ e. not_ready
-          (eqb-true head.status 503 e)) (λ n503.
+      (eqb-true head.status 503 e)) (λ n503.
       cond_both (is_moved head) Moved by_empty (IsVerdict head asked) (λ holds. moved (is-redirect holds)) (λ stays.
       cond_both (is_empty head asked) Empty by_content (IsVerdict head asked) (λ holds. empty (is-empty-probe holds))
-          (λ full.
+      (λ full.
       cond_both (head.status == 200 || head.status == 206) (content_verdict head asked) unexpected (IsVerdict head asked)
       (λ holds. content-line (content-status holds))
       (λ no. other (record {
-        no_content = (λ e. both_ways _ no (ap (λ s. s == 200 || s == 206) e), λ e. both_ways _ no (ap
-            (λ s. s == 200 || s == 206) e));
+        no_content = (
+          λ e. both_ways _ no (ap (λ s. s == 200 || s == 206) e),
+          λ e. both_ways _ no (ap
+              (λ s. s == 200 || s == 206) e),
+        );
         found = λ e. both_ways (head.status == 404) n404 (eq-eqb head.status 404 e);
         allowed = λ e. both_ways (head.status == 401) n401 (eq-eqb head.status 401 e);
         ready = λ e. both_ways (head.status == 503) n503 (eq-eqb head.status 503 e);
@@ -270,7 +273,7 @@ module _ (head : Head) (asked : Asked) where
             (status-moved head.status redirect.status) redirect.place);
         full = λ probe. both_ways (is_empty head asked) full
             (and_from _ _ (and_from _ _ (eq-eqb head.status 416 probe.status) (ap is_none probe.probe))
-                (ap is_empty_range probe.range));
+            (ap is_empty_range probe.range));
       })))))))
 
   -- ---- a line of the table is the verdict of the function
@@ -295,7 +298,7 @@ module _ (head : Head) (asked : Asked) where
   empty-probe-is probe =
       ap now probe.status
       ∙ ap (λ (q : Bool). by_status located q (is_empty_range (told_range head)) (content_verdict head asked) 416)
-          (ap is_none probe.probe)
+      (ap is_none probe.probe)
       ∙ ap (λ (q : Bool). by_status located true q (content_verdict head asked) 416) (ap is_empty_range probe.range)
 
   unexpected-is : IsUnexpected head asked → verdict_of head asked ≡ unexpected
@@ -305,9 +308,9 @@ module _ (head : Head) (asked : Asked) where
       ∙ cond-false (head.status == 503) overloaded by_moved (ne_eqb head.status 503 none.ready)
       ∙ cond-false (is_moved head) Moved by_empty (false_from_ne_true _ (λ holds. none.stays (is-redirect holds)))
       ∙ cond-false (is_empty head asked) Empty by_content (false_from_ne_true _ (λ holds. none.full
-          (is-empty-probe holds)))
+      (is-empty-probe holds)))
       ∙ cond-false (head.status == 200 || head.status == 206) (content_verdict head asked) unexpected
-          (false_from_ne_true _ (λ holds.
+      (false_from_ne_true _ (λ holds.
       elim (content-status holds) [ inl e ↦ none.no_content.0 e | inr e ↦ none.no_content.1 e ]))
 
   content-is : (head.status ≡ 200) ⊎ (head.status ≡ 206) → verdict_of head asked ≡ content_verdict head asked
@@ -347,9 +350,9 @@ module _ (head : Head) (asked : Asked) where
     spanned-none range is None span = refl
     spanned-none range is (Some span_part) span =
         cond-false (is_asked_part asked framing span_part) (sized asked.total range.total
-            (Part span_part.1 range.total framing)) unexpected
+        (Part span_part.1 range.total framing)) unexpected
         (false_from_ne_true _ (λ holds. none span_part.1 range.total
-            (tells-asked framing range span_part is span holds)))
+        (tells-asked framing range span_part is span holds)))
 
     ranged-none : (range : Option ContentRange) → told_range head ≡ range
         → ranged_verdict asked framing range ≡ unexpected
@@ -363,7 +366,7 @@ module _ (head : Head) (asked : Asked) where
       partial-is framing content
       ∙ ap (ranged_verdict asked framing) tells.range
       ∙ cond-true (is_asked_part asked framing (asked.first, last)) (sized asked.total total
-          (Part last total framing)) unexpected
+      (Part last total framing)) unexpected
       (asked-told framing last total tells)
 
   only : {verdict : Verdict} → IsVerdict head asked verdict → verdict_of head asked ≡ verdict
@@ -378,7 +381,7 @@ module _ (head : Head) (asked : Asked) where
       ∙ ranged-none framing none (told_range head) refl
   only (part_of_other framing last told content tells differs) =
       told-is framing last (Some told) content tells
-          ∙ differs-sized asked.total told (Part last (Some told) framing) differs
+      ∙ differs-sized asked.total told (Part last (Some told) framing) differs
   only (part_of_any framing last content tells probe) =
       told-is framing last None content tells ∙ ap (λ known. sized known None (Part last None framing)) probe
   only (part framing last total content tells agrees) =
@@ -393,7 +396,7 @@ module _ (head : Head) (asked : Asked) where
       ∙ ap (λ known. sized known None (Whole None framing)) probe
   only (whole framing content agrees) =
       all-is framing content ∙ agrees-sized asked.total (told_length framing) (Whole
-          (told_length framing) framing) agrees
+      (told_length framing) framing) agrees
 
   pub means_one : HasOneVerdict head asked (verdict_of head asked)
   means_one = (means, λ other line. sym (only line))

@@ -1,5 +1,5 @@
 -- The field Content-Range (RFC 9110 section 14.4): what its texts are, and the same as a function.
-use Rattle.std.specs.Prelude.{◌≡◌, ℕ, ◌+◌, ◌^◌, ◌<◌, ◌≤◌, Bool, true, false, ◌&&◌, List, ◌++◌, length, take, drop, codes, bytes_eq, nat_lt, nat_le, if◌then◌else◌, ◌==◌, position, Option, Some, None, option_map, IsTrue}
+use Rattle.std.specs.Prelude.{◌≡◌, ℕ, ◌+◌, ◌<◌, ◌≤◌, Bool, true, false, ◌&&◌, List, ◌++◌, length, take, drop, codes, bytes_eq, nat_lt, nat_le, if◌then◌else◌, ◌==◌, position, Option, Some, None, option_map, IsTrue}
 use Rattle.std.specs.Str.{all_ascii_digits}
 use Rattle.std.specs.Str.Parse.{IsNumeral, digits_value}
 use Rattle.range_http.specs.declared.range.TheConstants.{DASH, NUMBER_LIMIT, SLASH}

@@ -1,5 +1,5 @@
 // The head of a reply.
-ghost use Rattle.std.specs.Prelude.{◌≡◌, ◌<◌, ◌≤◌, [], length, map, take, IfOk, OnOk, All};
+ghost use Rattle.std.specs.Prelude.{◌≡◌, ◌<◌, ◌≤◌, [], length, map, IfOk, OnOk, All};
 ghost use Rattle.http_header.specs.FieldName.{IsFieldName};
 ghost use Rattle.http_header.specs.FieldValue.{IsFieldValue, plain_value};
 ghost use Rattle.http_header.specs.HeaderMap.{append, append_all, value_count};
@@ -8,7 +8,6 @@ ghost use Rattle.httparse.specs.Grammar.{HasNoResponse, MayBecomeResponse};
 ghost use Rattle.httparse.specs.Spans.{IsHeaderWithin, IsResponseWithin, IsResponseOf};
 ghost use Rattle.range_http.specs.declared.head.HeadRead.TheVariants.{More, Bad};
 ghost use Rattle.range_http.specs.Heads.{IfWhole, IsHead, IsUnfinished, IsNoHead};
-ghost use Rattle.range_http.specs.HeadLaws.{HasOneHead, HeadStays, NoHeadStays, HeadIsFinished, FrontIsUnfinished, HeadStoodBefore, HeadComesWhole};
 ghost use Rattle.range_http.specs.Spans.{entry_at, IsFieldAt};
 
 use dl_kinds::NoMemory;
@@ -168,15 +167,3 @@ pub fn read_head(alloc: Global, bytes: &[u8]) -> HeadRead
         Err(_) => HeadRead::Bad,
     }
 }
-
-/// Laws of the head at the front of a stream, as far as the stream has come: it is one head, it stands once its last
-/// byte has come, and what the front of the stream tells, each longer front tells too.
-pub fn head_laws()
-    ensures one { HasOneHead }
-    ensures stays { HeadStays }
-    ensures none_stays { NoHeadStays }
-    ensures finished { HeadIsFinished }
-    ensures front { FrontIsUnfinished }
-    ensures stood { HeadStoodBefore }
-    ensures whole { HeadComesWhole }
-{}

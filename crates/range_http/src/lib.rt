@@ -6,6 +6,7 @@ mod empty_line;
 mod fields;
 mod framing;
 mod head;
+mod laws;
 mod range;
 mod verdict;
 
@@ -13,6 +14,7 @@ pub use asked::{Asked, request};
 pub use empty_line::has_empty_line;
 pub use fields::location;
 pub use framing::Framing;
-pub use head::{Head, HeadRead, MAX_HEAD_BYTES, MAX_HEAD_FIELDS, head_laws, read_head};
-pub use range::{ContentRange, range_laws, read_range};
+pub use head::{Head, HeadRead, MAX_HEAD_BYTES, MAX_HEAD_FIELDS, read_head};
+pub use laws::{heads_are_one_and_stay, numbers_and_ranges_are_read};
+pub use range::{ContentRange, read_range};
 pub use verdict::{Verdict, classify};

@@ -1,6 +1,5 @@
 // The field Content-Range.
 ghost use Rattle.std.specs.Prelude.{◌≡◌, ◌↔◌, ◌<◌, ◌==◌, length, position, option_map, IfSome};
-ghost use Rattle.range_http.specs.RangeLaws.{NumbersAreRead, RangesAreRead};
 ghost use Rattle.range_http.specs.Range.{number_of, parts_at, starred, span_of, is_range, unitless_range_of, range_of, IsContentRange};
 
 use dl_words::numeral_value;
@@ -27,7 +26,11 @@ pub(crate) fn read_number(text: &[u8]) -> Option<u64>
     ensures { result ≡ number_of text.now }
 {
     let number = numeral_value(text)?;
-    if number < NUMBER_LIMIT { Some(number) } else { None }
+    if number < NUMBER_LIMIT {
+        Some(number)
+    } else {
+        None
+    }
 }
 
 fn place_of(text: &[u8], mark: u8) -> Option<usize>
@@ -102,9 +105,3 @@ pub fn read_range(text: &[u8]) -> Option<ContentRange>
 {
     text.strip_prefix(b"bytes ").and_then(read_unitless)
 }
-
-/// Laws of the numbers and the ranges: what is read of a text is what the text spells.
-pub fn range_laws()
-    ensures numbers { NumbersAreRead }
-    ensures ranges { RangesAreRead }
-{}

@@ -75,7 +75,8 @@ impl Bucket {
     fn pass(&mut self, now: Moment)
         ensures rate { self.new.rate ≡ self.old.rate }
         ensures moment { self.new.moment ≡ max self.old.moment now.0 }
-        ensures held { self.new.held ≡ refilled self.old.rate self.old.held (now.0 - self.old.moment) }
+        ensures held { self.new.held
+            ≡ refilled self.old.rate self.old.held (now.0 - self.old.moment) }
     {
         self.held = self.held_at(now);
         self.moment = Moment(self.moment.0.max(now.0));
@@ -96,13 +97,16 @@ impl Bucket {
     /// one byte, and then takes nothing.
     pub fn take(&mut self, want: u32, now: Moment) -> Take
         requires { 1 ≤ want }
-        ensures answer { (first begun : ℕ) (calls : List BucketCall) → IsAfter first begun calls self.old
+        ensures answer { (first begun : ℕ) (calls : List BucketCall)
+            → IsAfter first begun calls self.old
             → result ≡ answer_at first begun calls want now.0 }
-        ensures hold { (first begun : ℕ) (calls : List BucketCall) → IsAfter first begun calls self.old
+        ensures hold { (first begun : ℕ) (calls : List BucketCall)
+            → IsAfter first begun calls self.old
             → (IsHold result ↔ (credit_at first begun calls now.0 ≡ 0)) }
         ensures bytes { IfGo result (λ bytes. (1 ≤ bytes) × (bytes ≤ want)) }
         ensures wait { IfHold result (λ wait. (1 ≤ wait) × (wait ≤ 1000)) }
-        ensures after { (first begun : ℕ) (calls : List BucketCall) → IsAfter first begun calls self.old
+        ensures after { (first begun : ℕ) (calls : List BucketCall)
+            → IsAfter first begun calls self.old
             → IsAfter first begun (Taken want now.0 ∷ calls) self.new }
     {
         self.pass(now);

@@ -1,13 +1,15 @@
 // The heads of a reply, as they come.
-ghost use Rattle.std.specs.Prelude.{◌≡◌, ◌≤◌, ◌+◌, ◌++◌, [], List, ℕ, true, false, Ok, length, take, drop, IsFalse, OnOk};
+ghost use Rattle.std.specs.Prelude.{◌≡◌, ◌<◌, ◌≤◌, ◌+◌, ◌++◌, [], List, ℕ, true, false, Ok, length, take, drop, IsFalse, OnOk};
+ghost use Rattle.range_http.specs.declared.head.TheConstants.{MAX_HEAD_BYTES};
 ghost use Rattle.range_http.specs.Heads.{IfWhole, IsHead, IsUnfinished};
 ghost use Rattle.range_http.specs.declared.head.HeadRead.TheVariants.{More as Unfinished, Bad as NoHead};
-ghost use Rattle.reply_reader.specs.HeadLaws.{HasOneFinalHead, FinalHeadIsNotDue, FinalHeadIsThere, DueHeadMayCome, FinalHeadStays, NoFinalHeadStays, FrontIsDue, FinalHeadIsWithin, FinalHeadStoodBefore};
 ghost use Rattle.reply_reader.specs.Heads.{is_interim, IsHeadDue, HasFinalHead, HasNoFinalHead, IsHeadless, IsBehindInterims, IsAtHead, IfFinal};
 ghost use Rattle.reply_reader.specs.declared.heads.HeadsRead.TheVariants.{More, Bad};
 
 use dl_kinds::NoMemory;
-use range_http::{Head, HeadRead, has_empty_line, head_laws, read_head};
+use range_http::{
+    Head, HeadRead, MAX_HEAD_BYTES, has_empty_line, heads_are_one_and_stay, read_head,
+};
 use std::alloc::Global;
 
 /// Reads the heads of a reply as they come: interim ones, and the final one.
@@ -35,9 +37,6 @@ pub enum HeadsRead {
 /// The most interim heads of a reply.
 const INTERIM_LIMIT: u8 = 8;
 
-/// The most bytes of a head.
-const MAX_BYTES: usize = 65_536;
-
 // Whether a head tells that another one follows.
 fn is_interim(head: &Head) -> bool
     ensures { result ≡ is_interim head.now }
@@ -49,10 +48,10 @@ fn is_interim(head: &Head) -> bool
 fn may_end_head(bytes: &[u8], from: usize) -> bool
     requires { from ≤ length bytes.now }
     ensures headless { IsFalse result → IsHeadless (take from bytes.now) → IsHeadless bytes.now }
-    ensures short { IsFalse result → length bytes.now ≤ 65535 }
+    ensures short { IsFalse result → length bytes.now < MAX_HEAD_BYTES }
 {
-    head_laws();
-    bytes.len() >= MAX_BYTES || has_empty_line(bytes, from)
+    heads_are_one_and_stay();
+    bytes.len() >= MAX_HEAD_BYTES || has_empty_line(bytes, from)
 }
 
 fn drop_front(bytes: &mut Vec<u8>, count: usize)
@@ -76,19 +75,24 @@ impl HeadReader {
     // Keeps the next piece behind what came.
     fn keep(&mut self, piece: &[u8]) -> Result<(), NoMemory>
         ensures items { OnOk result (self.new.bytes.items ≡ self.old.bytes.items ++ piece.now) }
-        ensures behind { OnOk result ((received : List ℕ) → IsBehindInterims received self.old → IsBehindInterims (received ++ piece.now) self.new) }
+        ensures behind { OnOk result ((received : List ℕ) → IsBehindInterims received self.old
+            → IsBehindInterims (received ++ piece.now) self.new) }
     {
-        head_laws();
+        heads_are_one_and_stay();
         self.bytes.extend_from_slice(piece)
     }
 
     // Passes over the interim heads at the front, and reads the one behind them.
     fn read_on(&mut self, alloc: Global) -> HeadRead
-        ensures behind { (received : List ℕ) → IsBehindInterims received self.old → IsBehindInterims received self.new }
-        ensures whole { IfWhole result (λ head used. IsHead self.new.bytes.items head used × (used ≤ length self.new.bytes.items)) }
+        ensures behind { (received : List ℕ) → IsBehindInterims received self.old
+            → IsBehindInterims received self.new }
+        ensures whole { IfWhole result
+            (λ head used. IsHead self.new.bytes.items head used
+            × (used ≤ length self.new.bytes.items)) }
         ensures last { IfWhole result (λ head _. is_interim head ≡ false) }
         ensures more { result ≡ Unfinished → IsUnfinished self.new.bytes.items }
-        ensures bad { result ≡ NoHead → (received : List ℕ) → IsBehindInterims received self.old → HasNoFinalHead received }
+        ensures bad { result ≡ NoHead → (received : List ℕ) → IsBehindInterims received self.old
+            → HasNoFinalHead received }
     {
         'turns: loop {
             match read_head(alloc, &self.bytes) {
@@ -109,14 +113,17 @@ impl HeadReader {
 
     /// Takes the next piece of the stream. After any answer but `More` the reader isn't used again.
     pub fn take(&mut self, alloc: Global, piece: &[u8]) -> HeadsRead
-        requires { length piece.now ≤ 65536 }
-        ensures whole { (received : List ℕ) → IsAtHead received self.old → IfFinal result (λ head used.
+        requires { length piece.now ≤ MAX_HEAD_BYTES }
+        ensures whole { (received : List ℕ) → IsAtHead received self.old
+            → IfFinal result (λ head used.
             HasFinalHead (received ++ piece.now) head (length received + used)) }
         ensures within { IfFinal result (λ _ used. used ≤ length piece.now) }
-        ensures more { result ≡ More → (received : List ℕ) → IsAtHead received self.old → IsAtHead (received ++ piece.now) self.new }
-        ensures bad { result ≡ Bad → (received : List ℕ) → IsAtHead received self.old → HasNoFinalHead (received ++ piece.now) }
+        ensures more { result ≡ More → (received : List ℕ) → IsAtHead received self.old
+            → IsAtHead (received ++ piece.now) self.new }
+        ensures bad { result ≡ Bad → (received : List ℕ) → IsAtHead received self.old
+            → HasNoFinalHead (received ++ piece.now) }
     {
-        head_laws();
+        heads_are_one_and_stay();
         let from = self.bytes.len();
         let Ok(()) = self.keep(piece) else {
             return HeadsRead::NoMemory;
@@ -139,8 +146,10 @@ impl HeadReader {
 
     /// Whether the final head can still come. It reads all bytes again: ask it once, where no more of the stream is read.
     pub fn is_due(&self, alloc: Global) -> Result<bool, NoMemory>
-        ensures due { result ≡ Ok true → (received : List ℕ) → IsAtHead received self.now → IsHeadDue received }
-        ensures none { result ≡ Ok false → (received : List ℕ) → IsAtHead received self.now → HasNoFinalHead received }
+        ensures due { result ≡ Ok true → (received : List ℕ) → IsAtHead received self.now
+            → IsHeadDue received }
+        ensures none { result ≡ Ok false → (received : List ℕ) → IsAtHead received self.now
+            → HasNoFinalHead received }
     {
         match read_head(alloc, &self.bytes) {
             HeadRead::More => Ok(true),
@@ -149,19 +158,4 @@ impl HeadReader {
             HeadRead::NoMemory => Err(NoMemory),
         }
     }
-}
-
-/// Laws of the final head of a reply, as far as its stream has come: a stream tells one thing, and what it tells stays.
-pub fn final_head_laws()
-    ensures one { HasOneFinalHead }
-    ensures not_due { FinalHeadIsNotDue }
-    ensures there { FinalHeadIsThere }
-    ensures may_come { DueHeadMayCome }
-    ensures stays { FinalHeadStays }
-    ensures none_stays { NoFinalHeadStays }
-    ensures front { FrontIsDue }
-    ensures within { FinalHeadIsWithin }
-    ensures stood { FinalHeadStoodBefore }
-{
-    head_laws();
 }

@@ -2,12 +2,12 @@
 //! for. The answer is that of the whole stream, however it was cut.
 #![tactic(auto)]
 
-mod answers;
 mod heads;
+mod laws;
 mod loss;
 mod slices;
 
-pub use answers::{answers_fill_law, answers_laws};
-pub use heads::{HeadReader, HeadsRead, final_head_laws};
+pub use heads::{HeadReader, HeadsRead};
+pub use laws::{answers_fill_what_is_asked, final_heads_are_one_and_stay, streams_have_one_answer};
 pub use loss::Loss;
 pub use slices::{SliceRead, SliceReader, SliceState};

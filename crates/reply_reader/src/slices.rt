@@ -53,10 +53,13 @@ fn new_body(framing: Framing) -> Body
 fn feed(body: &mut Body, bytes: &[u8], out: &mut Vec<u8>) -> SliceState
     requires few { length bytes.now ≤ 65536 }
     requires room { vec_len out.old + length bytes.now ≤ vec_capacity out.old }
-    ensures fed { ForEachStream body.old (λ framing stream. IsFed framing (stream ++ bytes.now) body.new) }
-    ensures content { ForEachStream body.old (λ framing stream. GainAlike (content_of framing stream)
+    ensures fed { ForEachStream body.old
+        (λ framing stream. IsFed framing (stream ++ bytes.now) body.new) }
+    ensures content { ForEachStream body.old
+        (λ framing stream. GainAlike (content_of framing stream)
         (content_of framing (stream ++ bytes.now)) out.old.items out.new.items) }
-    ensures state { ForEachStream body.old (λ framing stream. result ≡ content_state framing (stream ++ bytes.now)) }
+    ensures state { ForEachStream body.old
+        (λ framing stream. result ≡ content_state framing (stream ++ bytes.now)) }
     ensures grows { vec_len out.old ≤ vec_len out.new }
     ensures len { vec_len out.new ≤ vec_len out.old + length bytes.now }
     ensures capacity { vec_capacity out.old ≤ vec_capacity out.new }
@@ -72,7 +75,8 @@ fn feed(body: &mut Body, bytes: &[u8], out: &mut Vec<u8>) -> SliceState
 impl SliceReader {
     /// Reads the `len` bytes of a content before which `skip` bytes stand.
     pub fn new(framing: Framing, skip: u64, len: u64) -> Self
-        ensures at { IsAtSlice (record { framing = framing_told framing; skip = skip; len = len }) [] result }
+        ensures at { IsAtSlice (record { framing = framing_told framing; skip = skip; len = len })
+            [] result }
     {
         SliceReader {
             body: new_body(framing),
@@ -104,7 +108,8 @@ impl SliceReader {
         ensures at { ForEachSlice self.old (λ slice stream.
             IsAtSlice slice (stream ++ take result.used piece.now) self.new) }
         ensures gained { ForEachSlice self.old (λ slice stream.
-            GainAlike (came_of slice stream) (came_of slice (stream ++ take result.used piece.now)) out.old.items out.new.items) }
+            GainAlike (came_of slice stream) (came_of slice
+            (stream ++ take result.used piece.now)) out.old.items out.new.items) }
         ensures len { vec_len out.new ≤ vec_len out.old + room }
         ensures capacity { vec_capacity out.old ≤ vec_capacity out.new }
         ensures dropped { vec_capacity dropped.old ≤ vec_capacity dropped.new }
@@ -172,7 +177,8 @@ impl SliceReader {
         ensures at { ForEachSlice self.old (λ slice stream.
             IsAtSlice slice (stream ++ take result.used piece.now) self.new) }
         ensures gained { ForEachSlice self.old (λ slice stream.
-            GainAlike (came_of slice stream) (came_of slice (stream ++ take result.used piece.now)) out.old.items out.new.items) }
+            GainAlike (came_of slice stream) (came_of slice
+            (stream ++ take result.used piece.now)) out.old.items out.new.items) }
         ensures state { ForEachSlice self.old (λ slice stream.
             result.state ≡ slice_state slice (stream ++ take result.used piece.now)) }
         ensures len { vec_len out.new ≤ vec_len out.old + room }

@@ -1,4 +1,4 @@
--- Streams tell one thing of parts.
+-- The same streams determine one result.
 use Rattle.std.proofs.Common.{◌≡◌, ℕ, List, [], ◌∷◌, ◌++◌, sym, ap, ap₂, subst, ◌∙◌, inl, inr}
 use Rattle.link_source.specs.Streams.{Stream}
 use Rattle.range_http.specs.declared.asked.Asked.{Asked}

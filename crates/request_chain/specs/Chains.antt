@@ -5,7 +5,6 @@ use Rattle.span_map.specs.declared.jobs.JobPart.{JobPart}
 use Rattle.reply_reader.specs.declared.loss.Loss.{Loss}
 use Rattle.reply_reader.specs.declared.loss.Loss.TheVariants.{Link, NoMemory}
 use Rattle.request_chain.specs.Fetched.{Fetched}
-pub use Rattle.request_chain.specs.Parts.{IsJobPart}
 use Rattle.request_chain.specs.Stages.{IsReading, IsBehindHead}
 use Rattle.request_chain.specs.Plans.{Ending, Done, Open, Lost}
 use Rattle.request_chain.specs.declared.chain.Chain.{Chain}

@@ -22,7 +22,7 @@ FetchedBy (Ask part parts url count status) (stream ∷ streams) bytes ending re
 abbrev pub Fetched : List JobPart → List Stream → List ℕ → Ending → List Stream → Type 0
 Fetched parts streams bytes ending rest = FetchedBy (plan_of parts) streams bytes ending rest
 
--- streams tell one thing alone
+-- the same streams determine one result
 abbrev pub FetchedIsOne : Type 0
 FetchedIsOne = (parts : List JobPart) (streams rest other_rest : List Stream) (bytes other_bytes : List ℕ) (ending other_ending : Ending)
     → Fetched parts streams bytes ending rest → Fetched parts streams other_bytes other_ending other_rest

@@ -5,7 +5,6 @@ pub mod Exchanges
 pub mod Fetched
 pub mod Honest
 pub mod Links
-pub mod Parts
 pub mod Plans
 pub mod Probes
 pub mod Searches

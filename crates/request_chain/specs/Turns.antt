@@ -14,7 +14,7 @@ use Rattle.request_chain.specs.Stages.{IsSent, IsReading, steps_of}
 use Rattle.request_chain.specs.declared.chain.Chain.{Chain}
 use Rattle.request_chain.specs.declared.course.Course.{Course}
 
--- what was gained since so many bytes of the call had come
+-- the state after a step that began with `was` bytes received
 pub record Steps (parts : List JobPart) (before used : List Stream) (bytes : List ℕ) (now : List Stream) (added : List ℕ) (was : ℕ) (chain : Chain) : Type 0 where
   pub later : List Stream
   pub gains : Gains before now later
@@ -22,7 +22,7 @@ pub record Steps (parts : List JobPart) (before used : List Stream) (bytes : Lis
   pub chain_is : IsChain parts later (bytes ++ added) chain
 
 -- the same, where a head may wait
-pub record Receives (parts : List JobPart) (before used : List Stream) (bytes : List ℕ) (now : List Stream) (was : ℕ) (chain : Chain) : Type 0 where
+pub record ReceivesMore (parts : List JobPart) (before used : List Stream) (bytes : List ℕ) (now : List Stream) (was : ℕ) (chain : Chain) : Type 0 where
   pub later : List Stream
   pub gains : Gains before now later
   pub taken_is : received_by later + was ≡ received_by used + chain.taken

@@ -8,11 +8,12 @@ ghost use Rattle.reply_reader.specs.Heads.{HasFinalHead};
 ghost use Rattle.reply_reader.specs.Losses.{IsKnown};
 ghost use Rattle.reply_reader.specs.declared.loss.Loss.TheVariants.{Link};
 ghost use Rattle.request_chain.specs.Links.{CountsLinkLoss, IsHonestSince, StaysHonest};
-ghost use Rattle.request_chain.specs.Chains.{IsJobPart, IsChain, HasBrought, TellsLoss, Gains, ReadsChain, Loses};
+ghost use Rattle.request_chain.specs.Chains.{IsChain, HasBrought, TellsLoss, Gains, ReadsChain, Loses};
+ghost use Rattle.span_map.specs.Jobs.{IsJobPart};
 ghost use Rattle.request_chain.specs.Courses.{plan_now, IsAsking};
 ghost use Rattle.request_chain.specs.Plans.{Over, Done};
 ghost use Rattle.request_chain.specs.Stages.{IsReading, IsReadingHead, IsReadingContent, IsSent, steps_of};
-ghost use Rattle.request_chain.specs.Turns.{Steps, Receives, StepLoses, HeadIsRead, HasMoved, weight_of};
+ghost use Rattle.request_chain.specs.Turns.{Steps, ReceivesMore, StepLoses, HeadIsRead, HasMoved, weight_of};
 
 use crate::content::{Content, begin};
 use crate::course::{Course, Moved};
@@ -23,7 +24,9 @@ use crate::stage::Stage;
 use dl_kinds::Code;
 use link_source::Links;
 use range_http::Head;
-use reply_reader::{HeadReader, HeadsRead, Loss, SliceState, answers_laws, final_head_laws};
+use reply_reader::{
+    HeadReader, HeadsRead, Loss, SliceState, final_heads_are_one_and_stay, streams_have_one_answer,
+};
 use span_map::JobParts;
 use std::alloc::Global;
 use std::mem;
@@ -113,7 +116,7 @@ impl Chain {
         ensures receives { IsTrue L.tells
             → (parts : List JobPart) (before used : List Stream) (bytes : List ℕ)
             → IsChain parts used bytes self.old → Gains before (L.state link.old).streams used → MatchResult result
-            (λ _. Receives parts before used bytes (L.state link.new).streams self.old.taken self.new)
+            (λ _. ReceivesMore parts before used bytes (L.state link.new).streams self.old.taken self.new)
             (StepLoses parts before used bytes (L.state link.new).streams [] self.old.taken (L.faults link.new) self.new) }
         ensures course { self.new.course ≡ self.old.course }
         ensures stage { self.new.stage ≡ self.old.stage }
@@ -161,7 +164,7 @@ impl Chain {
         ensures own { IfErr result (λ loss. (count : ℕ) → loss ≡ Link count → ⊥) }
         ensures known { IfErr result IsKnown }
     {
-        final_head_laws();
+        final_heads_are_one_and_stay();
         if self.course.is_moved_often() {
             return Err(Loss::Redirects);
         }
@@ -195,7 +198,7 @@ impl Chain {
         ensures own { IfErr result (λ loss. (count : ℕ) → loss ≡ Link count → ⊥) }
         ensures known { IfErr result IsKnown }
     {
-        final_head_laws();
+        final_heads_are_one_and_stay();
         let asked = self.course.asked();
         let begun = begin(head, &asked)?;
         match begun {
@@ -221,7 +224,7 @@ impl Chain {
         ensures own { IfErr result (λ loss. (count : ℕ) → loss ≡ Link count → ⊥) }
         ensures known { IfErr result IsKnown }
     {
-        final_head_laws();
+        final_heads_are_one_and_stay();
         let mut reader = reader;
         match self.room.inbox.read_head(alloc, &mut reader) {
             HeadsRead::Whole { head, .. } => self.start(alloc, &head),
@@ -253,7 +256,7 @@ impl Chain {
         ensures own { IfErr result (λ loss. (count : ℕ) → loss ≡ Link count → ⊥) }
         ensures known { IfErr result IsKnown }
     {
-        answers_laws();
+        streams_have_one_answer();
         let mut content = content;
         let ChainRoom { inbox, dropped } = &mut self.room;
         match content.read(inbox, room, out, dropped) {
@@ -388,8 +391,8 @@ impl Chain {
             → StaysHonest before (L.state link.old) (L.state link.new) }
         ensures later { L.faults link.old ≤ L.faults link.new }
     {
-        answers_laws();
-        final_head_laws();
+        streams_have_one_answer();
+        final_heads_are_one_and_stay();
         let before = out.len();
         self.taken = 0;
         let mut gained = 0;

@@ -11,8 +11,8 @@ ghost use Rattle.request_chain.specs.Contents.{IsAtStart, IsBegun, IsReadTo, tur
 
 use crate::inbox::Inbox;
 use dl_kinds::Code;
-use range_http::{Asked, Framing, Head, Verdict, classify, range_laws};
-use reply_reader::{Loss, SliceReader, SliceState, final_head_laws};
+use range_http::{Asked, Framing, Head, Verdict, classify, numbers_and_ranges_are_read};
+use reply_reader::{Loss, SliceReader, SliceState, final_heads_are_one_and_stay};
 
 /// The content of a reply, whose bytes up to a place are wanted.
 #[derive(Debug, Drop)]
@@ -58,7 +58,7 @@ impl Content {
         ensures dropped { vec_capacity dropped.old ≤ vec_capacity dropped.new }
         ensures less { result ≡ More → length inbox.new < length inbox.old }
     {
-        final_head_laws();
+        final_heads_are_one_and_stay();
         let before = out.len();
         let read = self.reader.take(inbox.front(), room, out, dropped);
         inbox.pass(read.used);
@@ -79,7 +79,7 @@ pub(crate) fn begin(head: &Head, asked: &Asked) -> Result<Option<Content>, Loss>
         → answer_by head.now asked.now (verdict_of head.now asked.now) stream ended ≡ without_bytes (Lost loss))) }
     ensures known { IfErr result IsKnown }
 {
-    range_laws();
+    numbers_and_ranges_are_read();
     match classify(head, asked) {
         Verdict::Part { last, framing, .. } => {
             Ok(Some(Content::new(framing, 0, asked.first, last)))

@@ -1,7 +1,7 @@
 // Which request is next.
 ghost use Rattle.std.specs.Prelude.{◌≡◌, ◌<◌, ◌≤◌, ◌+◌, ◌^◌, ℕ, List, None, Some, All, IsTrue, IsFalse, nat_le, length, slice_get};
 ghost use Rattle.span_map.specs.declared.jobs.JobPart.{JobPart};
-ghost use Rattle.request_chain.specs.Parts.{IsJobPart};
+ghost use Rattle.span_map.specs.Jobs.{IsJobPart};
 
 use dl_kinds::Text;
 use range_http::Asked;

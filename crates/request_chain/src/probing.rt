@@ -24,7 +24,7 @@ use crate::room::ChainRoom;
 use dl_kinds::{Code, Text};
 use link_source::Links;
 use range_http::{Asked, Head, Verdict, classify};
-use reply_reader::{HeadReader, HeadsRead, Loss, final_head_laws};
+use reply_reader::{HeadReader, HeadsRead, Loss, final_heads_are_one_and_stay};
 use std::alloc::Global;
 
 /// The most bytes of the heads of a reply, and one more.
@@ -186,7 +186,7 @@ pub fn probe<L: Links>(
     ensures link { IfErr result (CountsLinkLoss (L.faults link.old) (L.faults link.new)) }
     ensures later { L.faults link.old ≤ L.faults link.new }
 {
-    final_head_laws();
+    final_heads_are_one_and_stay();
     let Ok(url) = Text::of(alloc, url) else {
         return Err(Loss::NoMemory);
     };

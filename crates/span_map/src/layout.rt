@@ -5,7 +5,7 @@ ghost use Rattle.dl_kinds.specs.declared.plan.TheConstants.{MAX_PAYLOAD_LEN};
 ghost use Rattle.span_map.specs.declared.files.LayoutErr.{LayoutErr};
 ghost use Rattle.span_map.specs.declared.files.LayoutErr.TheVariants.{NoMemory};
 ghost use Rattle.span_map.specs.Layout.{total_of, IsLayout, IsRefused, AreStarts};
-ghost use Rattle.span_map.specs.Slices.{part_of, slice_of, IsPart, PartsHoldSlices};
+ghost use Rattle.span_map.specs.Slices.{part_of, slice_of, IsPart};
 
 use crate::paths::check_paths;
 use crate::{FileLen, LayoutErr, Part};
@@ -174,8 +174,3 @@ impl Layout {
         })
     }
 }
-
-/// The parts of a slice hold, in order, the bytes of the slice, whatever the files hold.
-pub fn parts_hold_slices()
-    ensures { PartsHoldSlices }
-{}

@@ -4,11 +4,13 @@
 
 mod files;
 mod jobs;
+mod laws;
 mod layout;
 mod paths;
 
 pub use files::{FileLen, LayoutErr, Part};
 pub use jobs::{Job, JobPart, JobParts};
-pub use layout::{Layout, parts_hold_slices};
+pub use laws::parts_hold_slices;
+pub use layout::Layout;
 pub use paths::{MAX_PART_LEN, MAX_PARTS, NUL, SLASH, is_valid_part};
 pub use std::alloc::AllocError as NoMemory;

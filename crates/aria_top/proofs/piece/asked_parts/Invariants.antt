@@ -1,7 +1,7 @@
 use Rattle.std.proofs.Common.{◌≡◌, ◌<◌, ◌^◌, take, map}
 use Rattle.std.specs.Prelude.{All}
 use Rattle.metainfo.specs.Info.{info_of}
-use Rattle.request_chain.specs.Chains.{IsJobPart}
+use Rattle.span_map.specs.Jobs.{IsJobPart}
 use Rattle.aria_top.specs.Askings.{asked_part}
 use Rattle.aria_top.proofs.piece.asked_parts.Given as goal
 

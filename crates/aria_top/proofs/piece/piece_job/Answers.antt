@@ -1,7 +1,7 @@
 use Rattle.std.proofs.Common.{◌≡◌, ◌≤◌, ◌+◌, ◌-◌, ◌*◌, ◌∙◌, ℕ, sum_by, sym, ap, subst, arith}
 use Rattle.dl_kinds.specs.Plan.{blocks_of, full_blocks, block_start, block_end, piece_start, piece_end}
 use Rattle.metainfo.specs.Info.{info_of}
-use Rattle.fetch_session.specs.Jobs.{parts_len}
+use Rattle.span_map.specs.Jobs.{parts_len}
 use Rattle.aria_top.proofs.Lengths.{asked_len}
 use Rattle.aria_top.proofs.piece.piece_job.Goals as goal
 

@@ -57,10 +57,10 @@ list_value-loop-rest-preserved t c =
     (items_more c.args.levels (value_at c.args.levels) (value_takes c.args.levels) c.args.place c.args.bytes.now c.loop-rest.items.items c.loop-rest.next c.loop-rest.rest.now c.in_ok-item.item (sym c.begins.ensures ∙ c.loop-rest-test.true) (omega arith) c.in_ok-item.ensures.exact c.in_ok-item.ensures.place c.loop-rest.invariant)
 
 pub list_value-invariant_of-result : goal.list_value-invariant_of-result
-list_value-invariant_of-result t c = list_made c.args.levels (value_at c.args.levels) (value_takes c.args.levels) c.args.place c.args.bytes.now c.loop-rest.items c.loop-rest.next c.loop-rest.rest.now c.requires.fits c.requires.deep (sym c.begins.ensures ∙ c.loop-rest-test.false) c.loop-rest.invariant
+list_value-invariant_of-result t c = list_made c.args.levels (value_at c.args.levels) (value_takes c.args.levels) c.args.place c.args.bytes.now c.shrink_to_fit.new.self c.loop-rest.next c.loop-rest.rest.now c.requires.fits c.requires.deep (sym c.begins.ensures ∙ c.loop-rest-test.false) (rw c.shrink_to_fit.ensures.items c.loop-rest.invariant)
 
 pub list_value-returns-clause-exact : goal.list_value-returns-clause-exact
-list_value-returns-clause-exact t c = list_is c.args.levels (value_at c.args.levels) (value_takes c.args.levels) c.args.place c.args.bytes.now c.loop-rest.items.items c.loop-rest.next c.loop-rest.rest.now (sym c.begins.ensures ∙ c.loop-rest-test.false) c.loop-rest.invariant
+list_value-returns-clause-exact t c = list_is c.args.levels (value_at c.args.levels) (value_takes c.args.levels) c.args.place c.args.bytes.now c.shrink_to_fit.new.self.items c.loop-rest.next c.loop-rest.rest.now (sym c.begins.ensures ∙ c.loop-rest-test.false) (rw c.shrink_to_fit.ensures.items c.loop-rest.invariant)
 
 -- ---- dict_value
 
@@ -92,7 +92,7 @@ dict_value-loop-rest-preserved t c =
     (members_more c.args.levels (value_at c.args.levels) (value_takes c.args.levels) c.args.place c.args.bytes.now c.loop-rest.members.items c.loop-rest.next c.loop-rest.rest.now m (sym c.begins.ensures ∙ c.loop-rest-test.true) (omega arith) (rw (c.last_key.ensures, c.deref.ensures.value) at c.in_ok-member.ensures.exact) c.in_ok-member.ensures.place c.loop-rest.invariant)
 
 pub dict_value-invariant_of-result : goal.dict_value-invariant_of-result
-dict_value-invariant_of-result t c = dict_made c.args.levels (value_at c.args.levels) (value_takes c.args.levels) c.args.place c.args.bytes.now c.loop-rest.members c.loop-rest.next c.loop-rest.rest.now c.requires.fits c.requires.deep (sym c.begins.ensures ∙ c.loop-rest-test.false) c.loop-rest.invariant
+dict_value-invariant_of-result t c = dict_made c.args.levels (value_at c.args.levels) (value_takes c.args.levels) c.args.place c.args.bytes.now c.shrink_to_fit.new.self c.loop-rest.next c.loop-rest.rest.now c.requires.fits c.requires.deep (sym c.begins.ensures ∙ c.loop-rest-test.false) (rw c.shrink_to_fit.ensures.items c.loop-rest.invariant)
 
 pub dict_value-returns-clause-exact : goal.dict_value-returns-clause-exact
-dict_value-returns-clause-exact t c = dict_is c.args.levels (value_at c.args.levels) (value_takes c.args.levels) c.args.place c.args.bytes.now c.loop-rest.members.items c.loop-rest.next c.loop-rest.rest.now (sym c.begins.ensures ∙ c.loop-rest-test.false) c.loop-rest.invariant
+dict_value-returns-clause-exact t c = dict_is c.args.levels (value_at c.args.levels) (value_takes c.args.levels) c.args.place c.args.bytes.now c.shrink_to_fit.new.self.items c.loop-rest.next c.loop-rest.rest.now (sym c.begins.ensures ∙ c.loop-rest-test.false) (rw c.shrink_to_fit.ensures.items c.loop-rest.invariant)

@@ -5,5 +5,5 @@ use Rattle.payload_files.proofs.folders.make_folder.Goals as goal
 
 pub returns-in_ok-make_dir-in-Some-clause-stay : goal.returns-in_ok-make_dir-in-Some-clause-stay
 returns-in_ok-make_dir-in-Some-clause-stay g c told folder has =
-    let made = (c.in_ok-make_dir-in-Some.ensures.made told).made in
-    subst (λ (folders : List (List ℕ)). Contains folders folder) (sym made) (contains_cons _ _ _ has)
+    subst (λ (folders : List (List ℕ)). Contains folders folder) (sym (rw c.in_ok-make_dir-in-Some.was at (c.make_dir.ensures.made told).made))
+    (contains_cons (g.D.Disk.state c.args.disk.now).folders _ folder has)

@@ -1,7 +1,7 @@
-use Rattle.std.proofs.Common.{◌≡◌, ◌∙◌, subst, List, ℕ, length, Some, get_or, refl, arith}
+use Rattle.std.proofs.Common.{◌≡◌, ◌∙◌, subst, List, ℕ, length, get_or, arith}
 use Rattle.std.proofs.lemmas.Result.{on_ok_weaker}
-use Rattle.dl_disk.specs.Files.{Files, TornWrite, Writes}
-use Rattle.dl_disk.specs.Passes.{Performs, performs_alters, performs_wider}
+use Rattle.dl_disk.specs.Files.{TornWrite, Writes}
+use Rattle.dl_disk.specs.Passes.{performs_alters, performs_wider}
 use Rattle.span_map.specs.declared.files.FileLen.{FileLen}
 use Rattle.payload_files.specs.Names.{name_of}
 use Rattle.payload_files.specs.Payload.{part_start}

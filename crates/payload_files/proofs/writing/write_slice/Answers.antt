@@ -1,12 +1,10 @@
-use Rattle.std.proofs.Common.{◌≡◌, ◌∙◌, ap, ℕ, ◌+◌, List, length, take, refl, arith}
+use Rattle.std.proofs.Common.{◌≡◌, ◌∙◌, ap, ℕ, length, arith}
 use Rattle.std.specs.List.{sum_by}
-use Rattle.std.proofs.lemmas.List.{take_all}
-use Rattle.dl_disk.specs.State.{DiskState}
-use Rattle.dl_disk.specs.Passes.{Performs, performs_none, performs_on, performs_wider}
+use Rattle.dl_disk.specs.Passes.{performs_on}
 use Rattle.span_map.specs.Slices.{slice_of}
 use Rattle.span_map.specs.declared.files.Part.{Part}
 use Rattle.payload_files.specs.Changes.{TornSlice}
-use Rattle.payload_files.proofs.SliceSteps.{next_sum, next_fits, next_torn, next_written, torn_none, torn_wider, held_all}
+use Rattle.payload_files.proofs.SliceSteps.{next_sum, next_fits, next_torn, next_written, torn_wider}
 use Rattle.payload_files.proofs.writing.write_slice.Goals as goal
 
 abbrev first_of : Part

@@ -7,7 +7,7 @@ use Rattle.fetch_session.proofs.fetch.Fetch.read_on.Goals as goal
 pub returns-in-Ok-clause-reads : goal.returns-in-Ok-clause-reads
 returns-in-Ok-clause-reads g c = λ tells job before used handed is gains.
     let self = c.args.self.now in
-    let fits = c.fetched_law.ensures.fits in
+    let fits = c.fetched_bytes_fit_their_parts.ensures.fits in
     let follow = c.plan_laws.ensures.follow in
     let room = c.args.room in
     let chain = chain_is fits follow job used handed self is room c.requires.some_room c.requires.room c.requires.none_lost in
@@ -24,7 +24,7 @@ read-requires-clause-room g c =
 pub returns-in-NoMemory-clause-reads : goal.returns-in-NoMemory-clause-reads
 returns-in-NoMemory-clause-reads g c = λ tells job before used handed is gains.
     let self = c.args.self.now in
-    let fits = c.fetched_law.ensures.fits in
+    let fits = c.fetched_bytes_fit_their_parts.ensures.fits in
     let follow = c.plan_laws.ensures.follow in
     let room = c.args.room in
     let chain = chain_is fits follow job used handed self is room c.requires.some_room c.requires.room c.requires.none_lost in
@@ -38,7 +38,7 @@ returns-in-NoMemory-clause-reads g c = λ tells job before used handed is gains.
 pub returns-then-self-eq0-clause-reads : goal.returns-then-self-eq0-clause-reads
 returns-then-self-eq0-clause-reads g c = λ tells job before used handed is gains.
     let self = c.args.self.now in
-    let fits = c.fetched_law.ensures.fits in
+    let fits = c.fetched_bytes_fit_their_parts.ensures.fits in
     let follow = c.plan_laws.ensures.follow in
     let room = c.args.room in
     let chain = chain_is fits follow job used handed self is room c.requires.some_room c.requires.room c.requires.none_lost in
@@ -49,7 +49,7 @@ returns-then-self-eq0-clause-reads g c = λ tells job before used handed is gain
 pub returns-else-self-eq0-clause-reads : goal.returns-else-self-eq0-clause-reads
 returns-else-self-eq0-clause-reads g c = λ tells job before used handed is gains.
     let self = c.args.self.now in
-    let fits = c.fetched_law.ensures.fits in
+    let fits = c.fetched_bytes_fit_their_parts.ensures.fits in
     let follow = c.plan_laws.ensures.follow in
     let room = c.args.room in
     let chain = chain_is fits follow job used handed self is room c.requires.some_room c.requires.room c.requires.none_lost in
@@ -61,23 +61,23 @@ returns-else-self-eq0-clause-reads g c = λ tells job before used handed is gain
 pub returns-in-Ok-clause-honest : goal.returns-in-Ok-clause-honest
 returns-in-Ok-clause-honest g c = λ tells none_bad job before used handed is gains honest.
     let self = c.args.self.now in
-    let chain = chain_is c.fetched_law.ensures.fits c.plan_laws.ensures.follow job used handed self is c.args.room c.requires.some_room c.requires.room c.requires.none_lost in
+    let chain = chain_is c.fetched_bytes_fit_their_parts.ensures.fits c.plan_laws.ensures.follow job used handed self is c.args.room c.requires.some_room c.requires.room c.requires.none_lost in
     c.read.ensures.honest tells none_bad job.parts before used (handed ++ self.held.items) chain gains honest
 
 pub returns-in-NoMemory-clause-honest : goal.returns-in-NoMemory-clause-honest
 returns-in-NoMemory-clause-honest g c = λ tells none_bad job before used handed is gains honest.
     let self = c.args.self.now in
-    let chain = chain_is c.fetched_law.ensures.fits c.plan_laws.ensures.follow job used handed self is c.args.room c.requires.some_room c.requires.room c.requires.none_lost in
+    let chain = chain_is c.fetched_bytes_fit_their_parts.ensures.fits c.plan_laws.ensures.follow job used handed self is c.args.room c.requires.some_room c.requires.room c.requires.none_lost in
     c.read.ensures.honest tells none_bad job.parts before used (handed ++ self.held.items) chain gains honest
 
 pub returns-then-self-eq0-clause-honest : goal.returns-then-self-eq0-clause-honest
 returns-then-self-eq0-clause-honest g c = λ tells none_bad job before used handed is gains honest.
     let self = c.args.self.now in
-    let chain = chain_is c.fetched_law.ensures.fits c.plan_laws.ensures.follow job used handed self is c.args.room c.requires.some_room c.requires.room c.requires.none_lost in
+    let chain = chain_is c.fetched_bytes_fit_their_parts.ensures.fits c.plan_laws.ensures.follow job used handed self is c.args.room c.requires.some_room c.requires.room c.requires.none_lost in
     c.read.ensures.honest tells none_bad job.parts before used (handed ++ self.held.items) chain gains honest
 
 pub returns-else-self-eq0-clause-honest : goal.returns-else-self-eq0-clause-honest
 returns-else-self-eq0-clause-honest g c = λ tells none_bad job before used handed is gains honest.
     let self = c.args.self.now in
-    let chain = chain_is c.fetched_law.ensures.fits c.plan_laws.ensures.follow job used handed self is c.args.room c.requires.some_room c.requires.room c.requires.none_lost in
+    let chain = chain_is c.fetched_bytes_fit_their_parts.ensures.fits c.plan_laws.ensures.follow job used handed self is c.args.room c.requires.some_room c.requires.room c.requires.none_lost in
     c.read.ensures.honest tells none_bad job.parts before used (handed ++ self.held.items) chain gains honest

@@ -6,13 +6,13 @@ use Rattle.fetch_session.proofs.fetch.Fetch.step.Goals as goal
 
 pub returns-in-Some-clause-reads : goal.returns-in-Some-clause-reads
 returns-in-Some-clause-reads g c = λ tells job before used handed is gains.
-    fails_held c.fetched_law.ensures.fits c.plan_laws.ensures.follow job used handed c.args.self.now is before _ gains _ c.args.allow
+    fails_held c.fetched_bytes_fit_their_parts.ensures.fits c.plan_laws.ensures.follow job used handed c.args.self.now is before _ gains _ c.args.allow
     c.in-Some.loss c.in-Some.is c.requires.none_ready
 
 pub returns-then-room-eq0-clause-reads : goal.returns-then-room-eq0-clause-reads
 returns-then-room-eq0-clause-reads g c = λ tells job before used handed is gains.
     let self = c.args.self.now in
-    steps_over c.fetched_law.ensures.fits c.plan_laws.ensures.follow job used handed _ (same_fetch job used handed self _ (record { plan = refl; end_is = refl; ready = refl; chain = refl; held = refl; lost = refl }) is) before _ gains _ c.args.allow
+    steps_over c.fetched_bytes_fit_their_parts.ensures.fits c.plan_laws.ensures.follow job used handed _ (same_fetch job used handed self _ (record { plan = refl; end_is = refl; ready = refl; chain = refl; held = refl; lost = refl }) is) before _ gains _ c.args.allow
     self c.got.result c.in_default.is c.requires.none_ready (omega (arith, c.missing-room.ensures.value, c.len.ensures, c.if-room-eq0.true))
     c.got.ensures.ready c.got.ensures.taken c.got.ensures.done
 
@@ -22,7 +22,7 @@ returns-then-is_err-clause-reads g c = λ tells job before used handed is gains.
     let shown = c.refill.ensures.shown in
     let ready : c.refill.new.self.ready.count ≡ self.ready.count = ap (λ (r : Run). r.count) shown.ready in
     let some : 0 < c.missing-room.result = (let some = c.if-room-eq0.false in omega (arith, some)) in
-    fails_memory c.fetched_law.ensures.fits c.plan_laws.ensures.follow job used handed self is c.missing-room.result some
+    fails_memory c.fetched_bytes_fit_their_parts.ensures.fits c.plan_laws.ensures.follow job used handed self is c.missing-room.result some
     (omega (arith, c.missing-room.ensures.value, c.len.ensures)) _ shown.plan shown.end_is (ap (λ (r : Run). r.first) shown.ready)
     before _ _ c.args.allow [] _ refl used gains refl (ap (λ v. v.items) shown.held) (ready ∙ c.requires.none_ready)
 

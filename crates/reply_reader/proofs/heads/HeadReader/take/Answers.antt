@@ -20,7 +20,7 @@ returns-then-not-may_end_head-clause-more c is received at =
 
 pub returns-in-Whole-clause-whole : goal.returns-in-Whole-clause-whole
 returns-in-Whole-clause-whole c received at =
-    let laws = c.head_laws.ensures in
+    let laws = c.heads_are_one_and_stay.ensures in
     let whole = c.in-Whole.ensures.whole in
     let behind = c.in-Whole.ensures.behind (received ++ c.args.piece.now) (c.in-Ok.ensures.behind received at.behind) in
     let final = final_in_piece laws.one laws.stood laws.whole received c.args.piece.now c.args.self.now c.read_on.new.self c.in-Whole.head c.in-Whole.used

@@ -16,7 +16,7 @@ pub returns-then-is_moved_often-clause-follows : goal.returns-then-is_moved_ofte
 returns-then-is_moved_often-clause-follows c parts used bytes read moved = λ faults.
     let self = c.args.self.now in
     let s = read.sent in
-    let leads = moved_leads parts used self.course self.room.inbox bytes c.final_head_laws.ensures.stays c.args.head.now read moved in
+    let leads = moved_leads parts used self.course self.room.inbox bytes c.final_heads_are_one_and_stay.ensures.stays c.args.head.now read moved in
     let often = asked_in (plan_now self.course) s.part s.others s.url s.count s.status _ s.asks c.is_moved_often.ensures.value in
     let is : nat_le redirect_limit s.count ≡ true = sym often ∙ c.if-is_moved_often.true in
     let P : Plan → Type 0 = λ plan. CarriesOn (plan_of parts) used bytes plan in
@@ -27,7 +27,7 @@ pub returns-in-Ok-Some-clause-follows : goal.returns-in-Ok-Some-clause-follows
 returns-in-Ok-Some-clause-follows c parts used bytes read moved =
     let self = c.args.self.now in
     let s = read.sent in
-    let leads = moved_leads parts used self.course self.room.inbox bytes c.final_head_laws.ensures.stays c.args.head.now read moved in
+    let leads = moved_leads parts used self.course self.room.inbox bytes c.final_heads_are_one_and_stay.ensures.stays c.args.head.now read moved in
     let often = asked_in (plan_now self.course) s.part s.others s.url s.count s.status _ s.asks c.is_moved_often.ensures.value in
     let is : nat_le redirect_limit s.count ≡ false = sym often ∙ c.if-is_moved_often.false in
     let followed = asked_in (plan_now self.course) s.part s.others s.url s.count s.status _ s.asks c.follow.ensures in
@@ -46,7 +46,7 @@ pub returns-in-Ok-None-clause-follows : goal.returns-in-Ok-None-clause-follows
 returns-in-Ok-None-clause-follows c parts used bytes read moved = λ faults.
     let self = c.args.self.now in
     let s = read.sent in
-    let leads = moved_leads parts used self.course self.room.inbox bytes c.final_head_laws.ensures.stays c.args.head.now read moved in
+    let leads = moved_leads parts used self.course self.room.inbox bytes c.final_heads_are_one_and_stay.ensures.stays c.args.head.now read moved in
     let often = asked_in (plan_now self.course) s.part s.others s.url s.count s.status _ s.asks c.is_moved_often.ensures.value in
     let is : nat_le redirect_limit s.count ≡ false = sym often ∙ c.if-is_moved_often.false in
     let url = asked_in (plan_now self.course) s.part s.others s.url s.count s.status _ s.asks c.url.ensures in

@@ -28,7 +28,7 @@ returns-clause-reads g c told parts before used bytes is gains =
     let chain_is = so_far.2.chain_is in
     let long = ap length so_far.1 in
     let parts_long = length-append c.args.out.now.items so_far.0 in
-    let brought = reading_brought c.answers_laws.ensures.grow c.final_head_laws.ensures.stays parts so_far.2.later c.turns.self.course (bytes ++ so_far.0) c.turns.self.stage c.turns.self.room.inbox
+    let brought = reading_brought c.streams_have_one_answer.ensures.grow c.final_heads_are_one_and_stay.ensures.stays parts so_far.2.later c.turns.self.course (bytes ++ so_far.0) c.turns.self.stage c.turns.self.room.inbox
     chain_is.reading chain_is.behind c.in_ok-check.ensures.due in (
       so_far.0,
       so_far.1,

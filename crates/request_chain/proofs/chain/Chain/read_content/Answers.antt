@@ -28,7 +28,7 @@ returns-in-Come-clause-reads c parts used bytes reading =
     let s = reading.sent in
     let read = c.in-Come.ensures.reads (asked_of s.part) s.newest.received reading.got reading.read in
     let turn : Turn = Given c.read.new.self.last in
-    let has = content_has c.answers_laws.ensures.stay parts used self.course self.room.inbox c.read.new.inbox bytes read.0 c.args.content c.read.new.self turn (λ is. cc) reading read.2 in
+    let has = content_has c.streams_have_one_answer.ensures.stay parts used self.course self.room.inbox c.read.new.inbox bytes read.0 c.args.content c.read.new.self turn (λ is. cc) reading read.2 in
     let come = asked_in (plan_now self.course) s.part s.others s.url s.count s.status _ s.asks c.come_to.ensures in
     let P : Plan → Type 0 = λ plan. CarriesOn (plan_of parts) used (bytes ++ read.0) plan in
     let Q : Stage → Type 0 = λ stage. IsReading stage c.come_to.new.self c.clear.new.self parts used (bytes ++ read.0) in
@@ -46,7 +46,7 @@ returns-in-Wrong-clause-reads c parts used bytes reading =
     let self = c.args.self.now in
     let s = reading.sent in
     let read = c.in-Wrong.ensures.reads (asked_of s.part) s.newest.received reading.got reading.read in
-    let has = content_has c.answers_laws.ensures.stay parts used self.course self.room.inbox c.read.new.inbox bytes read.0 c.args.content c.read.new.self (Lost BadReply) (λ is. cc) reading read.2 in
+    let has = content_has c.streams_have_one_answer.ensures.stay parts used self.course self.room.inbox c.read.new.inbox bytes read.0 c.args.content c.read.new.self (Lost BadReply) (λ is. cc) reading read.2 in
     (read.0, read.1, λ faults. answer_lost parts used self.course (bytes ++ read.0) BadReply has)
 
 pub returns-in-Over-clause-reads : goal.returns-in-Over-clause-reads
@@ -55,5 +55,5 @@ returns-in-Over-clause-reads c parts used bytes reading =
     let s = reading.sent in
     let read = c.in-Over.ensures.reads (asked_of s.part) s.newest.received reading.got reading.read in
     let loss = Short c.read.new.self.got in
-    let has = content_has c.answers_laws.ensures.stay parts used self.course self.room.inbox c.read.new.inbox bytes read.0 c.args.content c.read.new.self (Lost loss) (λ is. cc) reading read.2 in
+    let has = content_has c.streams_have_one_answer.ensures.stay parts used self.course self.room.inbox c.read.new.inbox bytes read.0 c.args.content c.read.new.self (Lost loss) (λ is. cc) reading read.2 in
     (read.0, read.1, λ faults. answer_lost parts used self.course (bytes ++ read.0) loss has)

@@ -8,7 +8,7 @@ pub returns-in-Whole-clause-reads : goal.returns-in-Whole-clause-reads
 returns-in-Whole-clause-reads c parts used bytes reading =
     let self = c.args.self.now in
     let whole = c.in-Whole.ensures.whole in
-    let read = head_whole parts used self.course self.room.inbox bytes c.final_head_laws.ensures.stood c.args.reader c.in-Whole.head c.in-Whole.used reading whole.0 (whole.2 reading.front reading.at) in
+    let read = head_whole parts used self.course self.room.inbox bytes c.final_heads_are_one_and_stay.ensures.stood c.args.reader c.in-Whole.head c.in-Whole.used reading whole.0 (whole.2 reading.front reading.at) in
     let P : List ℕ → Type 0 = λ waiting. HeadIsRead parts used self.course waiting bytes c.in-Whole.head in
     c.start.ensures.starts parts used bytes (subst P (sym whole.1) read)
 

@@ -20,7 +20,7 @@ returns-in_err-begun-clause-starts c parts used bytes read =
     let asked = asked_in (plan_now self.course) s.part s.others s.url s.count s.status _ s.asks c.asked-asked.ensures.asked in
     let lost = c.in_err-begun.ensures.lost in
     let P : Asked → Type 0 = λ a. (stream : List ℕ) (ended : Bool) → answer_by head a (verdict_of head a) stream ended ≡ without_bytes (Lost c.in_err-begun.field-0.0) in
-    rw (p.1, p.2) (head_loses parts used self.course self.room.inbox bytes c.final_head_laws.ensures.stays head read c.in_err-begun.field-0.0 lost.0 (subst P asked lost.1))
+    rw (p.1, p.2) (head_loses parts used self.course self.room.inbox bytes c.final_heads_are_one_and_stay.ensures.stays head read c.in_err-begun.field-0.0 lost.0 (subst P asked lost.1))
 
 pub returns-in-Some-clause-starts : goal.returns-in-Some-clause-starts
 returns-in-Some-clause-starts c parts used bytes read =

@@ -6,7 +6,7 @@ pub returns-clause-reads : goal.returns-clause-reads
 returns-clause-reads c = λ asked received got is.
     let slices = c.take-read.ensures in
     let front = c.front.ensures.front in
-    rw c.pass.ensures (read_more c.final_head_laws.ensures.stays c.final_head_laws.ensures.within asked received c.args.inbox.now got c.args.self.now _
+    rw c.pass.ensures (read_more c.final_heads_are_one_and_stay.ensures.stays c.final_heads_are_one_and_stay.ensures.within asked received c.args.inbox.now got c.args.self.now _
     c.front.result.now front.0 c.args.out.now.items c.take-read.new.out.items c.take-read.result.used c.take-read.result.state
     is front.1 slices.used refl slices.at slices.gained slices.more slices.come slices.wrong slices.over
     (λ added grown small.

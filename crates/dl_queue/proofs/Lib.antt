@@ -1,0 +1,4 @@
+mod Defaults
+mod Parts
+mod Numbers
+mod Ups

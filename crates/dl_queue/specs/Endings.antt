@@ -1,0 +1,15 @@
+-- The statuses of stopped downloads (aria2 manual, `aria2.tellStatus`).
+use Rattle.dl_kinds.specs.declared.status.Status.{Status}
+use Rattle.dl_kinds.specs.declared.status.Status.TheVariants as status
+use Rattle.dl_queue.specs.declared.kinds.Ending.{Ending}
+use Rattle.dl_queue.specs.declared.kinds.Ending.TheVariants.{Failed, Complete, Removed}
+
+abbrev pub ended_status : Ending → Status
+ended_status Failed = status.Failed
+ended_status Complete = status.Complete
+ended_status Removed = status.Removed
+
+abbrev pub ending_of : Status → Ending
+ending_of status.Complete = Complete
+ending_of status.Removed = Removed
+ending_of other = Failed

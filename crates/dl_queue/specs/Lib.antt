@@ -1,0 +1,6 @@
+pub mod Endings
+pub mod Lists
+pub mod Places
+pub mod Rising
+pub mod Calls
+pub mod Room

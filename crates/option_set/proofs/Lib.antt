@@ -1,0 +1,5 @@
+mod Decimals
+mod Defaults
+mod Limits
+mod Members
+mod Rows

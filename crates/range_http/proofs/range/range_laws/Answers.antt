@@ -1,5 +1,0 @@
-use Rattle.range_http.proofs.RangeLemmas.{number_exact, range_exact}
-use Rattle.range_http.proofs.range.range_laws.Goals as goal
-
-pub returns : goal.returns
-returns c = record { numbers = number_exact; ranges = range_exact }

@@ -1,0 +1,44 @@
+// Laws of the final head of a reply, and of what a reply gives of what was asked for.
+ghost use Rattle.reply_reader.specs.HeadLaws.{HasOneFinalHead, FinalHeadIsNotDue, FinalHeadIsThere, DueHeadMayCome, FinalHeadStays, NoFinalHeadStays, FrontIsDue, FinalHeadIsWithin, FinalHeadStoodBefore};
+ghost use Rattle.reply_reader.specs.Answers.{AnswersOnce, AnswersStay, AnswersGrow, AnswersFit};
+ghost use Rattle.reply_reader.specs.Fills.{AnswersFill};
+ghost use Rattle.reply_reader.specs.Slices.{SliceGoesOn};
+
+use body_frames::pieces_join;
+use range_http::{heads_are_one_and_stay, numbers_and_ranges_are_read};
+
+/// Laws of the final head of a reply, as far as its stream has come: a stream tells one thing, and what it tells stays.
+pub fn final_heads_are_one_and_stay()
+    ensures one { HasOneFinalHead }
+    ensures not_due { FinalHeadIsNotDue }
+    ensures there { FinalHeadIsThere }
+    ensures may_come { DueHeadMayCome }
+    ensures stays { FinalHeadStays }
+    ensures none_stays { NoFinalHeadStays }
+    ensures front { FrontIsDue }
+    ensures within { FinalHeadIsWithin }
+    ensures stood { FinalHeadStoodBefore }
+{
+    heads_are_one_and_stay();
+}
+
+/// Laws of what a stream answers, as far as it has come: it answers one thing, whose bytes stay, and no more than were
+/// asked for come. What is told stays, whatever follows.
+pub fn streams_have_one_answer()
+    ensures once { AnswersOnce }
+    ensures stay { AnswersStay }
+    ensures grow { AnswersGrow }
+    ensures fit { AnswersFit }
+    ensures slice { SliceGoesOn }
+{
+    final_heads_are_one_and_stay();
+    pieces_join();
+    numbers_and_ranges_are_read();
+}
+
+/// A law of what a stream answers: how much it gives of what was asked for.
+pub fn answers_fill_what_is_asked()
+    ensures fill { AnswersFill }
+{
+    numbers_and_ranges_are_read();
+}

@@ -1,0 +1,9 @@
+//! Worked cases of the options, of the queue and of digests.
+#![tactic(auto)]
+
+#[cfg(test)]
+mod digests;
+#[cfg(test)]
+mod options;
+#[cfg(test)]
+mod queues;

@@ -1,0 +1,11 @@
+pub mod Crosses
+pub mod Ends
+pub mod Goes
+pub mod Grows
+pub mod Orders
+pub mod Passing
+pub mod Places
+pub mod Serves
+pub mod Steps
+pub mod Sums
+pub mod Views

@@ -1,0 +1,10 @@
+pub mod Closes
+pub mod Laws
+pub mod MarkLaws
+pub mod Marks
+pub mod Passes
+pub mod Rule
+pub mod Sights
+pub mod Solo
+pub mod States
+pub mod Turns
