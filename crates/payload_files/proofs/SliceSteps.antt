@@ -82,7 +82,7 @@ module _ (dir : List ℕ) where
         record {
           others = λ name other. changes.others name (λ same. subst (λ (f : FileLen). name_of dir f.path ≢ name) (get_or_from_slice_get files part.file file file at_file) (other part.file file (slice_get_within files part.file file at_file)) (sym same));
           each = torn_each dir files part.file part.at n file old new at_file within changes.here one;
-        standing = λ has. one_stands dir files part.file file old new at_file one has (torn_file part.at n file.len (old (name_of dir file.path)) (new (name_of dir file.path)) within (has_file old has) changes.here).0;
+          standing = λ has. one_stands dir files part.file file old new at_file one has (torn_file part.at n file.len (old (name_of dir file.path)) (new (name_of dir file.path)) within (has_file old has) changes.here).0;
           outside = λ has. sides_in n old new within one has (torn_file part.at n file.len (old (name_of dir file.path)) (new (name_of dir file.path)) within (has_file old has) changes.here).1;
         }
 

@@ -27,12 +27,7 @@ fn fit_named<D: Disk>(disk: &mut D, name: &str, len: u64) -> Result<(), IoErr>
     disk.set_len(name, len)
 }
 
-fn fit_file<D: Disk>(
-    alloc: Global,
-    disk: &mut D,
-    dir: &str,
-    file: &FileLen,
-) -> Result<(), IoErr>
+fn fit_file<D: Disk>(alloc: Global, disk: &mut D, dir: &str, file: &FileLen) -> Result<(), IoErr>
     ensures resized { OnOk result (IsTrue D.tells
         → AreResized dir.now (file.now ∷ []) (D.state disk.old).seen (D.state disk.new).seen) }
     ensures performs { IsTrue D.tells
@@ -44,12 +39,7 @@ fn fit_file<D: Disk>(
     fit_named(disk, name.as_str(), file.len)
 }
 
-fn fit_each<D: Disk>(
-    alloc: Global,
-    disk: &mut D,
-    dir: &str,
-    files: &[FileLen],
-) -> Result<(), IoErr>
+fn fit_each<D: Disk>(alloc: Global, disk: &mut D, dir: &str, files: &[FileLen]) -> Result<(), IoErr>
     requires { IsLayout files.now }
     ensures resized { OnOk result (IsTrue D.tells
         → AreResized dir.now files.now (D.state disk.old).seen (D.state disk.new).seen) }

@@ -14,12 +14,7 @@ use dl_kinds::IoErr;
 use span_map::{FileLen, Layout};
 use std::alloc::Global;
 
-fn sync_file<D: Disk>(
-    alloc: Global,
-    disk: &mut D,
-    dir: &str,
-    file: &FileLen,
-) -> Result<(), IoErr>
+fn sync_file<D: Disk>(alloc: Global, disk: &mut D, dir: &str, file: &FileLen) -> Result<(), IoErr>
     ensures durable { OnOk result (IsTrue D.tells
         → IsDurable (name_of dir.now file.now.path) (D.state disk.new)) }
     ensures stays { IsTrue D.tells → Stays (D.state disk.old) (D.state disk.new) }
