@@ -4,5 +4,6 @@ pub mod Keeping
 pub mod Lengths
 pub mod ListEdits
 pub mod Places
+pub mod ReadSteps
 pub mod SliceSteps
 pub mod TornFiles

@@ -6,6 +6,7 @@ mod fitting;
 mod folders;
 mod laws;
 mod names;
+mod reading;
 mod syncing;
 mod writing;
 
@@ -13,6 +14,7 @@ pub use fitting::fit_files;
 pub use folders::make_folders;
 pub use laws::{files_fill, names_differ, same_files_hold};
 pub use names::file_name;
+pub use reading::read_slice;
 pub use std::alloc::AllocError as NoMemory;
 pub use syncing::sync_files;
 pub use writing::write_slice;
