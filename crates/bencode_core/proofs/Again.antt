@@ -22,20 +22,20 @@ digits_kind (d ∷ ds) rest are some =
     let digit = digit_is d are.0 in
     rw (begins_no_digit 105 (d ∷ []) [] refl (are.0, tt) (omega arith), begins_no_digit 108 (d ∷ []) [] refl (are.0, tt) (omega arith), begins_no_digit 100 (d ∷ []) [] refl (are.0, tt) (omega arith), digit) refl
 
-string_grouped : (s rest : List ℕ) → string_spelling s ++ rest ≡ decimal (length s) ++ 58 ∷ (s ++ rest)
+pub string_grouped : (s rest : List ℕ) → string_spelling s ++ rest ≡ decimal (length s) ++ 58 ∷ (s ++ rest)
 string_grouped s rest = simp append_assoc
 
-string_fits : (s : List ℕ) → length s ≤ length (string_spelling s)
+pub string_fits : (s : List ℕ) → length s ≤ length (string_spelling s)
 string_fits s = omega (arith, length-append (decimal (length s) ++ 58 ∷ []) s)
 
-string_kind : (s rest : List ℕ) → length s < 2 ^ 64 → kind_at (string_spelling s ++ rest) ≡ Some kinds.String
+pub string_kind : (s rest : List ℕ) → length s < 2 ^ 64 → kind_at (string_spelling s ++ rest) ≡ Some kinds.String
 string_kind s rest fits = let is = decimal_is_IsNumeral (length s) fits in rw (string_grouped s rest) (digits_kind (decimal (length s)) (58 ∷ (s ++ rest)) is.0.1 is.0.0)
 
-string_no_end : (s rest : List ℕ) → length s < 2 ^ 64 → begins 101 (string_spelling s ++ rest) ≡ false
+pub string_no_end : (s rest : List ℕ) → length s < 2 ^ 64 → begins 101 (string_spelling s ++ rest) ≡ false
 string_no_end s rest fits = let is = decimal_is_IsNumeral (length s) fits in rw (string_grouped s rest) (begins_no_digit 101 (decimal (length s)) (58 ∷ (s ++ rest)) refl is.0.1 is.0.0)
 
 -- no value begins with the "e" that ends a list
-no_end : (v : Value) (rest : List ℕ) → length (spelling v) < 2 ^ 64 → begins 101 (spelling v ++ rest) ≡ false
+pub no_end : (v : Value) (rest : List ℕ) → length (spelling v) < 2 ^ 64 → begins 101 (spelling v ++ rest) ≡ false
 no_end (integer z) rest fits = refl
 no_end (string s) rest fits = string_no_end s rest (omega (arith, string_fits s))
 no_end (list vs) rest fits = refl

@@ -13,11 +13,11 @@ use Rattle.bencode_core.proofs.Takes.{IsReader, values_take}
 use Rattle.bencode_core.proofs.Again.{spelling_some}
 use Rattle.bencode_core.proofs.Pushed.{spellings-push}
 
-abbrev append_values : Values → Values → Values
+abbrev pub append_values : Values → Values → Values
 append_values no_values ws = ws
 append_values (value v vs) ws = value v (append_values vs ws)
 
-append_values-none : (vs : Values) → append_values vs no_values ≡ vs
+pub append_values-none : (vs : Values) → append_values vs no_values ≡ vs
 append_values-none no_values = refl
 append_values-none (value v vs) = ap (value v) (append_values-none vs)
 
@@ -53,27 +53,27 @@ pub record ReadsItems (one : ℕ → List ℕ → Result Value BenErr) (place : 
   pub so_far : next ≡ place + 1 + length (spellings (values_in items))
   pub ends : next + length rest ≡ place + length bytes
 
-with_values-none : (read : Result Values BenErr) → with_values no_values read ≡ read
+pub with_values-none : (read : Result Values BenErr) → with_values no_values read ≡ read
 with_values-none (Ok vs) = refl
 with_values-none (Err e) = refl
 
-one_more_read : (one : ℕ → List ℕ → Result Value BenErr) (turns next : ℕ) (rest : List ℕ) (v : Value) → begins 101 rest ≡ false → one next rest ≡ Ok v → values_by one (suc turns) next rest ≡ (values_by one turns (next + length (spelling v)) (drop (length (spelling v)) rest) >>= λ vs. Ok (value v vs))
+pub one_more_read : (one : ℕ → List ℕ → Result Value BenErr) (turns next : ℕ) (rest : List ℕ) (v : Value) → begins 101 rest ≡ false → one next rest ≡ Ok v → values_by one (suc turns) next rest ≡ (values_by one turns (next + length (spelling v)) (drop (length (spelling v)) rest) >>= λ vs. Ok (value v vs))
 unfolding values_by
 one_more_read one turns next rest v more read = rw (more, read) refl
 
-one_failed : (one : ℕ → List ℕ → Result Value BenErr) (turns next : ℕ) (rest : List ℕ) (e : BenErr) → begins 101 rest ≡ false → one next rest ≡ Err e → values_by one (suc turns) next rest ≡ Err e
+pub one_failed : (one : ℕ → List ℕ → Result Value BenErr) (turns next : ℕ) (rest : List ℕ) (e : BenErr) → begins 101 rest ≡ false → one next rest ≡ Err e → values_by one (suc turns) next rest ≡ Err e
 unfolding values_by
 one_failed one turns next rest e more failed = rw (more, failed) refl
 
-none_left : (one : ℕ → List ℕ → Result Value BenErr) (turns next : ℕ) (rest : List ℕ) → begins 101 rest ≡ true → values_by one (suc turns) next rest ≡ Ok no_values
+pub none_left : (one : ℕ → List ℕ → Result Value BenErr) (turns next : ℕ) (rest : List ℕ) → begins 101 rest ≡ true → values_by one (suc turns) next rest ≡ Ok no_values
 unfolding values_by
 none_left one turns next rest end = rw end refl
 
-list_failed : (one : ℕ → List ℕ → Result Value BenErr) (place : ℕ) (bytes : List ℕ) (f : BenErr) → values_by one (length bytes) (place + 1) (drop 1 bytes) ≡ Err f → list_value one place bytes ≡ Err f
+pub list_failed : (one : ℕ → List ℕ → Result Value BenErr) (place : ℕ) (bytes : List ℕ) (f : BenErr) → values_by one (length bytes) (place + 1) (drop 1 bytes) ≡ Err f → list_value one place bytes ≡ Err f
 unfolding list_value
 list_failed one place bytes f is = rw is refl
 
-list_read : (one : ℕ → List ℕ → Result Value BenErr) (place : ℕ) (bytes : List ℕ) (vs : Values) → values_by one (length bytes) (place + 1) (drop 1 bytes) ≡ Ok vs → list_value one place bytes ≡ Ok (list vs)
+pub list_read : (one : ℕ → List ℕ → Result Value BenErr) (place : ℕ) (bytes : List ℕ) (vs : Values) → values_by one (length bytes) (place + 1) (drop 1 bytes) ≡ Ok vs → list_value one place bytes ≡ Ok (list vs)
 unfolding list_value
 list_read one place bytes vs is = rw is refl
 

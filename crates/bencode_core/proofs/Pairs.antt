@@ -27,11 +27,11 @@ last_key-push ms m =
 
 -- ---- members behind members
 
-abbrev append_members : Members → Members → Members
+abbrev pub append_members : Members → Members → Members
 append_members no_members ns = ns
 append_members (member key v ms) ns = member key v (append_members ms ns)
 
-append_members-none : (ms : Members) → append_members ms no_members ≡ ms
+pub append_members-none : (ms : Members) → append_members ms no_members ≡ ms
 append_members-none no_members = refl
 append_members-none (member key v ms) = ap (member key v) (append_members-none ms)
 
@@ -60,29 +60,29 @@ with_members-push : (ms : List Member) (m : Member) (read : Result Members BenEr
 with_members-push ms m (Ok ns) = ap (λ (ks : Members). Ok ks) (sym (append_members-push ms m ns))
 with_members-push ms m (Err e) = refl
 
-with_members-none : (read : Result Members BenErr) → with_members no_members read ≡ read
+pub with_members-none : (read : Result Members BenErr) → with_members no_members read ≡ read
 with_members-none (Ok ms) = refl
 with_members-none (Err e) = refl
 
 -- ---- one step
 
-one_more_read : (one : ℕ → List ℕ → Result Value BenErr) (turns : ℕ) (before : Option (List ℕ)) (next : ℕ) (rest : List ℕ) (m : List ℕ × Value) → begins 101 rest ≡ false → member_by one before next rest ≡ Ok m → members_by one (suc turns) before next rest ≡ (members_by one turns (Some m.0) (next + length (member_spelling m)) (drop (length (member_spelling m)) rest) >>= λ ms. Ok (member m.0 m.1 ms))
+pub one_more_read : (one : ℕ → List ℕ → Result Value BenErr) (turns : ℕ) (before : Option (List ℕ)) (next : ℕ) (rest : List ℕ) (m : List ℕ × Value) → begins 101 rest ≡ false → member_by one before next rest ≡ Ok m → members_by one (suc turns) before next rest ≡ (members_by one turns (Some m.0) (next + length (member_spelling m)) (drop (length (member_spelling m)) rest) >>= λ ms. Ok (member m.0 m.1 ms))
 unfolding members_by
 one_more_read one turns before next rest m more read = rw (more, read) refl
 
-one_failed : (one : ℕ → List ℕ → Result Value BenErr) (turns : ℕ) (before : Option (List ℕ)) (next : ℕ) (rest : List ℕ) (e : BenErr) → begins 101 rest ≡ false → member_by one before next rest ≡ Err e → members_by one (suc turns) before next rest ≡ Err e
+pub one_failed : (one : ℕ → List ℕ → Result Value BenErr) (turns : ℕ) (before : Option (List ℕ)) (next : ℕ) (rest : List ℕ) (e : BenErr) → begins 101 rest ≡ false → member_by one before next rest ≡ Err e → members_by one (suc turns) before next rest ≡ Err e
 unfolding members_by
 one_failed one turns before next rest e more failed = rw (more, failed) refl
 
-none_left : (one : ℕ → List ℕ → Result Value BenErr) (turns : ℕ) (before : Option (List ℕ)) (next : ℕ) (rest : List ℕ) → begins 101 rest ≡ true → members_by one (suc turns) before next rest ≡ Ok no_members
+pub none_left : (one : ℕ → List ℕ → Result Value BenErr) (turns : ℕ) (before : Option (List ℕ)) (next : ℕ) (rest : List ℕ) → begins 101 rest ≡ true → members_by one (suc turns) before next rest ≡ Ok no_members
 unfolding members_by
 none_left one turns before next rest end = rw end refl
 
-dict_failed : (one : ℕ → List ℕ → Result Value BenErr) (place : ℕ) (bytes : List ℕ) (f : BenErr) → members_by one (length bytes) None (place + 1) (drop 1 bytes) ≡ Err f → dict_value one place bytes ≡ Err f
+pub dict_failed : (one : ℕ → List ℕ → Result Value BenErr) (place : ℕ) (bytes : List ℕ) (f : BenErr) → members_by one (length bytes) None (place + 1) (drop 1 bytes) ≡ Err f → dict_value one place bytes ≡ Err f
 unfolding dict_value
 dict_failed one place bytes f is = rw is refl
 
-dict_read : (one : ℕ → List ℕ → Result Value BenErr) (place : ℕ) (bytes : List ℕ) (ms : Members) → members_by one (length bytes) None (place + 1) (drop 1 bytes) ≡ Ok ms → dict_value one place bytes ≡ Ok (dict ms)
+pub dict_read : (one : ℕ → List ℕ → Result Value BenErr) (place : ℕ) (bytes : List ℕ) (ms : Members) → members_by one (length bytes) None (place + 1) (drop 1 bytes) ≡ Ok ms → dict_value one place bytes ≡ Ok (dict ms)
 unfolding dict_value
 dict_read one place bytes ms is = rw is refl
 

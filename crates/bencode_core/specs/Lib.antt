@@ -4,3 +4,5 @@ pub mod Code
 pub mod Node
 pub mod Falls
 pub mod Reading
+pub mod Passing
+pub mod Slice

@@ -2,14 +2,17 @@
 #![tactic(auto)]
 
 mod ben;
+mod checking;
 mod fault;
 mod laws;
 mod reading;
 mod scalars;
 mod search;
+mod slice;
 mod writing;
 
 pub use ben::{Ben, BenKind, Member};
 pub use fault::BenErr;
 pub use laws::{no_spelling_begins_another, one_spelling, reads_what_is_spelled};
 pub use reading::MAX_DEPTH;
+pub use slice::BenSlice;

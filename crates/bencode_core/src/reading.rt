@@ -1,9 +1,10 @@
 // Bytes as values.
-ghost use Rattle.std.specs.Prelude.{◌≡◌, ℕ, List, ◌++◌, Option, Some, ◌+◌, ◌^◌, ◌<◌, ◌≤◌, length, drop, IfOk, option_map};
+ghost use Rattle.std.specs.Prelude.{◌≡◌, ℕ, List, ◌++◌, Option, Some, ◌+◌, ◌^◌, ◌<◌, ◌≤◌, length, drop, IfOk, IfErr, option_map};
 ghost use Rattle.dl_words.specs.Answers.{Gives};
 ghost use Rattle.bencode_core.specs.Value.{spelling, string_spelling};
 ghost use Rattle.bencode_core.specs.Node.{last_key};
 ghost use Rattle.bencode_core.specs.declared.ben.Member.{Member};
+ghost use Rattle.bencode_core.specs.Passing.{IsFault};
 ghost use Rattle.bencode_core.specs.Reading as specs;
 
 use crate::ben::{Ben, BenKind, Member, Node};
@@ -15,7 +16,7 @@ use std::alloc::Global;
 pub const MAX_DEPTH: u32 = 100;
 
 /// What the first byte begins.
-fn kind_at(bytes: &[u8]) -> Option<BenKind>
+pub(crate) fn kind_at(bytes: &[u8]) -> Option<BenKind>
     ensures { result ≡ specs.kind_at bytes.now }
 {
     match *bytes.first()? {
@@ -28,7 +29,7 @@ fn kind_at(bytes: &[u8]) -> Option<BenKind>
 }
 
 /// Whether a value is spelled at the front, as far as that can be told without reading its parts.
-fn is_spelled(bytes: &[u8]) -> bool
+pub(crate) fn is_spelled(bytes: &[u8]) -> bool
     requires { length bytes.now < 2 ^ 32 }
     ensures { result ≡ specs.is_spelled bytes.now (specs.kind_at bytes.now) }
 {
@@ -79,7 +80,7 @@ fn string_value(alloc: Global, place: u32, bytes: &[u8]) -> Result<Ben, BenErr>
 
 /// A key that stands behind the one before it, and the bytes behind the key.
 #[tactic(auto, unfolding(crate::specs::Reading::key_at))]
-fn key_at<'a>(
+pub(crate) fn key_at<'a>(
     before: Option<&[u8]>,
     place: u32,
     bytes: &'a [u8],
@@ -88,6 +89,7 @@ fn key_at<'a>(
     ensures exact { Gives (λ k. k.0.now) specs.fault_of result
         (specs.key_at (option_map (λ k. k.now) before.entry) place bytes.now) }
     ensures rest { IfOk result (λ k. bytes.now ≡ string_spelling k.0.now ++ k.1.now) }
+    ensures fault { IfErr result IsFault }
 {
     let Some((key, rest)) = string_at(bytes) else {
         return Err(BenErr::Wrong { at: place });
@@ -99,7 +101,7 @@ fn key_at<'a>(
 }
 
 /// The bytes behind so many.
-fn behind(len: u32, bytes: &[u8]) -> &[u8]
+pub(crate) fn behind(len: u32, bytes: &[u8]) -> &[u8]
     requires { len ≤ length bytes.now }
     ensures { result.now ≡ drop len bytes.now }
 {
