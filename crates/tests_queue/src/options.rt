@@ -111,12 +111,40 @@ fn values_are_read_and_shown(rt: HostRuntime) -> Result<(), Fail> {
 #[test]
 fn empty_values_are_wrong(rt: HostRuntime) -> Result<(), Fail> {
     let alloc = rt.alloc();
-    for name in ["split", "min-split-size", "pause", "dir", "out", "checksum", "gid", "select-file", "rpc-secret"] {
+    for name in [
+        "split",
+        "min-split-size",
+        "pause",
+        "dir",
+        "out",
+        "checksum",
+        "gid",
+        "select-file",
+        "rpc-secret",
+    ] {
         let answer = answered(alloc, name, "")?;
         assert_eq!(rt; answer.as_str(), "bad", "{name}");
     }
     let nul = answered(alloc, "dir", "a\0b")?;
     assert_eq!(rt; nul.as_str(), "bad");
+    Ok(())
+}
+
+#[test]
+fn long_lists_of_files_are_read(rt: HostRuntime) -> Result<(), Fail> {
+    let alloc = rt.alloc();
+    let mut list = String::new(alloc);
+    for _ in 0..99_999 {
+        list.push_str("7,")?;
+    }
+    let cut = answered(alloc, "select-file", list.as_str())?;
+    assert_eq!(rt; cut.as_str(), "bad");
+    list.push_str("1-1048576")?;
+    let whole = answered(alloc, "select-file", list.as_str())?;
+    assert_eq!(rt; whole.as_str().strip_prefix("= "), Some(list.as_str()));
+    list.push_str("x")?;
+    let wrong = answered(alloc, "select-file", list.as_str())?;
+    assert_eq!(rt; wrong.as_str(), "bad");
     Ok(())
 }
 
