@@ -12,7 +12,7 @@ use Rattle.dl_queue.specs.declared.kinds.TheConstants.{MAX_DOWNLOADS}
 use Rattle.dl_queue.specs.declared.kinds.How.{How}
 use Rattle.dl_queue.specs.declared.kinds.How.TheVariants.{Set, Cur, End}
 use Rattle.dl_queue.specs.declared.kinds.Ending.{Ending}
-use Rattle.dl_queue.specs.Endings.{ending_of}
+use Rattle.dl_queue.specs.Endings.{ending_by_status}
 use Rattle.dl_queue.specs.declared.kinds.Queued.{Queued}
 use Rattle.dl_queue.specs.declared.kinds.Added.{Added}
 use Rattle.dl_queue.specs.declared.kinds.QueueErr.{QueueErr}
@@ -158,10 +158,10 @@ effect queue PauseAll = record queue {
   waiting = map aside queue.active ++ map (as_paused true) queue.waiting;
 }
 effect queue UnpauseAll = record queue { waiting = map (as_paused false) queue.waiting }
-effect queue (Remove gid) = stopped_from (status_of queue gid) gid (ending_of Removed) queue
+effect queue (Remove gid) = stopped_from (status_of queue gid) gid (ending_by_status Removed) queue
 effect queue (ChangePosition gid position how) =
     record queue { waiting = with_place queue.waiting gid (target_of queue.waiting gid position how) }
-effect queue (Stop gid status) = stopped_from (status_of queue gid) gid (ending_of status) queue
+effect queue (Stop gid status) = stopped_from (status_of queue gid) gid (ending_by_status status) queue
 effect queue (Forget gid) = record queue { stopped = remove queue.stopped (stopped_place gid queue.stopped) }
 effect queue Purge = record queue { stopped = [] }
 
@@ -195,6 +195,6 @@ Finds queue key (Err (Ambiguous count)) = (count_named queue key ≡ count) × (
 Finds queue key (Err other) = ⊥
 
 -- what a call answers
-abbrev pub answer_of : {T : Type 0} → Option QueueErr → T → Result T QueueErr
-answer_of None value = Ok value
-answer_of (Some refused) value = Err refused
+abbrev pub queue_answer : {T : Type 0} → Option QueueErr → T → Result T QueueErr
+queue_answer None value = Ok value
+queue_answer (Some refused) value = Err refused

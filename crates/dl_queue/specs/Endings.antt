@@ -9,7 +9,7 @@ ended_status Failed = status.Failed
 ended_status Complete = status.Complete
 ended_status Removed = status.Removed
 
-abbrev pub ending_of : Status → Ending
-ending_of status.Complete = Complete
-ending_of status.Removed = Removed
-ending_of other = Failed
+abbrev pub ending_by_status : Status → Ending
+ending_by_status status.Complete = Complete
+ending_by_status status.Removed = Removed
+ending_by_status other = Failed

@@ -1,7 +1,7 @@
 // What stands in the lists of a queue, and why a call is refused.
 ghost use Rattle.std.specs.Prelude.{◌≡◌};
 ghost use Rattle.dl_queue.specs.declared.kinds.QueueErr.TheVariants.{NoMemory};
-ghost use Rattle.dl_queue.specs.Endings.{ended_status, ending_of};
+ghost use Rattle.dl_queue.specs.Endings.{ended_status, ending_by_status};
 
 use dl_kinds::{Gid, Status};
 use option_set::Options;
@@ -47,8 +47,8 @@ impl Stopped {
 }
 
 /// How a download stops that gets this status; one of those that aren't of stopped downloads counts as `Failed`.
-pub(crate) fn ending_of(status: Status) -> Ending
-    ensures { result ≡ ending_of status }
+pub(crate) fn ending_by_status(status: Status) -> Ending
+    ensures { result ≡ ending_by_status status }
 {
     match status {
         Status::Complete => Ending::Complete,

@@ -5,9 +5,9 @@ ghost use Rattle.dl_kinds.specs.declared.status.Status.TheVariants.{Active};
 ghost use Rattle.dl_queue.specs.declared.kinds.QueueErr.TheVariants.{NotFound, NoMemory};
 ghost use Rattle.dl_queue.specs.Places.{status_of, active_place, queued_place, stopped_place, StandsAmong};
 ghost use Rattle.dl_queue.specs.Rising.{moved_up};
-ghost use Rattle.dl_queue.specs.Calls.{QueueCall, refusal, effect, after, answer_of, has_stopped, stopped_from, paused_from, with_pause, target_of, options_in, Finds};
+ghost use Rattle.dl_queue.specs.Calls.{QueueCall, refusal, effect, after, queue_answer, has_stopped, stopped_from, paused_from, with_pause, target_of, options_in, Finds};
 
-use crate::kinds::ending_of;
+use crate::kinds::ending_by_status;
 use crate::named::{named_active, named_queued, named_stopped};
 use crate::places::{active_place, queued_place, stopped_place, target};
 use crate::rising::{insert, move_up, set_all_paused, set_aside, set_paused};
@@ -140,7 +140,7 @@ impl Queue {
     /// Pauses a download: an active one goes to the front of the waiting ones, a waiting one stays in its place. WrongStatus
     /// comes in any other status.
     pub fn pause(&mut self, gid: Gid) -> Result<(), QueueErr>
-        ensures answer { result ≡ answer_of (refusal self.old (QueueCall.Pause gid)) tt }
+        ensures answer { result ≡ queue_answer (refusal self.old (QueueCall.Pause gid)) tt }
         ensures state { self.new ≡ after self.old (QueueCall.Pause gid) }
     {
         match self.status(gid)? {
@@ -153,7 +153,7 @@ impl Queue {
 
     /// Lets a paused download wait again, in its place. WrongStatus comes in any other status.
     pub fn unpause(&mut self, gid: Gid) -> Result<(), QueueErr>
-        ensures answer { result ≡ answer_of (refusal self.old (QueueCall.Unpause gid)) tt }
+        ensures answer { result ≡ queue_answer (refusal self.old (QueueCall.Unpause gid)) tt }
         ensures state { self.new ≡ after self.old (QueueCall.Unpause gid) }
     {
         match self.status(gid)? {
@@ -203,12 +203,12 @@ impl Queue {
     /// Stops a download with one of the statuses of stopped ones. WrongStatus comes where it has stopped.
     pub fn stop(&mut self, gid: Gid, status: Status) -> Result<(), QueueErr>
         requires { IsTrue (has_stopped status) }
-        ensures answer { result ≡ answer_of (refusal self.old (QueueCall.Stop gid status)) tt }
+        ensures answer { result ≡ queue_answer (refusal self.old (QueueCall.Stop gid status)) tt }
         ensures state { self.new ≡ after self.old (QueueCall.Stop gid status) }
     {
         match self.status(gid)? {
-            Status::Active => self.stop_active(gid, ending_of(status)),
-            Status::Waiting | Status::Paused => self.stop_queued(gid, ending_of(status)),
+            Status::Active => self.stop_active(gid, ending_by_status(status)),
+            Status::Waiting | Status::Paused => self.stop_queued(gid, ending_by_status(status)),
             stopped => return Err(QueueErr::WrongStatus(stopped)),
         }
         Ok(())
@@ -216,7 +216,7 @@ impl Queue {
 
     /// Removes a download: it stops as removed. WrongStatus comes where it has stopped.
     pub fn remove(&mut self, gid: Gid) -> Result<(), QueueErr>
-        ensures answer { result ≡ answer_of (refusal self.old (QueueCall.Remove gid)) tt }
+        ensures answer { result ≡ queue_answer (refusal self.old (QueueCall.Remove gid)) tt }
         ensures state { self.new ≡ after self.old (QueueCall.Remove gid) }
     {
         self.stop(gid, Status::Removed)
@@ -233,7 +233,7 @@ impl Queue {
 
     /// Takes a stopped download out of the lists. WrongStatus comes where it hasn't stopped.
     pub fn forget(&mut self, gid: Gid) -> Result<(), QueueErr>
-        ensures answer { result ≡ answer_of (refusal self.old (QueueCall.Forget gid)) tt }
+        ensures answer { result ≡ queue_answer (refusal self.old (QueueCall.Forget gid)) tt }
         ensures state { self.new ≡ after self.old (QueueCall.Forget gid) }
     {
         match self.status(gid)? {
@@ -270,7 +270,8 @@ impl Queue {
     /// from 0. A place before the first is the first one, and one behind the last is the last one. WrongStatus comes in any
     /// other status.
     pub fn change_position(&mut self, gid: Gid, pos: i64, how: How) -> Result<u32, QueueErr>
-        ensures answer { result ≡ answer_of (refusal self.old (QueueCall.ChangePosition gid pos how))
+        ensures answer { result ≡ queue_answer
+            (refusal self.old (QueueCall.ChangePosition gid pos how))
             (target_of self.old.waiting gid pos how) }
         ensures state { self.new ≡ after self.old (QueueCall.ChangePosition gid pos how) }
     {

@@ -4,14 +4,14 @@ use Rattle.std.specs.List.{AllWithin, HoldsAt}
 use Rattle.std.proofs.lemmas.List.Elements.{AllWithin-from_all}
 use Rattle.std.specs.Option.{option_map}
 use Rattle.option_set.specs.Numbers.{decimal_value, saturated}
-use Rattle.option_set.specs.Files.{IsMember, IsFileList, NamesFiles, members_of, first_text, last_text}
+use Rattle.option_set.specs.Files.{IsMember, IsFileList, NamesFiles, file_members, first_text, last_text}
 use Rattle.option_set.specs.declared.files.TheConstants.{MAX_FILES}
 use Rattle.option_set.proofs.Decimals.{spelled, small, same, unspelled}
 
 -- all members name files, or some member doesn't
 pub all_or_some : (text : List ℕ) (result : Bool)
-    → MatchBool result (AllWithin IsMember (members_of text) 0 (length (members_of text)))
-    ((k : ℕ) × (k < length (members_of text)) × HoldsAt (λ (m : List ℕ). IsMember m → ⊥) (members_of text) k)
+    → MatchBool result (AllWithin IsMember (file_members text) 0 (length (file_members text)))
+    ((k : ℕ) × (k < length (file_members text)) × HoldsAt (λ (m : List ℕ). IsMember m → ⊥) (file_members text) k)
     → IsTrue result ↔ IsFileList text
 all_or_some text true all = (λ _ k d within. all k d (omega arith) within, λ _. refl)
-all_or_some text false some = (λ e. cc, λ all. absurd (some.2 (get_or (members_of text) some.0 text) (all some.0 _ some.1)))
+all_or_some text false some = (λ e. cc, λ all. absurd (some.2 (get_or (file_members text) some.0 text) (all some.0 _ some.1)))

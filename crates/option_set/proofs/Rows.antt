@@ -5,7 +5,7 @@ use Rattle.option_set.specs.declared.kinds.Num.TheVariants.{AutoSaveInterval, Ch
 use Rattle.option_set.specs.declared.kinds.Word.TheVariants as word
 use Rattle.option_set.specs.declared.kinds.Opt.{Opt}
 use Rattle.option_set.specs.declared.kinds.Opt.TheVariants as opt
-use Rattle.option_set.specs.Table.{row_of, row_of_number, all_options}
+use Rattle.option_set.specs.Table.{table_row, row_of_number, all_options}
 
 -- every limit is below 2^32
 pub most_small : (num : Num) → (row_of_number num).most < 2 ^ 32
@@ -54,10 +54,10 @@ stands (opt.Num Split) = record { place = 19; within = lit< tt; there = refl }
 
 -- where none of the options has a name, no option has it
 pub unnamed : (name : List ℕ) (tried : ℕ) → 20 ≤ tried
-    → ((k : ℕ) → k < tried → (row_of (get_or all_options k (opt.Num AutoSaveInterval))).name ≢ name)
-    → (option : Opt) → (row_of option).name ≢ name
+    → ((k : ℕ) → k < tried → (table_row (get_or all_options k (opt.Num AutoSaveInterval))).name ≢ name)
+    → (option : Opt) → (table_row option).name ≢ name
 unnamed name tried all none option =
     let at = stands option in
-    let other : (row_of (get_or all_options at.place (opt.Num AutoSaveInterval))).name ≢ name =
+    let other : (table_row (get_or all_options at.place (opt.Num AutoSaveInterval))).name ≢ name =
     none at.place (omega (arith, at.within)) in
-    subst (λ (o : Opt). (row_of o).name ≢ name) at.there other
+    subst (λ (o : Opt). (table_row o).name ≢ name) at.there other

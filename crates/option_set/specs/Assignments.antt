@@ -7,7 +7,7 @@ use Rattle.option_set.specs.declared.setting.Assigned.{Assigned}
 use Rattle.option_set.specs.declared.setting.Assigned.TheVariants.{Number, Text}
 use Rattle.option_set.specs.declared.setting.OptErr.{OptErr}
 use Rattle.option_set.specs.declared.setting.OptErr.TheVariants.{Unknown, BadValue, OutOfRange, NoMemory}
-use Rattle.option_set.specs.Table.{row_of, row_of_number, row_of_text}
+use Rattle.option_set.specs.Table.{table_row, row_of_number, row_of_text}
 use Rattle.option_set.specs.Numbers.{number_value}
 use Rattle.option_set.specs.Settings.{IsWithinLimits, MeetsRule}
 
@@ -28,7 +28,7 @@ Assigns value (Text word text) = text ≡ value
 
 -- this name and this value make this setting
 pub record IsSettingOf (name value : List ℕ) (assigned : Assigned) : Type 0 where
-  pub name_is : (row_of (option_of assigned)).name ≡ name
+  pub name_is : (table_row (option_of assigned)).name ≡ name
   pub value_is : Assigns value assigned
   pub assignable : IsAssignable assigned
 

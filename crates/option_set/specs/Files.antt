@@ -27,11 +27,11 @@ pub record NamesFiles (member : List ℕ) (first last : ℕ) : Type 0 where
 abbrev pub IsMember : List ℕ → Type 0
 IsMember member = (first : ℕ) × (last : ℕ) × NamesFiles member first last
 
-abbrev pub members_of : List ℕ → List (List ℕ)
-members_of text = slice_split (λ byte. byte == 44) text
+abbrev pub file_members : List ℕ → List (List ℕ)
+file_members text = slice_split (λ byte. byte == 44) text
 
 abbrev pub IsFileList : List ℕ → Type 0
-IsFileList text = All IsMember (members_of text)
+IsFileList text = All IsMember (file_members text)
 
 -- the ranges are those that the members name, in order
 abbrev pub AreRanges : List (List ℕ) → List FileRange → Type 0

@@ -24,9 +24,9 @@ shown_number_row row = record {
   most = row.most;
 }
 
-abbrev pub text_of : Option (Bor (List ℕ)) → Option (List ℕ)
-text_of None = None
-text_of (Some text) = Some text.now
+abbrev pub text_default : Option (Bor (List ℕ)) → Option (List ℕ)
+text_default None = None
+text_default (Some text) = Some text.now
 
 abbrev pub shown_text_row : WordRow → TextRow
-shown_text_row row = record { option = shown_row row.option; rule = row.rule; default = text_of row.default }
+shown_text_row row = record { option = shown_row row.option; rule = row.rule; default = text_default row.default }

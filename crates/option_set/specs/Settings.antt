@@ -9,7 +9,7 @@ use Rattle.option_set.specs.declared.kinds.Opt.{Opt}
 use Rattle.option_set.specs.declared.kinds.Opt.TheVariants as opt
 use Rattle.option_set.specs.declared.kinds.Rule.{Rule}
 use Rattle.option_set.specs.declared.kinds.Rule.TheVariants as rule
-use Rattle.option_set.specs.Table.{row_of, row_of_number, row_of_text}
+use Rattle.option_set.specs.Table.{table_row, row_of_number, row_of_text}
 use Rattle.option_set.specs.Numbers.{number_value}
 use Rattle.option_set.specs.Files.{IsFileList}
 

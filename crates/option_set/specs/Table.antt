@@ -83,9 +83,9 @@ row_of_text word.Out = text_row (codes "out") (Some 111) rule.FilePart None Down
 row_of_text word.RpcSecret = text_row (codes "rpc-secret") None rule.Filled None Global Never GlobalValue
 row_of_text word.SelectFile = text_row (codes "select-file") None rule.FileList None Download Never OwnCall
 
-abbrev pub row_of : Opt → OptionRow
-row_of (opt.Num number) = (row_of_number number).option
-row_of (opt.Word text) = (row_of_text text).option
+abbrev pub table_row : Opt → OptionRow
+table_row (opt.Num number) = (row_of_number number).option
+table_row (opt.Word text) = (row_of_text text).option
 
 -- the options in the ascending order of their names
 abbrev pub all_options : List Opt

@@ -13,7 +13,7 @@ use Rattle.option_set.specs.declared.kinds.Scope.{Scope}
 use Rattle.option_set.specs.declared.kinds.Scope.TheVariants.{Download, Global}
 use Rattle.option_set.specs.declared.setting.Assigned.{Assigned}
 use Rattle.option_set.specs.declared.setting.Assigned.TheVariants.{Number, Text}
-use Rattle.option_set.specs.Table.{row_of, row_of_number, row_of_text, all_options}
+use Rattle.option_set.specs.Table.{table_row, row_of_number, row_of_text, all_options}
 use Rattle.option_set.specs.Settings.{IsWithinLimits, MeetsRule}
 
 -- what contracts see: the numbers and the texts, each in the order in which the options of its kind are declared
@@ -99,18 +99,18 @@ is_of_downloads Global = false
 
 -- aria2.getOption shows the options of downloads, aria2.getGlobalOption all but `rpc-secret`
 abbrev pub is_shown : Scope → Opt → Bool
-is_shown Download option = is_of_downloads (row_of option).scope
+is_shown Download option = is_of_downloads (table_row option).scope
 is_shown Global (opt.Word word.RpcSecret) = false
 is_shown Global option = true
 
-abbrev pub pairs_of : List ℕ → Option (List ℕ) → List (List ℕ × List ℕ)
-pairs_of name None = []
-pairs_of name (Some text) = (name, text) ∷ []
+abbrev pub named_value : List ℕ → Option (List ℕ) → List (List ℕ × List ℕ)
+named_value name None = []
+named_value name (Some text) = (name, text) ∷ []
 
 -- the name and the value of an option that is shown and has a value
 abbrev pub shown_pairs : OptionValues → Scope → Opt → List (List ℕ × List ℕ)
 shown_pairs values scope option =
-    if is_shown scope option then pairs_of (row_of option).name (value_text values option) else []
+    if is_shown scope option then named_value (table_row option).name (value_text values option) else []
 
 -- .. of all options, in the ascending order of their names
 abbrev pub shown_options : OptionValues → Scope → List (List ℕ × List ℕ)

@@ -1,6 +1,6 @@
 // Numbers of files in the value of `select-file`.
 ghost use Rattle.std.specs.Prelude.{◌≡◌, ◌↔◌, ℕ, IsTrue, IfOk, MatchOption};
-ghost use Rattle.option_set.specs.Files.{first_text, last_text, NamesFiles, IsMember, IsFileList, AreRanges, members_of};
+ghost use Rattle.option_set.specs.Files.{first_text, last_text, NamesFiles, IsMember, IsFileList, AreRanges, file_members};
 
 use crate::numbers::decimal;
 use std::alloc::{AllocError, Global};

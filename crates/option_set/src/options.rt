@@ -1,6 +1,6 @@
 // The values of all options.
 ghost use Rattle.std.specs.Prelude.{◌≡◌, ◌<◌, ◌++◌, IsTrue, IfOk, OnOk, IfSome, option_copied};
-ghost use Rattle.option_set.specs.Table.{row_of, row_of_number, row_of_text};
+ghost use Rattle.option_set.specs.Table.{table_row, row_of_number, row_of_text};
 ghost use Rattle.option_set.specs.Settings.{IsWithinLimits, MeetsRule};
 ghost use Rattle.option_set.specs.Values.{place_of_number, place_of_word, number_of, text_of_word, default_values, with_setting, number_text, value_text, is_shown, shown_pairs, shown_options};
 

@@ -1,6 +1,6 @@
 // The table of the options.
 ghost use Rattle.std.specs.Prelude.{◌≡◌, ◌≢◌, ◌↔◌, ◌<◌, ◌≤◌, ◌^◌, IsTrue, MatchOption};
-ghost use Rattle.option_set.specs.Table.{row_of_number, row_of_text, row_of, all_options, is_changed_by_option, is_changed_globally};
+ghost use Rattle.option_set.specs.Table.{row_of_number, row_of_text, table_row, all_options, is_changed_by_option, is_changed_globally};
 ghost use Rattle.option_set.specs.Rows.{shown_number_row, shown_text_row, shown_row};
 
 use crate::{Change, Num, Opt, Rule, Scope, Spelling, Word, WordUse};
@@ -84,172 +84,33 @@ impl Num {
         ensures { shown_number_row result ≡ row_of_number self }
     {
         match self {
-            Num::AutoSaveInterval => {
-                number_row!(
-                    "auto-save-interval",
-                    None,
-                    Plain,
-                    60,
-                    0,
-                    600,
-                    Download,
-                    Never,
-                    GlobalValue
-                )
-            }
-            Num::CheckIntegrity => {
-                number_row!(
-                    "check-integrity",
-                    Some('V'),
-                    Truth,
-                    0,
-                    0,
-                    1,
-                    Download,
-                    Globally,
-                    GlobalValue
-                )
-            }
-            Num::EnableRpc => number_row!(
-                "enable-rpc",
-                None,
-                Truth,
-                0,
-                0,
-                1,
-                Global,
-                Never,
-                GlobalValue
-            ),
-            Num::MaxConcurrentDownloads => {
-                number_row!(
-                    "max-concurrent-downloads",
-                    Some('j'),
-                    Plain,
-                    5,
-                    1,
-                    64,
-                    Global,
-                    Globally,
-                    GlobalValue
-                )
-            }
-            Num::MaxConnectionPerServer => {
-                number_row!(
-                    "max-connection-per-server",
-                    Some('x'),
-                    Plain,
-                    1,
-                    1,
-                    16,
-                    Download,
-                    Always,
-                    GlobalValue
-                )
-            }
-            Num::MaxDownloadLimit => {
-                number_row!(
-                    "max-download-limit",
-                    None,
-                    Size,
-                    0,
-                    0,
-                    MAX_RATE,
-                    Download,
-                    Always,
-                    GlobalValue
-                )
-            }
-            Num::MaxOverallDownloadLimit => {
-                number_row!(
-                    "max-overall-download-limit",
-                    None,
-                    Size,
-                    0,
-                    0,
-                    MAX_RATE,
-                    Global,
-                    Globally,
-                    GlobalValue
-                )
-            }
-            Num::MaxTries => {
-                number_row!(
-                    "max-tries",
-                    Some('m'),
-                    Plain,
-                    5,
-                    1,
-                    100,
-                    Download,
-                    Globally,
-                    GlobalValue
-                )
-            }
-            Num::MinSplitSize => {
-                number_row!(
-                    "min-split-size",
-                    Some('k'),
-                    Size,
-                    20 * MIB,
-                    MIB,
-                    1024 * MIB,
-                    Download,
-                    Always,
-                    GlobalValue
-                )
-            }
-            Num::Pause => number_row!("pause", None, Truth, 0, 0, 1, Download, Never, OwnCall),
-            Num::PieceLength => {
-                number_row!(
-                    "piece-length",
-                    None,
-                    Size,
-                    MIB,
-                    MIB,
-                    64 * MIB,
-                    Download,
-                    Globally,
-                    GlobalValue
-                )
-            }
-            Num::RpcListenPort => {
-                number_row!(
-                    "rpc-listen-port",
-                    None,
-                    Plain,
-                    6800,
-                    1024,
-                    65_535,
-                    Global,
-                    Never,
-                    GlobalValue
-                )
-            }
-            Num::RpcMaxRequestSize => {
-                number_row!(
-                    "rpc-max-request-size",
-                    None,
-                    Size,
-                    2 * MIB,
-                    16 * KIB,
-                    64 * MIB,
-                    Global,
-                    Never,
-                    GlobalValue
-                )
-            }
-            Num::Split => number_row!(
-                "split",
-                Some('s'),
-                Plain,
-                5,
-                1,
-                64,
-                Download,
-                Always,
-                GlobalValue
-            ),
+            Num::AutoSaveInterval =>
+                number_row! { "auto-save-interval", None, Plain, 60, 0, 600, Download, Never, GlobalValue },
+            Num::CheckIntegrity =>
+                number_row! { "check-integrity", Some('V'), Truth, 0, 0, 1, Download, Globally, GlobalValue },
+            Num::EnableRpc =>
+                number_row! { "enable-rpc", None, Truth, 0, 0, 1, Global, Never, GlobalValue },
+            Num::MaxConcurrentDownloads =>
+                number_row! { "max-concurrent-downloads", Some('j'), Plain, 5, 1, 64, Global, Globally, GlobalValue },
+            Num::MaxConnectionPerServer =>
+                number_row! { "max-connection-per-server", Some('x'), Plain, 1, 1, 16, Download, Always, GlobalValue },
+            Num::MaxDownloadLimit =>
+                number_row! { "max-download-limit", None, Size, 0, 0, MAX_RATE, Download, Always, GlobalValue },
+            Num::MaxOverallDownloadLimit =>
+                number_row! { "max-overall-download-limit", None, Size, 0, 0, MAX_RATE, Global, Globally, GlobalValue },
+            Num::MaxTries =>
+                number_row! { "max-tries", Some('m'), Plain, 5, 1, 100, Download, Globally, GlobalValue },
+            Num::MinSplitSize =>
+                number_row! { "min-split-size", Some('k'), Size, 20 * MIB, MIB, 1024 * MIB, Download, Always, GlobalValue },
+            Num::Pause => number_row! { "pause", None, Truth, 0, 0, 1, Download, Never, OwnCall },
+            Num::PieceLength =>
+                number_row! { "piece-length", None, Size, MIB, MIB, 64 * MIB, Download, Globally, GlobalValue },
+            Num::RpcListenPort =>
+                number_row! { "rpc-listen-port", None, Plain, 6800, 1024, 65_535, Global, Never, GlobalValue },
+            Num::RpcMaxRequestSize =>
+                number_row! { "rpc-max-request-size", None, Size, 2 * MIB, 16 * KIB, 64 * MIB, Global, Never, GlobalValue },
+            Num::Split =>
+                number_row! { "split", Some('s'), Plain, 5, 1, 64, Download, Always, GlobalValue },
         }
     }
 }
@@ -260,36 +121,16 @@ impl Word {
         ensures { shown_text_row result ≡ row_of_text self }
     {
         match self {
-            Word::Checksum => text_row!("checksum", None, Checksum, None, Download, Never, OwnCall),
-            Word::Dir => text_row!(
-                "dir",
-                Some('d'),
-                Folder,
-                Some("."),
-                Download,
-                Globally,
-                GlobalValue
-            ),
-            Word::Gid => text_row!("gid", None, Gid, None, Download, Never, Absent),
-            Word::Out => text_row!("out", Some('o'), FilePart, None, Download, Never, OwnCall),
-            Word::RpcSecret => text_row!(
-                "rpc-secret",
-                None,
-                Filled,
-                None,
-                Global,
-                Never,
-                GlobalValue
-            ),
-            Word::SelectFile => text_row!(
-                "select-file",
-                None,
-                FileList,
-                None,
-                Download,
-                Never,
-                OwnCall
-            ),
+            Word::Checksum =>
+                text_row! { "checksum", None, Checksum, None, Download, Never, OwnCall },
+            Word::Dir =>
+                text_row! { "dir", Some('d'), Folder, Some("."), Download, Globally, GlobalValue },
+            Word::Gid => text_row! { "gid", None, Gid, None, Download, Never, Absent },
+            Word::Out => text_row! { "out", Some('o'), FilePart, None, Download, Never, OwnCall },
+            Word::RpcSecret =>
+                text_row! { "rpc-secret", None, Filled, None, Global, Never, GlobalValue },
+            Word::SelectFile =>
+                text_row! { "select-file", None, FileList, None, Download, Never, OwnCall },
         }
     }
 }
@@ -321,7 +162,7 @@ impl Opt {
 
     /// What it has as every option does.
     pub fn row(self) -> Row
-        ensures { shown_row result ≡ row_of self }
+        ensures { shown_row result ≡ table_row self }
     {
         match self {
             Opt::Num(num) => num.row().option,
@@ -332,8 +173,8 @@ impl Opt {
     /// The option of this long name.
     pub fn named(name: &str) -> Option<Opt>
         ensures { MatchOption result
-            ((option : Opt) → (row_of option).name ≢ name.now)
-            (λ option. (row_of option).name ≡ name.now) }
+            ((option : Opt) → (table_row option).name ≢ name.now)
+            (λ option. (table_row option).name ≡ name.now) }
     {
         for option in Opt::ALL {
             if option.row().name == name {
@@ -345,14 +186,14 @@ impl Opt {
 
     /// Whether `aria2.changeOption` takes it.
     pub fn is_changed_by_option(self) -> bool
-        ensures { result ≡ is_changed_by_option (row_of self).change }
+        ensures { result ≡ is_changed_by_option (table_row self).change }
     {
         matches!(self.row().change, Change::Always)
     }
 
     /// Whether `aria2.changeGlobalOption` takes it.
     pub fn is_changed_globally(self) -> bool
-        ensures { result ≡ is_changed_globally (row_of self).change }
+        ensures { result ≡ is_changed_globally (table_row self).change }
     {
         !matches!(self.row().change, Change::Never)
     }

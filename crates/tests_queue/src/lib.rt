@@ -4,6 +4,8 @@
 #[cfg(test)]
 mod digests;
 #[cfg(test)]
+mod ids;
+#[cfg(test)]
 mod options;
 #[cfg(test)]
 mod queues;

@@ -130,6 +130,24 @@ fn empty_values_are_wrong(rt: HostRuntime) -> Result<(), Fail> {
     Ok(())
 }
 
+#[test]
+fn long_lists_of_files_are_read(rt: HostRuntime) -> Result<(), Fail> {
+    let alloc = rt.alloc();
+    let mut list = String::new(alloc);
+    for _ in 0..99_999 {
+        list.push_str("7,")?;
+    }
+    let cut = answered(alloc, "select-file", list.as_str())?;
+    assert_eq!(rt; cut.as_str(), "bad");
+    list.push_str("1-1048576")?;
+    let whole = answered(alloc, "select-file", list.as_str())?;
+    assert_eq!(rt; whole.as_str().strip_prefix("= "), Some(list.as_str()));
+    list.push_str("x")?;
+    let wrong = answered(alloc, "select-file", list.as_str())?;
+    assert_eq!(rt; wrong.as_str(), "bad");
+    Ok(())
+}
+
 // What is shown of the options of downloads before anything is set.
 const DEFAULTS: &str = "\
 auto-save-interval=60

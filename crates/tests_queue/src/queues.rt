@@ -1,7 +1,8 @@
 // A queue, step by step.
-use dl_kinds::{Gid, Status};
+use dl_kinds::{Gid, GidKey, Status};
 use dl_queue::{How, Queue, QueueErr};
 use option_set::Options;
+use std::alloc::{AllocError, Global};
 use std::test::Fail;
 
 const A: Gid = Gid(10);
@@ -56,6 +57,61 @@ fn one_download_at_a_time(rt: HostRuntime) -> Result<(), Fail> {
     Ok(())
 }
 
+// Each line: a key, and what looking it up answers where one download is active, two wait and one has stopped.
+const KEYS: &str = "\
+a = a000000000000001
+a0 = a000000000000001
+b ambiguous 2
+b0 ambiguous 2
+b000000000000001 = b000000000000001
+b000000000000002 = b000000000000002
+c = c000000000000001
+d not found
+c1 not found
+0 not found";
+
+fn found(alloc: Global, queue: &Queue, key: GidKey) -> Result<String, AllocError> {
+    match queue.find(key) {
+        Ok(gid) => format!(in alloc; "= {:016x}", gid.0),
+        Err(QueueErr::Ambiguous { count }) => format!(in alloc; "ambiguous {count}"),
+        Err(QueueErr::NotFound) => String::from_str(alloc, "not found"),
+        Err(_) => String::from_str(alloc, "refused"),
+    }
+}
+
+#[test]
+fn downloads_are_found_by_first_digits(rt: HostRuntime) -> Result<(), Fail> {
+    let alloc = rt.alloc();
+    let mut queue = Queue::new(alloc, 1);
+    for text in [
+        "c000000000000001",
+        "a000000000000001",
+        "b000000000000001",
+        "b000000000000002",
+    ] {
+        queue.add(
+            Gid::read(text).ok_or("gid")?,
+            Options::new(alloc)?,
+            false,
+            None,
+        )?;
+    }
+    let stopped = Gid::read("c000000000000001").ok_or("gid")?;
+    assert_eq!(rt; queue.stop(stopped, Status::Failed), Ok(()));
+    for line in KEYS.lines() {
+        let (key, expected) = line.split_once(' ').ok_or("key")?;
+        let answer = found(alloc, &queue, GidKey::read(key).ok_or("key")?)?;
+        assert_eq!(rt; answer.as_str(), expected, "{line}");
+    }
+    assert!(rt; queue.options(stopped).is_some());
+    assert!(rt; queue.options(A).is_none());
+    queue.purge();
+    let gone = found(alloc, &queue, GidKey::read("c").ok_or("key")?)?;
+    assert_eq!(rt; gone.as_str(), "not found");
+    assert!(rt; queue.options(stopped).is_some());
+    Ok(())
+}
+
 #[test]
 fn many_downloads_are_added_paused_and_stopped(rt: HostRuntime) -> Result<(), Fail> {
     let alloc = rt.alloc();
@@ -66,7 +122,11 @@ fn many_downloads_are_added_paused_and_stopped(rt: HostRuntime) -> Result<(), Fa
     let full = queue.add(Gid(65_537), Options::new(alloc)?, false, None);
     assert_eq!(rt; full, Err(QueueErr::Full { count: 65_536 }));
     for number in 1..32_769u64 {
-        let answer = if number % 8 == 0 { Err(QueueErr::WrongStatus(Status::Paused)) } else { Ok(()) };
+        let answer = if number % 8 == 0 {
+            Err(QueueErr::WrongStatus(Status::Paused))
+        } else {
+            Ok(())
+        };
         assert_eq!(rt; queue.pause(Gid(number)), answer);
     }
     for number in 32_769..65_537u64 {
