@@ -1,9 +1,9 @@
 -- The control file and the temporary one are no files of the payload.
-use Rattle.std.proofs.Common.{◌≡◌, ◌≢◌, ℕ, List, [], ◌∷◌, ◌++◌, length, get_or, drop, refl, sym, ap, ◌∙◌, append_assoc, arith}
+use Rattle.std.proofs.Common.{◌≡◌, ◌≢◌, ℕ, List, [], ◌∷◌, ◌++◌, length, get_or, drop, refl, sym, ap, ◌∙◌, append_assoc, arith, codes}
 use Rattle.std.proofs.lemmas.List.{length-append, drop_at}
 use Rattle.payload_files.specs.Names.{root_of, path_text, IsOther}
 use Rattle.control_file.specs.declared.want.Want.{Want}
-use Rattle.resume_core.specs.Wants.{IsWant, control_name, temporary_name}
+use Rattle.resume_core.specs.Wants.{IsWant, payload_name, control_name, temporary_name}
 
 cut : (front a b : List ℕ) → front ++ a ≡ front ++ b → a ≡ b
 cut front a b same = sym (drop_at front a (length front) refl) ∙ ap (drop (length front)) same
@@ -31,3 +31,9 @@ control_other want is = suffixed want _ is
 
 pub temporary_other : (want : Want) → IsWant want → IsOther want.dir want.layout (temporary_name want)
 temporary_other want is = suffixed want _ is
+
+suffixes_differ : (name : List ℕ) → name ++ codes ".aria2__temp" ≢ name ++ codes ".aria2"
+suffixes_differ name same = absurd (omega (arith, ap length (cut name (codes ".aria2__temp") (codes ".aria2") same)))
+
+pub temporary_apart : (want : Want) → temporary_name want ≢ control_name want
+temporary_apart want = suffixes_differ (payload_name want)

@@ -6,6 +6,7 @@ pub mod Reaching
 pub mod Same
 pub mod Saved
 pub mod Saving
+pub mod Savings
 pub mod Stretched
 pub mod Stretching
 pub mod Wholes

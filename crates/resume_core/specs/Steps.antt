@@ -51,3 +51,6 @@ pub record Finishes (want : Want) (seen before image : Files) : Type 0 where
 -- so is every image
 abbrev pub AreFinished : Want → Files → (Files → Type 0) → Type 0
 AreFinished want seen images = (image : Files) → images image → IsFinished want seen image
+
+abbrev pub AreSaved : Want → List ℕ → Files → (Files → Type 0) → Type 0
+AreSaved want bytes seen images = (image : Files) → images image → IsSaved want bytes seen image

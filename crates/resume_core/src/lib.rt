@@ -1,6 +1,7 @@
 //! The store: what is durable of a download is found again, written, and made to last.
 #![tactic(auto)]
 
+mod control_files;
 mod fault;
 mod finishing;
 mod laws;
