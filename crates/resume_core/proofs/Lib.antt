@@ -1,9 +1,13 @@
 pub mod Apart
 pub mod Puts
 pub mod Reaching
+pub mod RunBytes
 pub mod Same
 pub mod Saved
 pub mod Saving
 pub mod Stretched
 pub mod Stretching
+pub mod Tearing
+pub mod Torn
 pub mod Wholes
+pub mod WrittenRuns
