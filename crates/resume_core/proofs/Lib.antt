@@ -3,10 +3,14 @@ pub mod Ends
 pub mod Filed
 pub mod Puts
 pub mod Reaching
+pub mod RunBytes
 pub mod Same
 pub mod Saved
 pub mod Saving
 pub mod Savings
 pub mod Stretched
 pub mod Stretching
+pub mod Tearing
+pub mod Torn
 pub mod Wholes
+pub mod WrittenRuns

@@ -3,7 +3,9 @@ pub mod Found
 pub mod Laws
 pub mod Listing
 pub mod Resume
-pub mod Steps
+pub mod RunLaws
+pub mod Runs
 pub mod SaveLaws
+pub mod Steps
 pub mod StretchLaws
 pub mod Wants

@@ -6,11 +6,14 @@ mod fault;
 mod finishing;
 mod laws;
 mod names;
+mod runs;
 mod whole_files;
 
 pub use fault::StoreErr;
 pub use finishing::finish;
 pub use laws::{
-    finished_files_are_sound, same_files_give_the_same, saved_files_give_what_is_listed,
-    saves_give_either, stretched_files_keep_what_is_given,
+    finished_files_are_sound, images_list_within, same_files_give_the_same,
+    saved_files_give_what_is_listed, saves_give_either, stretched_files_keep_what_is_given,
+    torn_files_keep_what_is_given,
 };
+pub use runs::{read_piece, write_run};

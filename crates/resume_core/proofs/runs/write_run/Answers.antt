@@ -1,0 +1,26 @@
+use Rattle.resume_core.proofs.WrittenRuns.{written_gives, written_sound}
+use Rattle.resume_core.proofs.runs.write_run.Goals as goal
+
+pub returns-in_err-put_run-clause-gives : goal.returns-in_err-put_run-clause-gives
+returns-in_err-put_run-clause-gives g c told =
+    written_gives c.args.want.now c.args.run (g.D.Disk.state c.args.disk.now) (g.D.Disk.state c.put_run.new.disk)
+    c.requires.want c.requires.run (c.requires.lacks told) (c.put_run.ensures.performs told)
+    c.torn_files_keep_what_is_given.ensures.same
+
+pub returns-in_err-put_run-clause-sound : goal.returns-in_err-put_run-clause-sound
+returns-in_err-put_run-clause-sound g c told =
+    written_sound c.args.want.now c.args.run (g.D.Disk.state c.args.disk.now) (g.D.Disk.state c.put_run.new.disk)
+    c.requires.want c.requires.run (c.requires.lacks told) (c.put_run.ensures.performs told)
+    c.torn_files_keep_what_is_given.ensures.sound c.torn_files_keep_what_is_given.ensures.agree
+
+pub returns-clause-gives : goal.returns-clause-gives
+returns-clause-gives g c told =
+    written_gives c.args.want.now c.args.run (g.D.Disk.state c.args.disk.now) (g.D.Disk.state c.put_run.new.disk)
+    c.requires.want c.requires.run (c.requires.lacks told) (c.put_run.ensures.performs told)
+    c.torn_files_keep_what_is_given.ensures.same
+
+pub returns-clause-sound : goal.returns-clause-sound
+returns-clause-sound g c told =
+    written_sound c.args.want.now c.args.run (g.D.Disk.state c.args.disk.now) (g.D.Disk.state c.put_run.new.disk)
+    c.requires.want c.requires.run (c.requires.lacks told) (c.put_run.ensures.performs told)
+    c.torn_files_keep_what_is_given.ensures.sound c.torn_files_keep_what_is_given.ensures.agree

@@ -1,0 +1,86 @@
+-- Runs of blocks, which are written where no image gives them, and pieces, which are read.
+use Rattle.std.specs.Prelude.{◌≡◌, ◌<◌, ◌≤◌, ℕ, ◌+◌, ◌-◌, List}
+use Rattle.dl_disk.specs.Files.{Files}
+use Rattle.dl_kinds.specs.Plan.{blocks_of, block_start, block_end, piece_start, piece_end}
+use Rattle.dl_kinds.specs.declared.runs.Run.{Run}
+use Rattle.dl_words.specs.Lists.{part_at}
+use Rattle.payload_files.specs.Changes.{TornSlice, WritesSlice, HoldsSlice}
+use Rattle.payload_files.specs.Payload.{HasFiles, payload_in}
+use Rattle.control_file.specs.declared.want.Want.{Want}
+use Rattle.resume_core.specs.Found.{Found, Absent, Refused, Used, found_in, ListsPiece, ListsInFlight}
+use Rattle.resume_core.specs.Resume.{ResumesBlock, ReachesPiece, ReachesBlock, GiveSame}
+use Rattle.resume_core.specs.Wants.{files_in}
+
+-- the run has a block, and ends within the plan
+pub record IsRunOf (want : Want) (run : Run) : Type 0 where
+  pub some : 1 ≤ run.count
+  pub within : run.first + run.count ≤ blocks_of want.plan.total want.plan.piece_len
+
+-- its blocks cover the bytes of the payload from here ..
+abbrev pub run_start : Want → Run → ℕ
+run_start want run = block_start want.plan.piece_len run.first
+
+-- .. to before here
+abbrev pub run_end : Want → Run → ℕ
+run_end want run = block_end want.plan.total want.plan.piece_len (run.first + run.count - 1)
+
+-- so many
+abbrev pub run_len : Want → Run → ℕ
+run_len want run = run_end want run - run_start want run
+
+-- the block is one of the run's
+pub record IsBlockOf (run : Run) (block : ℕ) : Type 0 where
+  pub from : run.first ≤ block
+  pub before : block < run.first + run.count
+
+-- a control file of the want stands
+abbrev pub IsUsed : Found → Type 0
+IsUsed Absent = ⊥
+IsUsed Refused = ⊥
+IsUsed (Used control) = Unit {0}
+
+-- the image has a control file of the want, and gives no block of the run
+pub record LacksRun (want : Want) (run : Run) (image : Files) : Type 0 where
+  pub used : IsUsed (found_in want image)
+  pub blocks : (block : ℕ) → IsBlockOf run block → ResumesBlock want image block → ⊥
+
+-- so does each image
+abbrev pub LackRun : Want → Run → (Files → Type 0) → Type 0
+LackRun want run images = (image : Files) → images image → LacksRun want run image
+
+-- a write of the run, whole or cut short
+abbrev pub TornRun : Want → Run → Files → Files → Type 0
+TornRun want run = TornSlice want.dir want.layout (run_start want run) (run_len want run)
+
+-- where the files had their lengths, the payload has these bytes in the run's place, and is the same elsewhere
+abbrev pub WritesRun : Want → Run → List ℕ → Files → Files → Type 0
+WritesRun want run bytes = WritesSlice want.dir want.layout (run_start want run) bytes
+
+-- where the files had their lengths, these bytes stand in the run's place
+abbrev pub HoldsRun : Want → Run → List ℕ → Files → Files → Type 0
+HoldsRun want run bytes = HoldsSlice want.dir want.layout (run_start want run) bytes
+
+-- the control file lists nothing past the end of a file
+pub record ListsWithin (want : Want) (image : Files) : Type 0 where
+  pub pieces : (piece : ℕ) → ListsPiece (found_in want image) piece → ReachesPiece want (files_in want image) piece
+  pub blocks :
+      (block : ℕ) → ListsInFlight want.plan.piece_len (found_in want image) block → ReachesBlock want (files_in want image) block
+
+abbrev pub ListWithin : Want → (Files → Type 0) → Type 0
+ListWithin want images = (image : Files) → images image → ListsWithin want image
+
+-- one of the images before gave the same
+pub record GivesAsBefore (want : Want) (images : Files → Type 0) (image : Files) : Type 0 where
+  pub before : Files
+  pub left : images before
+  pub same : GiveSame want before image
+
+abbrev pub GiveAsBefore : Want → (Files → Type 0) → (Files → Type 0) → Type 0
+GiveAsBefore want old new = (image : Files) → new image → GivesAsBefore want old image
+
+-- where the files have their lengths, these are the bytes of the piece
+abbrev pub ReadsPiece : Want → ℕ → List ℕ → Files → Type 0
+ReadsPiece want piece bytes seen =
+    let start = piece_start want.plan.piece_len piece in
+    HasFiles want.dir want.layout seen
+    → bytes ≡ part_at (payload_in want.dir want.layout seen) start (piece_end want.plan.total want.plan.piece_len piece - start)

@@ -1,0 +1,105 @@
+// Runs of blocks are written where no image gives them, and pieces are read.
+ghost use Rattle.std.specs.Prelude.{◌≡◌, ◌<◌, ◌-◌, length, vec_len, IsTrue, OnOk};
+ghost use Rattle.dl_kinds.specs.Causes.{HasCause};
+ghost use Rattle.dl_kinds.specs.Plan.{piece_start, piece_end};
+ghost use Rattle.dl_disk.specs.Passes.{Performs};
+ghost use Rattle.dl_disk.specs.State.{LeftSince};
+ghost use Rattle.payload_files.specs.Reading.{ReadsOnly};
+ghost use Rattle.resume_core.specs.Causes.{HasStoreCause};
+ghost use Rattle.resume_core.specs.Resume.{AreSound};
+ghost use Rattle.resume_core.specs.Runs.{IsRunOf, run_len, LackRun, TornRun, WritesRun, HoldsRun, ListWithin, GiveAsBefore, ReadsPiece};
+ghost use Rattle.resume_core.specs.Wants.{IsWant};
+
+use crate::fault::StoreErr;
+use crate::laws::torn_files_keep_what_is_given;
+use control_file::Want;
+use dl_disk::Disk;
+use dl_kinds::{IoErr, Run};
+use payload_files::{read_slice, write_slice};
+use std::alloc::Global;
+
+// Writes a run into the files that hold it.
+fn put_run<D: Disk>(
+    alloc: Global,
+    disk: &mut D,
+    want: &Want,
+    run: Run,
+    bytes: &[u8],
+) -> Result<(), IoErr>
+    requires want { IsWant want.now }
+    requires run { IsRunOf want.now run }
+    requires len { length bytes.now ≡ run_len want.now run }
+    ensures written { OnOk result (IsTrue D.tells
+        → WritesRun want.now run bytes.now (D.state disk.old).seen (D.state disk.new).seen) }
+    ensures stands { OnOk result (IsTrue D.tells
+        → HoldsRun want.now run bytes.now (D.state disk.old).seen (D.state disk.new).seen) }
+    ensures performs { IsTrue D.tells
+        → Performs (TornRun want.now run) (D.state disk.old) (D.state disk.new) }
+    ensures folders { IsTrue D.tells → (D.state disk.new).folders ≡ (D.state disk.old).folders }
+    ensures cause { HasCause (D.faults disk.old) (D.faults disk.new) result }
+{
+    let (start, _) = want.plan.block_span(run.first);
+    write_slice(alloc, disk, want.dir.as_str(), &want.layout, start, bytes)
+}
+
+/// Writes the bytes of a run of blocks into the files that hold them. The first failure ends it, and what was written
+/// before stays. No crash meanwhile loses anything that was durable, since no image gives a block of the run.
+pub fn write_run<D: Disk>(
+    alloc: Global,
+    disk: &mut D,
+    want: &Want,
+    run: Run,
+    bytes: &[u8],
+) -> Result<(), StoreErr>
+    requires want { IsWant want.now }
+    requires run { IsRunOf want.now run }
+    requires len { length bytes.now ≡ run_len want.now run }
+    requires lacks { IsTrue D.tells → LackRun want.now run (D.state disk.old).may_leave }
+    ensures written { OnOk result (IsTrue D.tells
+        → WritesRun want.now run bytes.now (D.state disk.old).seen (D.state disk.new).seen) }
+    ensures stands { OnOk result (IsTrue D.tells
+        → HoldsRun want.now run bytes.now (D.state disk.old).seen (D.state disk.new).seen) }
+    ensures performs { IsTrue D.tells
+        → Performs (TornRun want.now run) (D.state disk.old) (D.state disk.new) }
+    ensures folders { IsTrue D.tells → (D.state disk.new).folders ≡ (D.state disk.old).folders }
+
+    // At each moment an image gives what one gave before, and stays sound.
+    ensures gives { IsTrue D.tells → ListWithin want.now (D.state disk.old).may_leave
+        → GiveAsBefore want.now (D.state disk.old).may_leave
+        (LeftSince (D.state disk.new) (D.state disk.old).moment) }
+    ensures sound { IsTrue D.tells
+        → AreSound want.now (D.state disk.old).seen (D.state disk.old).may_leave
+        → AreSound want.now (D.state disk.new).seen
+        (LeftSince (D.state disk.new) (D.state disk.old).moment) }
+    ensures cause { HasStoreCause (D.faults disk.old) (D.faults disk.new) result }
+{
+    torn_files_keep_what_is_given();
+    put_run(alloc, disk, want, run, bytes)?;
+    Ok(())
+}
+
+/// Reads a piece. Its bytes stand in the buffer after Ok, in place of what was there. A file that ends before the piece
+/// does is a fault of the disk.
+pub fn read_piece<D: Disk>(
+    alloc: Global,
+    disk: &mut D,
+    want: &Want,
+    piece: u32,
+    into: &mut Vec<u8>,
+) -> Result<(), StoreErr>
+    requires want { IsWant want.now }
+    requires piece { piece < want.now.plan.pieces }
+    ensures read { OnOk result (IsTrue D.tells
+        → ReadsPiece want.now piece into.new.items (D.state disk.old).seen) }
+    ensures len { OnOk result (vec_len into.new
+        ≡ piece_end want.now.plan.total want.now.plan.piece_len piece
+        - piece_start want.now.plan.piece_len piece) }
+    ensures looks { IsTrue D.tells
+        → ReadsOnly want.now.dir want.now.layout (D.state disk.old) (D.state disk.new) }
+    ensures cause { HasStoreCause (D.faults disk.old) (D.faults disk.new) result }
+{
+    let (start, len) = want.plan.piece_span(piece);
+    into.resize(len as usize, 0)?;
+    read_slice(alloc, disk, want.dir.as_str(), &want.layout, start, into)?;
+    Ok(())
+}
