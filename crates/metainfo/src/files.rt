@@ -1,9 +1,9 @@
 // The files of a metainfo file.
-ghost use Rattle.std.specs.Prelude.{◌≡◌, ◌≤◌, ℕ, true, length, map, IfOk};
+ghost use Rattle.std.specs.Prelude.{◌≡◌, ◌≤◌, ℕ, true, length, IfOk};
 ghost use Rattle.std.specs.List.{list_all};
 ghost use Rattle.std.specs.Str.{is_utf8};
 ghost use Rattle.dl_words.specs.Answers.{Gives};
-ghost use Rattle.metainfo.specs.Kept.{kept_part, kept_parts, kept, all_kept};
+ghost use Rattle.metainfo.specs.Kept.{kept_part, kept_path, kept_parts, kept, all_kept};
 ghost use Rattle.metainfo.specs.Refusals.{refusal_of};
 ghost use Rattle.metainfo.specs.Rules as specs;
 ghost use Rattle.metainfo.specs.Tests.{is_string, is_dict};
@@ -12,7 +12,7 @@ use crate::fields::{integer_in, is_dict, is_list, sought, value_in};
 use crate::{Key, MetaErr, NoMemory};
 use bencode_core::BenSlice;
 use dl_kinds::{Text, Texts};
-use span_map::{FileLen, Layout, LayoutErr};
+use span_map::{FileLen, Layout, LayoutErr, MAX_PARTS};
 use std::alloc::Global;
 
 #[tactic(auto, unfolding(crate::specs::Rules::len_in))]
@@ -48,15 +48,16 @@ fn are_dicts(items: &[BenSlice<'_>]) -> bool
     items.iter().all(is_dict)
 }
 
-// The name and the parts behind it, of which there is one at least: without it there is no path.
+// The name and the parts behind it, of which there is one at least: without it there is no path. Nor is there one of too
+// many parts, which would take much memory.
 fn path_of(alloc: Global, name: &Text, items: &[BenSlice<'_>]) -> Result<Texts, NoMemory>
     requires text { is_utf8 name.now ≡ true }
     requires strings { list_all is_string items.now ≡ true }
     ensures { IfOk result (λ path. path
-        ≡ map kept_part (specs.path_of name.now (specs.strings_among items.now))) }
+        ≡ kept_path (specs.path_of name.now (specs.strings_among items.now))) }
 {
     let mut path = Texts::new(alloc);
-    if items.is_empty() {
+    if items.is_empty() || items.len() >= MAX_PARTS {
         return Ok(path);
     }
     path.push(name.copy(alloc)?)?;
