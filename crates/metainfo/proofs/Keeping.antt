@@ -1,12 +1,12 @@
 -- Files as they are kept are laid out as they are.
-use Rattle.std.proofs.Common.{◌≡◌, ℕ, ◌≤◌, ◌+◌, Bool, true, false, ◌&&◌, cond, leb, List, [], ◌∷◌, ◌++◌, map, Some, None, Option, refl, sym, ap, ◌∙◌, arith}
+use Rattle.std.proofs.Common.{◌≡◌, ℕ, ◌≤◌, ◌+◌, Bool, true, false, ◌&&◌, cond, leb, List, [], ◌∷◌, ◌++◌, length, map, Some, None, Option, refl, sym, ap, ◌∙◌, arith}
 use Rattle.std.specs.List.{list_all}
 use Rattle.std.specs.Option.{option_map}
 use Rattle.std.specs.Str.{is_utf8}
 use Rattle.std.proofs.lemmas.Bool.{cond-true, false_from_ne_true, and_parts, and_left, false≢true}
 use Rattle.std.proofs.lemmas.List.{length-map}
 use Rattle.span_map.specs.declared.files.FileLen.{FileLen}
-use Rattle.metainfo.specs.Kept.{kept_part, kept_file}
+use Rattle.metainfo.specs.Kept.{kept_part, kept_path, kept_file}
 use Rattle.metainfo.specs.Tests.{is_part, is_path, may_follow, bad_behind, bad_file}
 use Rattle.metainfo.specs.Rules.{laid_out, paths_fit}
 use Rattle.metainfo.proofs.Parts.{part_decides, part_is_text}
@@ -37,13 +37,24 @@ parts_kept (part ∷ parts) all =
     let both = and_parts (is_part part) (list_all is_part parts) all in
     λ i. part_kept part both.0 i ∷ parts_kept parts both.1 i
 
+path_kept : (path : List (List ℕ)) → is_path path ≡ true → kept_path path ≡ path
+path_kept path is =
+    let both = and_parts (leb 1 (length path) && leb (length path) 64) (list_all is_part path) is in
+    let short = and_parts (leb 1 (length path)) (leb (length path) 64) both.0 in
+    cond-true (leb (length path) 64) (map kept_part path) [] short.1 ∙ parts_kept path both.1
+
 file_kept : (file : FileLen) → is_path file.path ≡ true → kept_file file ≡ file
-file_kept file is = ap (λ (path : List (List ℕ)). record { path = path; len = file.len }) (parts_kept file.path (and_parts _ _ is).1)
+file_kept file is = ap (λ (path : List (List ℕ)). record { path = path; len = file.len }) (path_kept file.path is)
+
+-- what is no path isn't kept as one
+none_by : (path : List (List ℕ)) (short : Bool) → is_path path ≡ false → is_path (cond short (map kept_part path) []) ≡ false
+none_by path true is = path_test path ∙ is
+none_by path false is = refl
 
 follow_by : (before : List FileLen) (file : FileLen) (test : Bool) → is_path file.path ≡ test → may_follow before (kept_file file) ≡ may_follow before file
 follow_by before file true is = ap (may_follow before) (file_kept file is)
 follow_by before file false is =
-    let kept_no : is_path (map kept_part file.path) ≡ false = path_test file.path ∙ is in
+    let kept_no : is_path (kept_path file.path) ≡ false = none_by file.path (leb (length file.path) 64) is in
     and_left _ _ kept_no ∙ sym (and_left _ _ is)
 
 behind_by : (before : List FileLen) (file : FileLen) (files : List FileLen) (test : Bool) → may_follow before file ≡ test

@@ -1,6 +1,9 @@
 -- Steps of the loops over lists.
-use Rattle.std.proofs.Common.{◌≡◌, ℕ, zero, suc, ◌<◌, ◌≤◌, ◌+◌, ◌-◌, ◌/◌, List, [], ◌∷◌, ◌++◌, length, take, drop, map, get_or, Some, None, Ok, Err, Result, Option, refl, sym, ap, ◌∙◌, arith}
-use Rattle.std.specs.List.{filter}
+use Rattle.std.proofs.Common.{◌≡◌, ℕ, zero, suc, ◌<◌, ◌≤◌, ◌+◌, ◌-◌, ◌/◌, true, false, cond, leb, List, [], ◌∷◌, ◌++◌, length, take, drop, map, get_or, Some, None, Ok, Err, Result, Option, refl, sym, ap, ◌∙◌, arith}
+use Rattle.std.specs.List.{filter, list_all}
+use Rattle.std.specs.Prelude.{is_some}
+use Rattle.std.specs.Str.{is_utf8}
+use Rattle.std.proofs.lemmas.Bool.{and_parts, cond-true, le-leb, lt-leb}
 use Rattle.std.specs.Option.{IfSome}
 use Rattle.std.proofs.lemmas.List.{append-nil, append_assoc, take_more, map-append, length-take, drop_more}
 use Rattle.std.proofs.lemmas.List.Elements.{filter_map-append, filter-append}
@@ -8,9 +11,9 @@ use Rattle.bencode_core.specs.Placed.{Placed, string_of}
 use Rattle.span_map.specs.declared.files.FileLen.{FileLen}
 use Rattle.metainfo.specs.declared.refusals.MetaErr.{MetaErr}
 use Rattle.metainfo.specs.Refusals.{◌>>=◌}
-use Rattle.metainfo.specs.Kept.{kept_part, kept_file, kept, all_kept}
-use Rattle.metainfo.specs.Rules.{first_digests, strings_among, seeds_among, file_in, files_from}
-use Rattle.metainfo.specs.Tests.{is_seed}
+use Rattle.metainfo.specs.Kept.{kept_part, kept_path, kept_file, kept, all_kept}
+use Rattle.metainfo.specs.Rules.{first_digests, path_of, strings_among, seeds_among, file_in, files_from}
+use Rattle.metainfo.specs.Tests.{is_seed, is_string}
 
 -- ---- digests
 
@@ -44,6 +47,38 @@ pub part_more : (name : List ℕ) (items : List Placed) (i : ℕ) (item : Placed
 part_more name items i item bytes within is found =
     ap (λ (l : List (List ℕ)). name ∷ l)
     (sym (map-append kept_part (strings_among (take i items)) (bytes ∷ [])) ∙ ap (map kept_part) (sym (string_found items i item bytes within is found)))
+
+-- ---- paths
+
+all_strings : (items : List Placed) → list_all is_string items ≡ true → length (strings_among items) ≡ length items
+all_strings [] all = refl
+all_strings (p ∷ ps) all =
+    let both = and_parts (is_string p) (list_all is_string ps) all in
+    by (string_of p.value) refl both.0 (all_strings ps both.1)
+  where
+    by : (text : Option (List ℕ)) → string_of p.value ≡ text → is_some (string_of p.value) ≡ true → length (strings_among ps) ≡ length ps → length (strings_among (p ∷ ps)) ≡ suc (length ps)
+    by None is some rest = let bad : false ≡ true = sym (ap is_some is) ∙ some in absurd cc
+    by (Some text) is some rest = rw is (ap suc rest)
+
+pub short_path : (name : List ℕ) (items : List Placed) → is_utf8 name ≡ true → list_all is_string items ≡ true → 0 < length items → length items < 64
+    → name ∷ map kept_part (strings_among items) ≡ kept_path (path_of name (strings_among items))
+short_path name items text all some few = by (strings_among items) (all_strings items all)
+  where
+    by : (parts : List (List ℕ)) → length parts ≡ length items → name ∷ map kept_part parts ≡ kept_path (path_of name parts)
+    by [] len = absurd (omega (arith, len))
+    by (part ∷ parts) len =
+        let short : leb (suc (suc (length parts))) 64 ≡ true = le-leb (suc (suc (length parts))) 64 (omega (arith, len)) in
+        ap (λ (n : List ℕ). n ∷ map kept_part (part ∷ parts)) (sym (cond-true (is_utf8 name) name [] text))
+        ∙ sym (cond-true (leb (suc (suc (length parts))) 64) (map kept_part (name ∷ part ∷ parts)) [] short)
+
+pub no_short_path : (name : List ℕ) (items : List Placed) → list_all is_string items ≡ true → (0 < length items → 64 ≤ length items) → [] ≡ kept_path (path_of name (strings_among items))
+no_short_path name items all many = by (strings_among items) (all_strings items all)
+  where
+    by : (parts : List (List ℕ)) → length parts ≡ length items → [] ≡ kept_path (path_of name parts)
+    by [] len = refl
+    by (part ∷ parts) len =
+        let long : leb (suc (suc (length parts))) 64 ≡ false = lt-leb (suc (suc (length parts))) 64 (omega (arith, len, many (omega (arith, len)))) in
+        sym (ap (λ test. cond test (map kept_part (name ∷ part ∷ parts)) []) long)
 
 -- ---- seeds
 

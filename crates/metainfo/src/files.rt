@@ -1,22 +1,22 @@
 // The files of a metainfo file.
-ghost use Rattle.std.specs.Prelude.{◌≡◌, ◌≤◌, ℕ, true, length, map, IfOk};
+ghost use Rattle.std.specs.Prelude.{◌≡◌, ◌≤◌, ℕ, true, length, IfOk};
 ghost use Rattle.std.specs.List.{list_all};
 ghost use Rattle.std.specs.Str.{is_utf8};
 ghost use Rattle.dl_words.specs.Answers.{Gives};
-ghost use Rattle.metainfo.specs.Kept.{kept_part, kept_parts, kept, all_kept};
+ghost use Rattle.metainfo.specs.Kept.{kept_part, kept_path, kept_parts, kept, all_kept};
 ghost use Rattle.metainfo.specs.Refusals.{refusal_of};
 ghost use Rattle.metainfo.specs.Rules as specs;
 ghost use Rattle.metainfo.specs.Tests.{is_string, is_dict};
 
 use crate::fields::{integer_in, is_dict, is_list, sought, value_in};
 use crate::{Key, MetaErr, NoMemory};
-use bencode_core::Ben;
+use bencode_core::BenSlice;
 use dl_kinds::{Text, Texts};
-use span_map::{FileLen, Layout, LayoutErr};
+use span_map::{FileLen, Layout, LayoutErr, MAX_PARTS};
 use std::alloc::Global;
 
 #[tactic(auto, unfolding(crate::specs::Rules::len_in))]
-fn len_in(dict: &Ben) -> Result<u64, MetaErr>
+fn len_in(dict: &BenSlice<'_>) -> Result<u64, MetaErr>
     ensures { Gives (λ len. len) refusal_of result (specs.len_in dict.now) }
 {
     match u64::try_from(integer_in(dict, Key::Length)?) {
@@ -36,27 +36,28 @@ fn kept_text(alloc: Global, bytes: &[u8]) -> Result<Text, NoMemory>
     }
 }
 
-fn are_strings(items: &[Ben]) -> bool
+fn are_strings(items: &[BenSlice<'_>]) -> bool
     ensures { result ≡ list_all is_string items.now }
 {
     items.iter().all(|item| item.string().is_some())
 }
 
-fn are_dicts(items: &[Ben]) -> bool
+fn are_dicts(items: &[BenSlice<'_>]) -> bool
     ensures { result ≡ list_all is_dict items.now }
 {
     items.iter().all(is_dict)
 }
 
-// The name and the parts behind it, of which there is one at least: without it there is no path.
-fn path_of(alloc: Global, name: &Text, items: &[Ben]) -> Result<Texts, NoMemory>
+// The name and the parts behind it, of which there is one at least: without it there is no path. Nor is there one of too
+// many parts, which would take much memory.
+fn path_of(alloc: Global, name: &Text, items: &[BenSlice<'_>]) -> Result<Texts, NoMemory>
     requires text { is_utf8 name.now ≡ true }
     requires strings { list_all is_string items.now ≡ true }
     ensures { IfOk result (λ path. path
-        ≡ map kept_part (specs.path_of name.now (specs.strings_among items.now))) }
+        ≡ kept_path (specs.path_of name.now (specs.strings_among items.now))) }
 {
     let mut path = Texts::new(alloc);
-    if items.is_empty() {
+    if items.is_empty() || items.len() >= MAX_PARTS {
         return Ok(path);
     }
     path.push(name.copy(alloc)?)?;
@@ -69,20 +70,24 @@ fn path_of(alloc: Global, name: &Text, items: &[Ben]) -> Result<Texts, NoMemory>
 }
 
 #[tactic(auto, unfolding(crate::specs::Rules::path_in, crate::specs::Rules::parts_in))]
-fn path_in(alloc: Global, name: &Text, dict: &Ben) -> Result<Texts, MetaErr>
+fn path_in(alloc: Global, name: &Text, dict: &BenSlice<'_>) -> Result<Texts, MetaErr>
     requires { is_utf8 name.now ≡ true }
     ensures { Gives (λ path. path) refusal_of result
         (kept_parts (specs.path_in name.now dict.now)) }
 {
     let found = value_in(dict, Key::Path)?;
-    if !is_list(found) || !are_strings(found.items()) {
+    if !is_list(&found) {
         return Err(MetaErr::BadKind(Key::Path));
     }
-    Ok(path_of(alloc, name, found.items())?)
+    let items = found.items(alloc)?;
+    if !are_strings(&items) {
+        return Err(MetaErr::BadKind(Key::Path));
+    }
+    Ok(path_of(alloc, name, &items)?)
 }
 
 #[tactic(auto, unfolding(crate::specs::Rules::file_in))]
-fn file_in(alloc: Global, name: &Text, dict: &Ben) -> Result<FileLen, MetaErr>
+fn file_in(alloc: Global, name: &Text, dict: &BenSlice<'_>) -> Result<FileLen, MetaErr>
     requires { is_utf8 name.now ≡ true }
     ensures { Gives (λ file. file) refusal_of result (kept (specs.file_in name.now dict.now)) }
 {
@@ -91,7 +96,7 @@ fn file_in(alloc: Global, name: &Text, dict: &Ben) -> Result<FileLen, MetaErr>
     Ok(FileLen { path, len })
 }
 
-fn files_from(alloc: Global, name: &Text, dicts: &[Ben]) -> Result<Vec<FileLen>, MetaErr>
+fn files_from(alloc: Global, name: &Text, dicts: &[BenSlice<'_>]) -> Result<Vec<FileLen>, MetaErr>
     requires { is_utf8 name.now ≡ true }
     ensures exact { Gives (λ files. files.items) refusal_of result
         (all_kept (specs.files_from name.now dicts.now)) }
@@ -104,28 +109,25 @@ fn files_from(alloc: Global, name: &Text, dicts: &[Ben]) -> Result<Vec<FileLen>,
     Ok(files)
 }
 
-// Whether it is a list, not empty, of dictionaries.
-fn is_dicts(found: &Ben) -> bool
-    ensures { result ≡ specs.is_dicts found.now }
-{
-    is_list(found) && !found.items().is_empty() && are_dicts(found.items())
-}
-
 #[tactic(auto, unfolding(crate::specs::Rules::several_of))]
-fn several_of(alloc: Global, name: &Text, found: &Ben) -> Result<Vec<FileLen>, MetaErr>
+fn several_of(alloc: Global, name: &Text, found: &BenSlice<'_>) -> Result<Vec<FileLen>, MetaErr>
     requires { is_utf8 name.now ≡ true }
     ensures exact { Gives (λ files. files.items) refusal_of result
         (all_kept (specs.several_of name.now found.now)) }
     ensures some { IfOk result (λ files. 1 ≤ length files.items) }
 {
-    if !is_dicts(found) {
+    if !is_list(found) {
         return Err(MetaErr::BadKind(Key::Files));
     }
-    files_from(alloc, name, found.items())
+    let dicts = found.items(alloc)?;
+    if dicts.is_empty() || !are_dicts(&dicts) {
+        return Err(MetaErr::BadKind(Key::Files));
+    }
+    files_from(alloc, name, &dicts)
 }
 
 #[tactic(auto, unfolding(crate::specs::Rules::single_in))]
-fn single_in(alloc: Global, name: &Text, dict: &Ben) -> Result<Vec<FileLen>, MetaErr>
+fn single_in(alloc: Global, name: &Text, dict: &BenSlice<'_>) -> Result<Vec<FileLen>, MetaErr>
     requires { is_utf8 name.now ≡ true }
     ensures exact { Gives (λ files. files.items) refusal_of result
         (all_kept (specs.single_in name.now dict.now)) }
@@ -140,7 +142,7 @@ fn single_in(alloc: Global, name: &Text, dict: &Ben) -> Result<Vec<FileLen>, Met
 }
 
 #[tactic(auto, unfolding(crate::specs::Rules::files_in))]
-fn files_in(alloc: Global, name: &Text, dict: &Ben) -> Result<Vec<FileLen>, MetaErr>
+fn files_in(alloc: Global, name: &Text, dict: &BenSlice<'_>) -> Result<Vec<FileLen>, MetaErr>
     requires { is_utf8 name.now ≡ true }
     ensures exact { Gives (λ files. files.items) refusal_of result
         (all_kept (specs.files_in name.now dict.now)) }
@@ -150,7 +152,7 @@ fn files_in(alloc: Global, name: &Text, dict: &Ben) -> Result<Vec<FileLen>, Meta
         (None, None) => Err(MetaErr::Lacks(Key::Length)),
         (Some(_), Some(_)) => Err(MetaErr::BadKind(Key::Files)),
         (Some(_), None) => single_in(alloc, name, dict),
-        (None, Some(found)) => several_of(alloc, name, found),
+        (None, Some(found)) => several_of(alloc, name, &found),
     }
 }
 
@@ -170,7 +172,7 @@ fn laid_out(alloc: Global, files: Vec<FileLen>) -> Result<Layout, MetaErr>
 }
 
 #[tactic(auto, unfolding(crate::specs::Rules::layout_in))]
-pub(crate) fn layout_in(alloc: Global, name: &Text, info: &Ben) -> Result<Layout, MetaErr>
+pub(crate) fn layout_in(alloc: Global, name: &Text, info: &BenSlice<'_>) -> Result<Layout, MetaErr>
     requires { is_utf8 name.now ≡ true }
     ensures { Gives (λ layout. layout) refusal_of result (specs.layout_in name.now info.now) }
 {

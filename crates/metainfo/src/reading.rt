@@ -21,12 +21,12 @@ pub(crate) fn meta_of(alloc: Global, bytes: &[u8]) -> Result<Meta, MetaErr>
     ensures total { IfOk result (λ meta. total_of meta.layout ≡ meta.plan.total) }
     ensures digests { IfOk result (λ meta. length meta.digests ≡ meta.plan.pieces) }
 {
-    let file = file_of(alloc, bytes)?;
+    let file = file_of(bytes)?;
     let info = info_in(&file)?;
-    let name = name_in(alloc, info)?;
-    let piece_len = piece_len_in(info)?;
-    let digests = digests_in(alloc, info)?;
-    let layout = layout_in(alloc, &name, info)?;
+    let name = name_in(alloc, &info)?;
+    let piece_len = piece_len_in(&info)?;
+    let digests = digests_in(alloc, &info)?;
+    let layout = layout_in(alloc, &name, &info)?;
     let plan = plan_of(layout.total(), piece_len)?;
     check_count(digests.len() as u32, plan.pieces)?;
     let seeds = seeds_in(alloc, &file)?;
@@ -35,7 +35,7 @@ pub(crate) fn meta_of(alloc: Global, bytes: &[u8]) -> Result<Meta, MetaErr>
         layout,
         plan,
         digests,
-        info_hash: info_hash_of(bytes, info),
+        info_hash: info_hash_of(bytes, &info),
         seeds,
     })
 }

@@ -10,7 +10,7 @@ ghost use Rattle.metainfo.specs.Tests.{is_part};
 
 use crate::fields::{integer_in, is_dict, string_in, value_in};
 use crate::{Key, MetaErr, NoMemory};
-use bencode_core::{Ben, BenErr};
+use bencode_core::{BenErr, BenSlice};
 use dl_kinds::{Digests, MAX_PIECE_LEN, Plan, Text};
 use sha1::Sha1;
 use span_map::is_valid_part;
@@ -23,24 +23,24 @@ const MAX_PIECE: i64 = MAX_PIECE_LEN as i64;
 pub const DIGEST_LEN: usize = 20;
 
 #[tactic(auto, unfolding(crate::specs::Rules::file_of))]
-pub(crate) fn file_of(alloc: Global, bytes: &[u8]) -> Result<Ben, MetaErr>
+pub(crate) fn file_of(bytes: &[u8]) -> Result<BenSlice<'_>, MetaErr>
     requires { length bytes.now < 2 ^ 32 }
     ensures exact { Gives (λ file. file) refusal_of result (specs.file_of bytes.now) }
     ensures spelled { IfOk result (λ file. Spells file.value bytes.now) }
     ensures place { IfOk result (λ file. file.place ≡ 0) }
 {
-    match Ben::read(alloc, bytes) {
+    match BenSlice::read(bytes) {
         Ok(file) => Ok(file),
         Err(BenErr::NoMemory) => Err(MetaErr::NoMemory),
         Err(fault) => Err(MetaErr::Bencode(fault)),
     }
 }
 
-fn dict_of(found: &Ben) -> Result<&Ben, MetaErr>
-    ensures exact { Gives (λ dict. dict.now) refusal_of result (specs.dict_of found.now) }
-    ensures same { IfOk result (λ dict. dict.now ≡ found.now) }
+fn dict_of(found: BenSlice<'_>) -> Result<BenSlice<'_>, MetaErr>
+    ensures exact { Gives (λ dict. dict) refusal_of result (specs.dict_of found.entry) }
+    ensures same { IfOk result (λ dict. dict ≡ found.entry) }
 {
-    if is_dict(found) {
+    if is_dict(&found) {
         Ok(found)
     } else {
         Err(MetaErr::BadKind(Key::Info))
@@ -48,11 +48,14 @@ fn dict_of(found: &Ben) -> Result<&Ben, MetaErr>
 }
 
 #[tactic(auto, unfolding(crate::specs::Rules::info_in))]
-pub(crate) fn info_in(file: &Ben) -> Result<&Ben, MetaErr>
-    ensures exact { Gives (λ info. info.now) refusal_of result (specs.info_in file.now) }
-    ensures slice { IfOk result (λ info. StandsIn file.now info.now) }
+pub(crate) fn info_in<'a>(file: &BenSlice<'a>) -> Result<BenSlice<'a>, MetaErr>
+    ensures exact { Gives (λ info. info) refusal_of result (specs.info_in file.now) }
+    ensures slice { IfOk result (StandsIn file.now) }
 {
-    dict_of(value_in(dict_of(file)?, Key::Info)?)
+    if !is_dict(file) {
+        return Err(MetaErr::BadKind(Key::Info));
+    }
+    dict_of(value_in(file, Key::Info)?)
 }
 
 // The text of a valid part.
@@ -69,7 +72,7 @@ fn part_text(bytes: &[u8]) -> Option<&str>
 
 /// The name, which is a valid part of a path.
 #[tactic(auto, unfolding(crate::specs::Rules::name_in), using(crate::proofs::Parts::part_is_text))]
-pub(crate) fn name_in(alloc: Global, info: &Ben) -> Result<Text, MetaErr>
+pub(crate) fn name_in(alloc: Global, info: &BenSlice<'_>) -> Result<Text, MetaErr>
     ensures exact { Gives (λ name. name) refusal_of result (specs.name_in info.now) }
     ensures text { IfOk result (λ name. is_utf8 name ≡ true) }
 {
@@ -81,7 +84,7 @@ pub(crate) fn name_in(alloc: Global, info: &Ben) -> Result<Text, MetaErr>
 
 /// The piece length, from 1 to 67,108,864.
 #[tactic(auto, unfolding(crate::specs::Rules::piece_len_in))]
-pub(crate) fn piece_len_in(info: &Ben) -> Result<u32, MetaErr>
+pub(crate) fn piece_len_in(info: &BenSlice<'_>) -> Result<u32, MetaErr>
     ensures { Gives (λ len. len) refusal_of result (specs.piece_len_in info.now) }
 {
     match integer_in(info, Key::PieceLength)? {
@@ -105,7 +108,7 @@ fn digests_of(alloc: Global, bytes: &[u8]) -> Result<Digests, NoMemory>
 
 /// The digests, of which there are whole ones only.
 #[tactic(auto, unfolding(crate::specs::Rules::digests_in), using(crate::proofs::Lengths::digests_len))]
-pub(crate) fn digests_in(alloc: Global, info: &Ben) -> Result<Digests, MetaErr>
+pub(crate) fn digests_in(alloc: Global, info: &BenSlice<'_>) -> Result<Digests, MetaErr>
     requires { length (spelling info.now.value) < 2 ^ 32 }
     ensures exact { Gives (λ digests. digests) refusal_of result (specs.digests_in info.now) }
     ensures few { IfOk result (λ digests. length digests < 2 ^ 32) }
@@ -140,7 +143,7 @@ pub(crate) fn check_count(have: u32, want: u32) -> Result<(), MetaErr>
 }
 
 /// SHA-1 of the bytes that spell the value.
-pub(crate) fn info_hash_of(bytes: &[u8], info: &Ben) -> [u8; 20]
+pub(crate) fn info_hash_of(bytes: &[u8], info: &BenSlice<'_>) -> [u8; 20]
     requires { info.now.place + length (spelling info.now.value) ≤ length bytes.now }
     ensures { result ≡ specs.info_hash_of bytes.now info.now }
 {

@@ -9,7 +9,7 @@ ghost use Rattle.metainfo.specs.Tests.{is_seed};
 
 use crate::fields::{is_list, sought};
 use crate::{Key, MetaErr, NoMemory};
-use bencode_core::Ben;
+use bencode_core::BenSlice;
 use dl_kinds::{Text, Texts};
 use link_source::is_usable;
 use std::alloc::Global;
@@ -48,7 +48,7 @@ fn push_seed(alloc: Global, seeds: &mut Texts, url: &[u8]) -> Result<(), NoMemor
     }
 }
 
-fn seeds_among(alloc: Global, items: &[Ben]) -> Result<Texts, NoMemory>
+fn seeds_among(alloc: Global, items: &[BenSlice<'_>]) -> Result<Texts, NoMemory>
     ensures { IfOk result (λ seeds. seeds ≡ specs.seeds_among (specs.strings_among items.now)) }
 {
     let mut seeds = Texts::new(alloc);
@@ -61,7 +61,7 @@ fn seeds_among(alloc: Global, items: &[Ben]) -> Result<Texts, NoMemory>
 }
 
 // The number of the first that is no string.
-fn first_other(items: &[Ben]) -> Option<usize>
+fn first_other(items: &[BenSlice<'_>]) -> Option<usize>
     ensures found { result ≡ position (λ item. is_none (string_of item.value)) items.now }
     ensures within { IfSome result (λ place. place < length items.now) }
 {
@@ -69,7 +69,7 @@ fn first_other(items: &[Ben]) -> Option<usize>
 }
 
 #[tactic(auto, unfolding(crate::specs::Rules::seeds_of), using(crate::proofs::Lengths::items_len))]
-fn seeds_of(alloc: Global, found: &Ben) -> Result<Texts, MetaErr>
+fn seeds_of(alloc: Global, found: &BenSlice<'_>) -> Result<Texts, MetaErr>
     requires { length (spelling found.now.value) < 2 ^ 32 }
     ensures { Gives (λ seeds. seeds) refusal_of result (specs.seeds_of found.now) }
 {
@@ -81,19 +81,20 @@ fn seeds_of(alloc: Global, found: &Ben) -> Result<Texts, MetaErr>
     if !is_list(found) {
         return Err(MetaErr::BadKind(Key::UrlList));
     }
-    match first_other(found.items()) {
+    let items = found.items(alloc)?;
+    match first_other(&items) {
         Some(place) => Err(MetaErr::BadSeed(place as u32)),
-        None => Ok(seeds_among(alloc, found.items())?),
+        None => Ok(seeds_among(alloc, &items)?),
     }
 }
 
 #[tactic(auto, unfolding(crate::specs::Rules::seeds_in), using(crate::proofs::Lengths::part_len))]
-pub(crate) fn seeds_in(alloc: Global, file: &Ben) -> Result<Texts, MetaErr>
+pub(crate) fn seeds_in(alloc: Global, file: &BenSlice<'_>) -> Result<Texts, MetaErr>
     requires { length (spelling file.now.value) < 2 ^ 32 }
     ensures { Gives (λ seeds. seeds) refusal_of result (specs.seeds_in file.now) }
 {
     match sought(file, Key::UrlList) {
         None => Ok(Texts::new(alloc)),
-        Some(found) => seeds_of(alloc, found),
+        Some(found) => seeds_of(alloc, &found),
     }
 }
