@@ -15,7 +15,7 @@ use Rattle.span_map.specs.declared.files.FileLen.{FileLen}
 use Rattle.span_map.specs.declared.files.Part.{Part}
 use Rattle.payload_files.specs.Names.{name_of}
 use Rattle.payload_files.specs.Payload.{HasFiles, contents_in, payload_in}
-use Rattle.payload_files.specs.Reading.{ReadsOnly, HasPart, content_of, ReadsPart, ReadsParts}
+use Rattle.payload_files.specs.Reading.{ReadsOnly, HasPart, part_content, ReadsPart, ReadsParts}
 use Rattle.payload_files.proofs.Contents.{files_fill}
 use Rattle.payload_files.proofs.Keeping.{stays_none, stays_on}
 
@@ -24,7 +24,8 @@ module _ (dir : List ℕ) where
       → contents_in dir files new ≡ contents_in dir files old
   contents_same [] old new same = refl
   contents_same (file ∷ files) old new same =
-      ap (λ (bytes : List ℕ). bytes ∷ contents_in dir files new) (ap file_bytes (same (name_of dir file.path)))
+      ap (λ (bytes : List ℕ). bytes ∷ contents_in dir files new)
+      (ap file_bytes (same (name_of dir file.path)))
       ∙ ap (λ (rest : List (List ℕ)). file_bytes (old (name_of dir file.path)) ∷ rest) (contents_same files old new same)
 
   -- ---- the disk
@@ -62,7 +63,8 @@ module _ (dir : List ℕ) where
 
 module _ (contents : List (List ℕ)) (parts : List Part) (k : ℕ) (d : Part) (inside : k < length parts) where
   bytes_more : part_bytes contents (take (k + 1) parts)
-      ≡ part_bytes contents (take k parts) ++ part_at (content_of contents (get_or parts k d)) (get_or parts k d).at (get_or parts k d).len
+      ≡ part_bytes contents (take k parts)
+      ++ part_at (part_content contents (get_or parts k d)) (get_or parts k d).at (get_or parts k d).len
   bytes_more =
       ap (part_bytes contents) (take_more parts k d inside)
       ∙ flat_map-append _ (take k parts) (get_or parts k d ∷ [])

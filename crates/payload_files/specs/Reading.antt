@@ -20,19 +20,19 @@ pub record ReadsOnly (dir : List ℕ) (files : List FileLen) (old new : DiskStat
   pub folders : new.folders ≡ old.folders
 
 -- what the file of a part holds
-abbrev pub content_of : List (List ℕ) → Part → List ℕ
-content_of contents part = slice_index_or contents part.file []
+abbrev pub part_content : List (List ℕ) → Part → List ℕ
+part_content contents part = slice_index_or contents part.file []
 
 -- the file has all of the part
 abbrev pub HasPart : List (List ℕ) → Part → Type 0
-HasPart contents part = part.at + part.len ≤ length (content_of contents part)
+HasPart contents part = part.at + part.len ≤ length (part_content contents part)
 
 -- the file has all of the part, and these are its bytes
 pub record ReadsPart (contents : List (List ℕ)) (part : Part) (read : List ℕ) : Type 0 where
   pub within : HasPart contents part
-  pub bytes : read ≡ part_at (content_of contents part) part.at part.len
+  pub bytes : read ≡ part_at (part_content contents part) part.at part.len
 
--- The files have all of the parts of a slice, and these are its bytes. Other files may be missing, or have other lengths.
+-- The files have all of the parts of a slice, and these are its bytes. Files that have no part of it may be missing.
 pub record ReadsParts (files : List FileLen) (contents : List (List ℕ)) (at : ℕ) (read : List ℕ) : Type 0 where
   pub within : All (HasPart contents) (slice_of files at (length read))
   pub bytes : read ≡ part_bytes contents (slice_of files at (length read))

@@ -25,7 +25,8 @@ fn read_part<D: Disk>(
     requires len { length into.old ≡ part.now.len }
     ensures read { OnOk result (IsTrue D.tells
         → ReadsPart (contents_in dir.now layout.now (D.state disk.old).seen) part.now into.new) }
-    ensures looks { IsTrue D.tells → ReadsOnly dir.now layout.now (D.state disk.old) (D.state disk.new) }
+    ensures looks { IsTrue D.tells
+        → ReadsOnly dir.now layout.now (D.state disk.old) (D.state disk.new) }
     ensures cause { HasCause (D.faults disk.old) (D.faults disk.new) result }
 {
     let file = &layout.files()[part.file as usize];
@@ -49,7 +50,8 @@ pub fn read_slice<D: Disk>(
         (contents_in dir.now layout.now (D.state disk.old).seen) at into.new) }
     ensures slice { OnOk result (IsTrue D.tells
         → ReadsSlice dir.now layout.now at into.new (D.state disk.old).seen) }
-    ensures looks { IsTrue D.tells → ReadsOnly dir.now layout.now (D.state disk.old) (D.state disk.new) }
+    ensures looks { IsTrue D.tells
+        → ReadsOnly dir.now layout.now (D.state disk.old) (D.state disk.new) }
     ensures cause { HasCause (D.faults disk.old) (D.faults disk.new) result }
 {
     let parts = layout.parts(alloc, at, into.len() as u64)?;

@@ -7,7 +7,8 @@ use Rattle.dl_kinds.specs.Plan.{IsPlan, blocks_of, full_blocks, piece_of, place_
 use Rattle.dl_kinds.specs.PlanLaws.{BlocksFollow}
 use Rattle.dl_kinds.specs.declared.runs.Run.{Run}
 use Rattle.control_file.specs.declared.want.Want.{Want}
-use Rattle.resume_core.specs.Runs.{IsRunOf, IsBlockOf, run_start, run_end}
+use Rattle.span_map.specs.Jobs.{IsRun, run_start, run_end}
+use Rattle.resume_core.specs.Runs.{IsBlockOf}
 
 -- the byte at this place of the payload is one of the block's, or of the piece's
 pub record IsInBlock (total len block i : ℕ) : Type 0 where
@@ -101,19 +102,19 @@ module _ (follow : BlocksFollow) (total len : ℕ) (plan : IsPlan total len) (fi
 
 -- ---- a run
 
-module _ (follow : BlocksFollow) (want : Want) (run : Run) (plan : IsPlan want.plan.total want.plan.piece_len) (is : IsRunOf want run) where
+module _ (follow : BlocksFollow) (want : Want) (run : Run) (plan : IsPlan want.plan.total want.plan.piece_len) (is : IsRun want.plan run) where
   last_is : run.first + (run.count - 1) ≡ run.first + run.count - 1
   last_is = omega (arith, is.some)
 
   last_within : run.first + (run.count - 1) < blocks_of want.plan.total want.plan.piece_len
   last_within = omega (arith, is.some, is.within)
 
-  pub run_has_bytes : run_start want run < run_end want run
+  pub run_has_bytes : run_start want.plan run < run_end want.plan run
   run_has_bytes =
-      subst (λ (b : ℕ). run_start want run < block_end want.plan.total want.plan.piece_len b) last_is
+      subst (λ (b : ℕ). run_start want.plan run < block_end want.plan.total want.plan.piece_len b) last_is
       (some_bytes follow want.plan.total want.plan.piece_len plan run.first (run.count - 1) last_within)
 
-  pub block_in_run : (i : ℕ) → run_start want run ≤ i → i < run_end want run
+  pub block_in_run : (i : ℕ) → run_start want.plan run ≤ i → i < run_end want.plan run
       → (b : ℕ) × IsBlockOf run b × IsInBlock want.plan.total want.plan.piece_len b i
   block_in_run i from before =
       let found = which_block follow want.plan.total want.plan.piece_len plan run.first (run.count - 1) i last_within from

@@ -11,12 +11,13 @@ use Rattle.dl_kinds.specs.Plan.{piece_start, piece_end, block_start, block_end, 
 use Rattle.dl_kinds.specs.PlanLaws.{BlocksFollow}
 use Rattle.dl_kinds.specs.declared.plan.TheConstants.{BLOCK_LEN}
 use Rattle.dl_kinds.specs.declared.runs.Run.{Run}
+use Rattle.span_map.specs.Jobs.{run_start, run_end}
 use Rattle.payload_files.specs.Payload.{HasFiles}
 use Rattle.control_file.specs.declared.want.Want.{Want}
 use Rattle.resume_core.specs.Found.{Found, Absent, Refused, Used, found, found_in, ListsPiece, ListsInFlight}
 use Rattle.resume_core.specs.Resume.{PieceResumed, BlockResumed, ResumesPiece, ResumesBlock, IsHashed, Reach, payload_bytes, ReachesPiece, ReachesBlock, Sound, GiveSame, Agrees, byte_at}
 use Rattle.resume_core.specs.RunLaws.{TornUnder}
-use Rattle.resume_core.specs.Runs.{IsBlockOf, IsUsed, TornRun, ListsWithin, run_start, run_end, run_len}
+use Rattle.resume_core.specs.Runs.{IsBlockOf, IsControlUsed, TornRun, ListsWithin, run_len}
 use Rattle.resume_core.specs.Wants.{IsWant, control_name, files_in}
 use Rattle.resume_core.proofs.Apart.{control_other}
 use Rattle.resume_core.proofs.Reaching.{reach_piece, reach_block}
@@ -47,16 +48,13 @@ block_reached want f contents block gives i below = ⊎_elim
     gives
 
 -- where a control file is used nothing is given by digests
-no_hash : (want : Want) (f : Found) (contents : List (Option (List ℕ))) (piece : ℕ) → IsUsed f
+no_hash : (want : Want) (f : Found) (contents : List (Option (List ℕ))) (piece : ℕ) → IsControlUsed f
     → IsHashed want f contents piece → ⊥
 no_hash want Absent contents piece used hashed = used
 no_hash want Refused contents piece used hashed = hashed
 no_hash want (Used control) contents piece used hashed = hashed
 
 module _ (follow : BlocksFollow) (want : Want) (run : Run) (old new : Files) (under : TornUnder want run old new) where
-  total : ℕ
-  total = want.plan.total
-
   control : new (control_name want) ≡ old (control_name want)
   control = under.tears.others (control_name want) (control_other want under.want_is)
 
@@ -67,7 +65,7 @@ module _ (follow : BlocksFollow) (want : Want) (run : Run) (old new : Files) (un
 
   -- the byte is before the run or behind it
   abbrev IsOutside : ℕ → Type 0
-  IsOutside i = (i < run_start want run) ⊎ (run_start want run + run_len want run ≤ i)
+  IsOutside i = (i < run_start want.plan run) ⊎ (run_start want.plan run + run_len want.plan run ≤ i)
 
   outside_where : (i : ℕ)
       → ((c : ℕ) → IsBlockOf run c → IsInBlock want.plan.total want.plan.piece_len c i → ⊥) → IsOutside i
@@ -78,8 +76,8 @@ module _ (follow : BlocksFollow) (want : Want) (run : Run) (old new : Files) (un
       let found = block_in_run follow want run under.want_is.plan under.run_is i from inside in
       absurd (none found.0 found.1 found.2))
       (λ behind. let some = run_has_bytes follow want run under.want_is.plan under.run_is in inr (omega (arith, some, behind)))
-      (cases_lt i (run_end want run)))
-      (cases_lt i (run_start want run))
+      (cases_lt i (run_end want.plan run)))
+      (cases_lt i (run_start want.plan run))
 
   block_outside : (block i : ℕ) → ResumesBlock want old block → IsInBlock want.plan.total want.plan.piece_len block i
       → IsOutside i
@@ -100,11 +98,11 @@ module _ (follow : BlocksFollow) (want : Want) (run : Run) (old new : Files) (un
 
   same_byte : (i : ℕ) → IsOutside i → IsSome (byte_at want.layout (files_in want old) i)
       → byte_at want.layout (files_in want new) i ≡ byte_at want.layout (files_in want old) i
-  same_byte = byte_same want.dir old new (run_start want run) (run_len want run) want.layout under.tears.each
+  same_byte = byte_same want.dir old new (run_start want.plan run) (run_len want.plan run) want.layout under.tears.each
 
   reach_kept : (start end : ℕ) → Reach want (files_in want old) start end → Reach want (files_in want new) start end
   reach_kept start end reach i below =
-      byte_there want.dir old new (run_start want run) (run_len want run) want.layout under.tears.each (start + i) (reach i below)
+      byte_there want.dir old new (run_start want.plan run) (run_len want.plan run) want.layout under.tears.each (start + i) (reach i below)
 
   piece_reach : (piece : ℕ) → ReachesPiece want (files_in want old) piece → ReachesPiece want (files_in want new) piece
   piece_reach piece = reach_kept (piece_start want.plan.piece_len piece)
@@ -175,7 +173,7 @@ module _ (follow : BlocksFollow) (want : Want) (run : Run) (old new : Files) (un
         let same = agrees block before i below in
         let outside = block_outside block at before (record { from = omega arith; before = below }) in
         same_byte at outside there ∙ same
-        ∙ sym (byte_same want.dir was now (run_start want run) (run_len want run) want.layout change.each at outside
+        ∙ sym (byte_same want.dir was now (run_start want.plan run) (run_len want.plan run) want.layout change.each at outside
         (subst (λ (o : Option ℕ). IsSome o) same there))
 
   -- the bytes of a piece that is given

@@ -2,16 +2,17 @@
 use Rattle.std.specs.Prelude.{ℕ}
 use Rattle.dl_disk.specs.Files.{Files}
 use Rattle.dl_kinds.specs.declared.runs.Run.{Run}
+use Rattle.span_map.specs.Jobs.{IsRun}
 use Rattle.payload_files.specs.Payload.{HasFiles}
 use Rattle.control_file.specs.declared.want.Want.{Want}
 use Rattle.resume_core.specs.Resume.{Sound, Agrees, GiveSame, ResumesPiece, ResumesBlock}
-use Rattle.resume_core.specs.Runs.{IsRunOf, LacksRun, TornRun, ListsWithin}
+use Rattle.resume_core.specs.Runs.{LacksRun, TornRun, ListsWithin}
 use Rattle.resume_core.specs.Wants.{IsWant}
 
 -- a run that an image lacks is written to its files, whole or cut short
 pub record TornUnder (want : Want) (run : Run) (old new : Files) : Type 0 where
   pub want_is : IsWant want
-  pub run_is : IsRunOf want run
+  pub run_is : IsRun want.plan run
   pub lacks : LacksRun want run old
   pub tears : TornRun want run old new
 
@@ -42,7 +43,8 @@ TornGiveTheSame =
 
 -- a sound image is sound still
 abbrev pub TornAreSound : Type 0
-TornAreSound = (want : Want) (run : Run) (old new : Files) → TornUnder want run old new → Sound want old → Sound want new
+TornAreSound =
+    (want : Want) (run : Run) (old new : Files) → TornUnder want run old new → Sound want old → Sound want new
 
 -- and one that agrees with what the disk reads agrees with it still, where the run is written there too
 abbrev pub TornAgree : Type 0

@@ -1,32 +1,21 @@
 -- Runs of blocks, which are written where no image gives them, and pieces, which are read.
 use Rattle.std.specs.Prelude.{◌≡◌, ◌<◌, ◌≤◌, ℕ, ◌+◌, ◌-◌, List}
 use Rattle.dl_disk.specs.Files.{Files}
-use Rattle.dl_kinds.specs.Plan.{blocks_of, block_start, block_end, piece_start, piece_end}
+use Rattle.dl_kinds.specs.Plan.{piece_start, piece_end}
+use Rattle.dl_kinds.specs.declared.plan.Plan.{Plan}
 use Rattle.dl_kinds.specs.declared.runs.Run.{Run}
 use Rattle.dl_words.specs.Lists.{part_at}
+use Rattle.span_map.specs.Jobs.{run_start, run_end}
 use Rattle.payload_files.specs.Changes.{TornSlice, WritesSlice, HoldsSlice}
 use Rattle.payload_files.specs.Payload.{HasFiles, payload_in}
 use Rattle.control_file.specs.declared.want.Want.{Want}
 use Rattle.resume_core.specs.Found.{Found, Absent, Refused, Used, found_in, ListsPiece, ListsInFlight}
-use Rattle.resume_core.specs.Resume.{ResumesBlock, ReachesPiece, ReachesBlock, GiveSame}
+use Rattle.resume_core.specs.Resume.{ResumesBlock, ReachesPiece, ReachesBlock, GiveSame, GivesAtLeast}
 use Rattle.resume_core.specs.Wants.{files_in}
 
--- the run has a block, and ends within the plan
-pub record IsRunOf (want : Want) (run : Run) : Type 0 where
-  pub some : 1 ≤ run.count
-  pub within : run.first + run.count ≤ blocks_of want.plan.total want.plan.piece_len
-
--- its blocks cover the bytes of the payload from here ..
-abbrev pub run_start : Want → Run → ℕ
-run_start want run = block_start want.plan.piece_len run.first
-
--- .. to before here
-abbrev pub run_end : Want → Run → ℕ
-run_end want run = block_end want.plan.total want.plan.piece_len (run.first + run.count - 1)
-
--- so many
-abbrev pub run_len : Want → Run → ℕ
-run_len want run = run_end want run - run_start want run
+-- the bytes of a run
+abbrev pub run_len : Plan → Run → ℕ
+run_len plan run = run_end plan run - run_start plan run
 
 -- the block is one of the run's
 pub record IsBlockOf (run : Run) (block : ℕ) : Type 0 where
@@ -34,14 +23,14 @@ pub record IsBlockOf (run : Run) (block : ℕ) : Type 0 where
   pub before : block < run.first + run.count
 
 -- a control file of the want stands
-abbrev pub IsUsed : Found → Type 0
-IsUsed Absent = ⊥
-IsUsed Refused = ⊥
-IsUsed (Used control) = Unit {0}
+abbrev pub IsControlUsed : Found → Type 0
+IsControlUsed Absent = ⊥
+IsControlUsed Refused = ⊥
+IsControlUsed (Used control) = Unit {0}
 
 -- the image has a control file of the want, and gives no block of the run
 pub record LacksRun (want : Want) (run : Run) (image : Files) : Type 0 where
-  pub used : IsUsed (found_in want image)
+  pub used : IsControlUsed (found_in want image)
   pub blocks : (block : ℕ) → IsBlockOf run block → ResumesBlock want image block → ⊥
 
 -- so does each image
@@ -50,21 +39,23 @@ LackRun want run images = (image : Files) → images image → LacksRun want run
 
 -- a write of the run, whole or cut short
 abbrev pub TornRun : Want → Run → Files → Files → Type 0
-TornRun want run = TornSlice want.dir want.layout (run_start want run) (run_len want run)
+TornRun want run = TornSlice want.dir want.layout (run_start want.plan run) (run_len want.plan run)
 
 -- where the files had their lengths, the payload has these bytes in the run's place, and is the same elsewhere
 abbrev pub WritesRun : Want → Run → List ℕ → Files → Files → Type 0
-WritesRun want run bytes = WritesSlice want.dir want.layout (run_start want run) bytes
+WritesRun want run bytes = WritesSlice want.dir want.layout (run_start want.plan run) bytes
 
 -- where the files had their lengths, these bytes stand in the run's place
 abbrev pub HoldsRun : Want → Run → List ℕ → Files → Files → Type 0
-HoldsRun want run bytes = HoldsSlice want.dir want.layout (run_start want run) bytes
+HoldsRun want run bytes = HoldsSlice want.dir want.layout (run_start want.plan run) bytes
 
 -- the control file lists nothing past the end of a file
 pub record ListsWithin (want : Want) (image : Files) : Type 0 where
-  pub pieces : (piece : ℕ) → ListsPiece (found_in want image) piece → ReachesPiece want (files_in want image) piece
+  pub pieces :
+      (piece : ℕ) → ListsPiece (found_in want image) piece → ReachesPiece want (files_in want image) piece
   pub blocks :
-      (block : ℕ) → ListsInFlight want.plan.piece_len (found_in want image) block → ReachesBlock want (files_in want image) block
+      (block : ℕ) → ListsInFlight want.plan.piece_len (found_in want image) block
+      → ReachesBlock want (files_in want image) block
 
 abbrev pub ListWithin : Want → (Files → Type 0) → Type 0
 ListWithin want images = (image : Files) → images image → ListsWithin want image
@@ -75,12 +66,18 @@ pub record GivesAsBefore (want : Want) (images : Files → Type 0) (image : File
   pub left : images before
   pub same : GiveSame want before image
 
+-- each of these images gives the same as one before, or at least what one gave
 abbrev pub GiveAsBefore : Want → (Files → Type 0) → (Files → Type 0) → Type 0
 GiveAsBefore want old new = (image : Files) → new image → GivesAsBefore want old image
+
+abbrev pub GiveAtLeast : Want → (Files → Type 0) → (Files → Type 0) → Type 0
+GiveAtLeast want old new = (image : Files) → new image → GivesAtLeast want old image
 
 -- where the files have their lengths, these are the bytes of the piece
 abbrev pub ReadsPiece : Want → ℕ → List ℕ → Files → Type 0
 ReadsPiece want piece bytes seen =
     let start = piece_start want.plan.piece_len piece in
     HasFiles want.dir want.layout seen
-    → bytes ≡ part_at (payload_in want.dir want.layout seen) start (piece_end want.plan.total want.plan.piece_len piece - start)
+    → bytes
+    ≡ part_at (payload_in want.dir want.layout seen) start
+    (piece_end want.plan.total want.plan.piece_len piece - start)

@@ -4,10 +4,11 @@ ghost use Rattle.dl_kinds.specs.Causes.{HasCause};
 ghost use Rattle.dl_kinds.specs.Plan.{piece_start, piece_end};
 ghost use Rattle.dl_disk.specs.Passes.{Performs};
 ghost use Rattle.dl_disk.specs.State.{LeftSince};
+ghost use Rattle.span_map.specs.Jobs.{IsRun};
 ghost use Rattle.payload_files.specs.Reading.{ReadsOnly};
 ghost use Rattle.resume_core.specs.Causes.{HasStoreCause};
 ghost use Rattle.resume_core.specs.Resume.{AreSound};
-ghost use Rattle.resume_core.specs.Runs.{IsRunOf, run_len, LackRun, TornRun, WritesRun, HoldsRun, ListWithin, GiveAsBefore, ReadsPiece};
+ghost use Rattle.resume_core.specs.Runs.{run_len, LackRun, TornRun, WritesRun, HoldsRun, ListWithin, GiveAsBefore, GiveAtLeast, ReadsPiece};
 ghost use Rattle.resume_core.specs.Wants.{IsWant};
 
 use crate::fault::StoreErr;
@@ -27,8 +28,8 @@ fn put_run<D: Disk>(
     bytes: &[u8],
 ) -> Result<(), IoErr>
     requires want { IsWant want.now }
-    requires run { IsRunOf want.now run }
-    requires len { length bytes.now ≡ run_len want.now run }
+    requires run { IsRun want.now.plan run }
+    requires len { length bytes.now ≡ run_len want.now.plan run }
     ensures written { OnOk result (IsTrue D.tells
         → WritesRun want.now run bytes.now (D.state disk.old).seen (D.state disk.new).seen) }
     ensures stands { OnOk result (IsTrue D.tells
@@ -52,8 +53,8 @@ pub fn write_run<D: Disk>(
     bytes: &[u8],
 ) -> Result<(), StoreErr>
     requires want { IsWant want.now }
-    requires run { IsRunOf want.now run }
-    requires len { length bytes.now ≡ run_len want.now run }
+    requires run { IsRun want.now.plan run }
+    requires len { length bytes.now ≡ run_len want.now.plan run }
     requires lacks { IsTrue D.tells → LackRun want.now run (D.state disk.old).may_leave }
     ensures written { OnOk result (IsTrue D.tells
         → WritesRun want.now run bytes.now (D.state disk.old).seen (D.state disk.new).seen) }
@@ -64,6 +65,8 @@ pub fn write_run<D: Disk>(
     ensures folders { IsTrue D.tells → (D.state disk.new).folders ≡ (D.state disk.old).folders }
 
     // At each moment an image gives what one gave before, and stays sound.
+    ensures keeps { IsTrue D.tells → GiveAtLeast want.now (D.state disk.old).may_leave
+        (LeftSince (D.state disk.new) (D.state disk.old).moment) }
     ensures gives { IsTrue D.tells → ListWithin want.now (D.state disk.old).may_leave
         → GiveAsBefore want.now (D.state disk.old).may_leave
         (LeftSince (D.state disk.new) (D.state disk.old).moment) }

@@ -4,6 +4,8 @@ use Rattle.std.specs.List.{sum_by}
 use Rattle.span_map.specs.Slices.{slice_of}
 use Rattle.span_map.specs.declared.files.Part.{Part}
 use Rattle.payload_files.specs.Payload.{contents_in}
+use Rattle.payload_files.specs.Reading.{ReadsPart}
+use Rattle.std.specs.Prelude.{IsTrue}
 use Rattle.payload_files.proofs.SliceSteps.{next_sum, next_fits}
 use Rattle.payload_files.proofs.ReadSteps.{reads_on, part_before, slice_read, next_within, next_bytes, all_read}
 use Rattle.payload_files.proofs.reading.read_slice.Goals as goal
@@ -36,14 +38,24 @@ loop-part-preserved g c =
     ap (sum_by len_of) c.deref-part-items.ensures.value ∙ c.in_ok-parts.ensures.len in
     let inside = c.loop-part-test.true in
     let fits = next_fits dir files c.args.at c.args.into.now parts slice sum k first_of inside done was.sum in
+    let size : length bytes ≡ part.len =
+    omega (
+      arith,
+      fits,
+      c.loop-part.auto.into,
+      c.read_part.auto.into,
+      length-take (done + part.len - done) (drop done into),
+      length-drop done into,
+    ) in
+    let read : IsTrue d.tells → ReadsPart contents part bytes =
+    λ told. part_before dir files start.seen before.seen part bytes (was.looks told).stays.seen
+    (c.in_ok-read_part.ensures.read told) in
     record {
       sum = next_sum dir files c.args.at c.args.into.now parts slice sum k first_of inside done was.sum;
-      within = λ told. next_within contents parts k first_of inside bytes (was.within told)
-          (part_before dir files start.seen before.seen part bytes (was.looks told).stays.seen (c.in_ok-read_part.ensures.read told));
-      bytes = λ told. next_bytes contents parts k first_of inside into bytes done (omega (arith, fits, c.loop-part.auto.into))
-          (omega (arith, fits, c.loop-part.auto.into, c.read_part.auto.into, length-take (done + part.len - done) (drop done into), length-drop done into))
-          (was.bytes told)
-          (part_before dir files start.seen before.seen part bytes (was.looks told).stays.seen (c.in_ok-read_part.ensures.read told));
+      within = λ told. next_within contents parts k first_of inside bytes (was.within told) (read told);
+      bytes = λ told. next_bytes contents parts k first_of inside into bytes done
+          (omega (arith, fits, c.loop-part.auto.into)) size
+          (was.bytes told) (read told);
       looks = λ told. reads_on dir files start before after (was.looks told) (c.read_part.ensures.looks told);
       faults = c.in_ok-read_part.ensures.cause.done ∙ was.faults;
     }
@@ -55,10 +67,14 @@ returns-clause-slice g c told =
     let into = c.loop-part.into in
     let was = c.loop-part.invariant in
     let slice : c.deref-part-items.result.now ≡ slice_of files c.args.at (length into) =
-    c.deref-part-items.ensures.value ∙ c.in_ok-parts.ensures.parts ∙ ap (slice_of files c.args.at) (sym c.loop-part.auto.into) in
+    c.deref-part-items.ensures.value ∙ c.in_ok-parts.ensures.parts
+    ∙ ap (slice_of files c.args.at) (sym c.loop-part.auto.into) in
     let full : c.loop-part.read ≡ length c.args.into.now =
-    was.sum ∙ ap (sum_by len_of) (take_all c.loop-part.part-index c.deref-part-items.result.now c.loop-part-test.false ∙ c.deref-part-items.ensures.value)
+    was.sum
+    ∙ ap (sum_by len_of)
+    (take_all c.loop-part.part-index c.deref-part-items.result.now c.loop-part-test.false
+    ∙ c.deref-part-items.ensures.value)
     ∙ c.in_ok-parts.ensures.len in
     slice_read c.args.dir.now files seen c.args.at into c.parts_hold_slices.ensures
-    (all_read files (contents_in c.args.dir.now files seen) c.args.at c.deref-part-items.result.now into c.loop-part.part-index c.loop-part.read
-    slice c.loop-part-test.false (omega (arith, full, c.loop-part.auto.into)) (was.within told) (was.bytes told))
+    (all_read files (contents_in c.args.dir.now files seen) c.args.at c.deref-part-items.result.now into
+    c.loop-part.part-index c.loop-part.read slice c.loop-part-test.false (omega (arith, full, c.loop-part.auto.into)) (was.within told) (was.bytes told))
