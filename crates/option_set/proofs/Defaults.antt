@@ -9,11 +9,11 @@ use Rattle.option_set.specs.declared.kinds.Word.{Word}
 use Rattle.option_set.specs.declared.kinds.Word.TheVariants as word
 use Rattle.option_set.specs.Settings.{IsWithinLimits, MeetsRule}
 use Rattle.option_set.specs.Table.{row_of_text}
-use Rattle.option_set.specs.Values.{default_values, AreValues, number_of, text_of_word}
+use Rattle.option_set.specs.Values.{default_values, AreValues, number_value, text_of_word}
 use Rattle.std.specs.Prelude.{IfSome, Contains, codes}
 
 -- each default is within its limits
-default_within : (num : Num) → IsWithinLimits num (number_of default_values num)
+default_within : (num : Num) → IsWithinLimits num (number_value default_values num)
 default_within AutoSaveInterval = (lit≤ tt, lit≤ tt)
 default_within CheckIntegrity = (lit≤ tt, lit≤ tt)
 default_within EnableRpc = (lit≤ tt, lit≤ tt)

@@ -28,9 +28,9 @@ MeetsRule rule.Gid text = IsGidText text
 MeetsRule rule.FileList text = IsFileList text
 
 -- the value is spelled as the option's values are
-abbrev pub IsSpelled : Opt → List ℕ → Type 0
-IsSpelled (opt.Num num) text = (value : ℕ) × (number_value (row_of_number num).spelling text ≡ Some value)
-IsSpelled (opt.Word word) text = MeetsRule (row_of_text word).rule text
+abbrev pub SpellsValue : Opt → List ℕ → Type 0
+SpellsValue (opt.Num num) text = (value : ℕ) × (number_value (row_of_number num).spelling text ≡ Some value)
+SpellsValue (opt.Word word) text = MeetsRule (row_of_text word).rule text
 
 -- the text spells a number that isn't within the limits of the option of this name
 pub record IsOutside (name text : List ℕ) (least most : ℕ) : Type 0 where

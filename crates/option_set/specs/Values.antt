@@ -56,8 +56,8 @@ place_of_word word.RpcSecret = 4
 place_of_word word.SelectFile = 5
 
 -- the value of an option
-abbrev pub number_of : OptionValues → Num → ℕ
-number_of values num = slice_index values.numbers (place_of_number num)
+abbrev pub number_value : OptionValues → Num → ℕ
+number_value values num = slice_index values.numbers (place_of_number num)
 
 abbrev pub text_of_word : OptionValues → Word → Option (List ℕ)
 text_of_word values word = slice_index_or values.texts (place_of_word word) None
@@ -80,7 +80,7 @@ with_setting values (Text text value) =
 pub record AreValues (values : OptionValues) : Type 0 where
   pub numbers_len : length values.numbers ≡ 14
   pub texts_len : length values.texts ≡ 6
-  pub within : (num : Num) → IsWithinLimits num (number_of values num)
+  pub within : (num : Num) → IsWithinLimits num (number_value values num)
   pub met : (text : Word) → IfSome (text_of_word values text) (MeetsRule (row_of_text text).rule)
 
 -- a number as it is shown: a size in bytes
@@ -90,7 +90,7 @@ number_text Size value = decimal value
 number_text Truth value = if value == 0 then codes "false" else codes "true"
 
 abbrev pub value_text : OptionValues → Opt → Option (List ℕ)
-value_text values (opt.Num num) = Some (number_text (row_of_number num).spelling (number_of values num))
+value_text values (opt.Num num) = Some (number_text (row_of_number num).spelling (number_value values num))
 value_text values (opt.Word text) = text_of_word values text
 
 abbrev pub is_of_downloads : Scope → Bool

@@ -2,7 +2,7 @@
 ghost use Rattle.std.specs.Prelude.{◌≡◌, ◌<◌, ◌++◌, IsTrue, IfOk, OnOk, IfSome, option_copied};
 ghost use Rattle.option_set.specs.Table.{table_row, row_of_number, row_of_text};
 ghost use Rattle.option_set.specs.Settings.{IsWithinLimits, MeetsRule};
-ghost use Rattle.option_set.specs.Values.{place_of_number, place_of_word, number_of, text_of_word, default_values, with_setting, number_text, value_text, is_shown, shown_pairs, shown_options};
+ghost use Rattle.option_set.specs.Values.{place_of_number, place_of_word, number_value, text_of_word, default_values, with_setting, number_text, value_text, is_shown, shown_pairs, shown_options};
 
 use crate::setting::Assigned;
 use crate::{Num, Opt, Scope, Setting, Spelling, Word};
@@ -171,7 +171,7 @@ impl Options {
 
     /// The value of an option of a number; 0 and 1 are the truth values.
     pub fn number(&self, name: Num) -> u64
-        ensures value { result ≡ number_of self.now name }
+        ensures value { result ≡ number_value self.now name }
         ensures within { IsWithinLimits name result }
     {
         self.numbers[number_place(name)]

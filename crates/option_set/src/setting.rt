@@ -1,7 +1,7 @@
 // Settings, and how they are read.
 ghost use Rattle.std.specs.Prelude.{◌≡◌, ◌≢◌, ◌↔◌, ◌<◌, ◌≤◌, ◌^◌, ℕ, IsTrue, IsOk, IfOk, IsErrOf, IfErr, IfSome, MatchResult, length, Contains};
 ghost use Rattle.option_set.specs.Table.{table_row, row_of_number, row_of_text};
-ghost use Rattle.option_set.specs.Settings.{IsWithinLimits, MeetsRule, IsSpelled, IsOutside};
+ghost use Rattle.option_set.specs.Settings.{IsWithinLimits, MeetsRule, SpellsValue, IsOutside};
 ghost use Rattle.option_set.specs.Assignments.{IsSettingOf, ReadsNumber, option_of};
 ghost use Rattle.option_set.specs.declared.setting.OptErr.TheVariants.{Unknown, BadValue, OutOfRange, NoMemory};
 
@@ -125,7 +125,7 @@ pub fn read(alloc: Global, name: &str, value: &str) -> Result<Setting, OptErr>
     ensures ok { IfOk result (λ setting. IsSettingOf name.now value.now setting) }
     ensures unknown { IsErrOf result Unknown → (option : Opt) → (table_row option).name ≢ name.now }
     ensures bad_value { IsErrOf result BadValue
-        → (option : Opt) × ((table_row option).name ≡ name.now) × ¬ IsSpelled option value.now }
+        → (option : Opt) × ((table_row option).name ≡ name.now) × ¬ SpellsValue option value.now }
     ensures out_of_range { (least : ℕ) → (most : ℕ) → IsErrOf result (OutOfRange least most)
         → IsOutside name.now value.now least most }
 {
