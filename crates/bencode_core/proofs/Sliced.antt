@@ -11,7 +11,7 @@ use Rattle.std.specs.Str.{bytes_eq}
 use Rattle.bencode_core.specs.Value.{Value, Values, Members, Spells, AreSound, AreMembers, integer, string, list, dict, no_values, value, no_members, member, spelling, spellings, member_spellings, string_spelling, depths, member_depths}
 use Rattle.bencode_core.specs.Placed.{Placed, kind_of, integer_of, string_of, items_of, items_at, placed_values, members_at, member_of, placed_members, StandsIn}
 use Rattle.bencode_core.specs.Reading.{◌>>=◌, begins, kind_at, integer_at, narrowed_integer, number_at, string_at, value_at, reading, fault_of}
-use Rattle.bencode_core.specs.Passing.{value_len, IsReadFault}
+use Rattle.bencode_core.specs.Passing.{value_len, TellsFault}
 use Rattle.bencode_core.specs.Slice.{value_read, spelled_value, IsSlice, IsFront, placed_at}
 use Rattle.bencode_core.specs.declared.ben.BenKind.TheVariants as kinds
 use Rattle.bencode_core.specs.declared.fault.BenErr.{BenErr}
@@ -90,7 +90,7 @@ slice_string (dict ms) bytes spells is = absurd cc
 pub front_is : (v : Value) (place : ℕ) (rest bytes : List ℕ) → IsFront v rest bytes → value_len (value_at 100 place bytes) ≡ Ok (length (spelling v))
 front_is v place rest bytes at = ap value_len (ap (value_at 100 place) at.spelled ∙ value_again v 100 place rest at.is_value.sound at.is_value.depth (omega (arith, at.is_value.short)))
 
-pub no_fault : (r : Result ℕ BenErr) (len : ℕ) (e : BenErr) → r ≡ Ok len → IsReadFault e → IfSome (fault_of e) (λ f. r ≡ Err f) → ⊥
+pub no_fault : (r : Result ℕ BenErr) (len : ℕ) (e : BenErr) → r ≡ Ok len → TellsFault e → IfSome (fault_of e) (λ f. r ≡ Err f) → ⊥
 no_fault r len e is = fails (fault_of e)
   where
     fails : (o : Option BenErr) → is_some o ≡ true → IfSome o (λ f. r ≡ Err f) → ⊥

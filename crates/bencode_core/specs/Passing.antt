@@ -15,8 +15,8 @@ member_len (Ok m) = Ok (m.0, length (member_spelling m))
 member_len (Err fault) = Err fault
 
 -- an error that tells a fault of the bytes
-abbrev pub IsReadFault : BenErr → Type 0
-IsReadFault e = is_some (fault_of e) ≡ true
+abbrev pub TellsFault : BenErr → Type 0
+TellsFault e = is_some (fault_of e) ≡ true
 
 -- a call answers how many bytes spell the value that is read, or the fault
 abbrev pub AnswersLen : Result ℕ BenErr → Result Value BenErr → Type 0

@@ -13,7 +13,7 @@ use crate::scalars::{END, begins, integer_at, string_at};
 fn integer_len(place: u32, bytes: &[u8]) -> Result<u32, BenErr>
     requires { place + length bytes.now < 2 ^ 32 }
     ensures exact { passing.AnswersLen result (specs.integer_value place bytes.now) }
-    ensures fault { IfErr result passing.IsFault }
+    ensures fault { IfErr result passing.TellsFault }
 {
     let Some((narrowed, rest)) = integer_at(bytes) else {
         return Err(BenErr::Wrong { at: place });
@@ -28,7 +28,7 @@ fn integer_len(place: u32, bytes: &[u8]) -> Result<u32, BenErr>
 fn string_len(place: u32, bytes: &[u8]) -> Result<u32, BenErr>
     requires { place + length bytes.now < 2 ^ 32 }
     ensures exact { passing.AnswersLen result (specs.string_value place bytes.now) }
-    ensures fault { IfErr result passing.IsFault }
+    ensures fault { IfErr result passing.TellsFault }
 {
     let Some((_, rest)) = string_at(bytes) else {
         return Err(BenErr::Wrong { at: place });
@@ -42,7 +42,7 @@ pub(crate) fn value_len(levels: u32, place: u32, bytes: &[u8]) -> Result<u32, Be
     requires deep { levels ≤ MAX_DEPTH }
     requires fits { place + length bytes.now < 2 ^ 32 }
     ensures exact { passing.AnswersLen result (specs.value_at levels place bytes.now) }
-    ensures fault { IfErr result passing.IsFault }
+    ensures fault { IfErr result passing.TellsFault }
 {
     if levels == 0 {
         if is_spelled(bytes) {
@@ -65,7 +65,7 @@ fn list_len(levels: u32, place: u32, bytes: &[u8]) -> Result<u32, BenErr>
     requires fits { place + length bytes.now < 2 ^ 32 }
     requires opened { 0 < length bytes.now }
     ensures exact { passing.AnswersLen result (specs.list_value (specs.value_at levels) place bytes.now) }
-    ensures fault { IfErr result passing.IsFault }
+    ensures fault { IfErr result passing.TellsFault }
 {
     let mut next = place + 1;
     let mut rest = behind(1, bytes);
@@ -91,7 +91,7 @@ fn member_len<'a>(
     ensures exact { Gives {Y = List ℕ × ℕ} (λ m. (m.0.now, m.1)) specs.fault_of result
         (passing.member_len (specs.member_by (specs.value_at levels)
         (option_map (λ k. k.now) before.entry) place bytes.now)) }
-    ensures fault { IfErr result passing.IsFault }
+    ensures fault { IfErr result passing.TellsFault }
 {
     let (key, rest) = key_at(before, place, bytes)?;
     let key_len = (bytes.len() - rest.len()) as u32;
@@ -105,7 +105,7 @@ fn dict_len(levels: u32, place: u32, bytes: &[u8]) -> Result<u32, BenErr>
     requires fits { place + length bytes.now < 2 ^ 32 }
     requires opened { 0 < length bytes.now }
     ensures exact { passing.AnswersLen result (specs.dict_value (specs.value_at levels) place bytes.now) }
-    ensures fault { IfErr result passing.IsFault }
+    ensures fault { IfErr result passing.TellsFault }
 {
     let mut before: Option<&[u8]> = None;
     let mut next = place + 1;

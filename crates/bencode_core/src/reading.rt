@@ -4,7 +4,7 @@ ghost use Rattle.dl_words.specs.Answers.{Gives};
 ghost use Rattle.bencode_core.specs.Value.{spelling, string_spelling};
 ghost use Rattle.bencode_core.specs.Node.{last_key};
 ghost use Rattle.bencode_core.specs.declared.ben.Member.{Member};
-ghost use Rattle.bencode_core.specs.Passing.{IsReadFault};
+ghost use Rattle.bencode_core.specs.Passing.{TellsFault};
 ghost use Rattle.bencode_core.specs.Reading as specs;
 
 use crate::ben::{Ben, BenKind, Member, Node};
@@ -89,7 +89,7 @@ pub(crate) fn key_at<'a>(
     ensures exact { Gives (λ k. k.0.now) specs.fault_of result
         (specs.key_at (option_map (λ k. k.now) before.entry) place bytes.now) }
     ensures rest { IfOk result (λ k. bytes.now ≡ string_spelling k.0.now ++ k.1.now) }
-    ensures fault { IfErr result IsReadFault }
+    ensures fault { IfErr result TellsFault }
 {
     let Some((key, rest)) = string_at(bytes) else {
         return Err(BenErr::Wrong { at: place });
