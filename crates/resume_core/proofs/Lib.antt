@@ -1,4 +1,5 @@
 pub mod Apart
+pub mod PieceBytes
 pub mod Puts
 pub mod Reaching
 pub mod RunBytes
