@@ -8,7 +8,7 @@ ghost use Rattle.span_map.specs.Jobs.{IsRun};
 ghost use Rattle.payload_files.specs.Reading.{ReadsOnly, ReadsSlice};
 ghost use Rattle.resume_core.specs.Causes.{HasStoreCause};
 ghost use Rattle.resume_core.specs.Resume.{AreSound};
-ghost use Rattle.resume_core.specs.Runs.{run_len, LackRun, TornRun, WritesRun, HoldsRun, ListWithin, GiveAsBefore, GiveAtLeast, ReadsPiece, bytes_of_piece};
+ghost use Rattle.resume_core.specs.Runs.{run_len, LackRun, TornRun, WritesRun, HoldsRun, ListWithin, AllAgree, GiveAsBefore, GiveAtLeast, ReadsPiece, len_of_piece};
 ghost use Rattle.resume_core.specs.Wants.{IsWant};
 
 use crate::fault::StoreErr;
@@ -64,11 +64,15 @@ pub fn write_run<D: Disk>(
         → Performs (TornRun want.now run) (D.state disk.old) (D.state disk.new) }
     ensures folders { IsTrue D.tells → (D.state disk.new).folders ≡ (D.state disk.old).folders }
 
-    // At each moment an image gives what one gave before, and stays sound.
+    // At each moment an image gives what one gave before, agrees still with what is read, and stays sound.
     ensures keeps { IsTrue D.tells → GiveAtLeast want.now (D.state disk.old).may_leave
         (LeftSince (D.state disk.new) (D.state disk.old).moment) }
     ensures gives { IsTrue D.tells → ListWithin want.now (D.state disk.old).may_leave
         → GiveAsBefore want.now (D.state disk.old).may_leave
+        (LeftSince (D.state disk.new) (D.state disk.old).moment) }
+    ensures agrees { IsTrue D.tells → ListWithin want.now (D.state disk.old).may_leave
+        → AllAgree want.now (D.state disk.old).seen (D.state disk.old).may_leave
+        → AllAgree want.now (D.state disk.new).seen
         (LeftSince (D.state disk.new) (D.state disk.old).moment) }
     ensures sound { IsTrue D.tells
         → AreSound want.now (D.state disk.old).seen (D.state disk.old).may_leave
@@ -91,7 +95,7 @@ fn fill_piece<D: Disk>(
 ) -> Result<(), IoErr>
     requires want { IsWant want.now }
     requires piece { piece < want.now.plan.pieces }
-    requires len { length into.old ≡ bytes_of_piece want.now.plan piece }
+    requires len { length into.old ≡ len_of_piece want.now.plan piece }
     ensures read { OnOk result (IsTrue D.tells
         → ReadsPiece want.now piece (D.state disk.old).seen into.new) }
     ensures slice { OnOk result (IsTrue D.tells
@@ -121,7 +125,7 @@ pub fn read_piece<D: Disk>(
     ensures slice { OnOk result (IsTrue D.tells
         → ReadsSlice want.now.dir want.now.layout (piece_start want.now.plan.piece_len piece)
         into.new.items (D.state disk.old).seen) }
-    ensures len { OnOk result (vec_len into.new ≡ bytes_of_piece want.now.plan piece) }
+    ensures len { OnOk result (vec_len into.new ≡ len_of_piece want.now.plan piece) }
     ensures looks { IsTrue D.tells
         → ReadsOnly want.now.dir want.now.layout (D.state disk.old) (D.state disk.new) }
     ensures cause { HasStoreCause (D.faults disk.old) (D.faults disk.new) result }
