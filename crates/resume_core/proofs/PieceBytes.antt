@@ -31,7 +31,8 @@ module _ (contents : List (List ℕ)) (low high : ℕ) where
   byte_in_part : (c rest : List ℕ) (at len k : ℕ) → at + len ≤ length c → k < len
       → get_or (part_at c at len ++ rest) k 0 ≡ get_or c (at + k) 0
   byte_in_part c rest at len k room below =
-      let size : length (part_at c at len) ≡ len = length-take-le len (drop at c) (omega (arith, room, length-drop at c)) in
+      let size : length (part_at c at len) ≡ len =
+      length-take-le len (drop at c) (omega (arith, room, length-drop at c)) in
       get_or_append_left (part_at c at len) rest 0 k (omega (arith, below, size))
       ∙ get_or-take len (drop at c) k 0 below
       ∙ get_or-drop at c k 0
@@ -40,7 +41,8 @@ module _ (contents : List (List ℕ)) (low high : ℕ) where
   byte_behind_part : (c rest : List ℕ) (at len k : ℕ) → at + len ≤ length c → len ≤ k
       → get_or (part_at c at len ++ rest) k 0 ≡ get_or rest (k - len) 0
   byte_behind_part c rest at len k room behind =
-      let size : length (part_at c at len) ≡ len = length-take-le len (drop at c) (omega (arith, room, length-drop at c)) in
+      let size : length (part_at c at len) ≡ len =
+      length-take-le len (drop at c) (omega (arith, room, length-drop at c)) in
       get_or-append_right (part_at c at len) rest len k 0 size behind
 
   module _ (x : FileLen) (files : List FileLen) (n start : ℕ) where
@@ -56,17 +58,21 @@ module _ (contents : List (List ℕ)) (low high : ℕ) where
     some_bytes meet =
         ap (λ (l : List Part). part_bytes contents (l ++ others)) (part_some n start x.len low high meet)
 
-    some_parts : max start low < min (start + x.len) high → All (HasPart contents) (parts_from n start (x ∷ files) low high)
+    some_parts : max start low < min (start + x.len) high
+        → All (HasPart contents) (parts_from n start (x ∷ files) low high)
         → All (HasPart contents) (first ∷ others)
-    some_parts meet all = subst (λ (l : List Part). All (HasPart contents) (l ++ others)) (part_some n start x.len low high meet) all
+    some_parts meet all =
+        subst (λ (l : List Part). All (HasPart contents) (l ++ others)) (part_some n start x.len low high meet) all
 
     no_bytes : min (start + x.len) high ≤ max start low
         → part_bytes contents (parts_from n start (x ∷ files) low high) ≡ part_bytes contents others
     no_bytes apart = ap (λ (l : List Part). part_bytes contents (l ++ others)) (part_none n start x.len low high apart)
 
-    no_parts : min (start + x.len) high ≤ max start low → All (HasPart contents) (parts_from n start (x ∷ files) low high)
+    no_parts : min (start + x.len) high ≤ max start low
+        → All (HasPart contents) (parts_from n start (x ∷ files) low high)
         → All (HasPart contents) others
-    no_parts apart all = subst (λ (l : List Part). All (HasPart contents) (l ++ others)) (part_none n start x.len low high apart) all
+    no_parts apart all =
+        subst (λ (l : List Part). All (HasPart contents) (l ++ others)) (part_none n start x.len low high apart) all
 
   byte_from : (files : List FileLen) (stands : List (Option (List ℕ))) (n start : ℕ) → length stands ≡ length files
       → Stand n stands → All (HasPart contents) (parts_from n start files low high) → high ≤ start + total_of files
@@ -103,8 +109,11 @@ module _ (contents : List (List ℕ)) (low high : ℕ) where
             let next : Stand (n + 1) stands =
             λ j in_rest. ap (λ (k : ℕ). get_or contents k []) (let e : n + 1 + j ≡ n + suc j = omega arith in e)
             ∙ stand (suc j) (omega (arith, in_rest)) in
-            let step = λ (kept : All (HasPart contents) (others x files n start)) (from_next : max (start + x.len) low ≤ i).
-            byte_from files stands (n + 1) (start + x.len) (omega (arith, same)) next kept (omega (arith, enough, total)) i from_next below in
+            let count : length stands ≡ length files = omega (arith, same) in
+            let most : high ≤ start + x.len + total_of files = omega (arith, enough, total) in
+            let step =
+            λ (kept : All (HasPart contents) (others x files n start)) (from_next : max (start + x.len) low ≤ i).
+            byte_from files stands (n + 1) (start + x.len) count next kept most i from_next below in
             let minus : i - (start + x.len) ≡ i - start - x.len = omega arith in
             subst (λ (b : Bool). cond b (slice_get here (i - start)) rest ≡ Some (get_or bytes (i - max start low) 0))
             (sym (le-ltb (i - start) x.len (omega (arith, from, past))))
@@ -119,10 +128,12 @@ module _ (contents : List (List ℕ)) (low high : ℕ) where
                   step (All-tail (HasPart contents) part (others x files n start) kept) (omega (arith, from, past))
                   ∙ ap (λ (v : ℕ). Some v)
                   (sym (ap (λ (l : List ℕ). get_or l k 0) (some_bytes x files n start meet)
-                  ∙ byte_behind_part (get_or contents n []) behind part.at part.len k has (omega (arith, from, past, below, meet))
+                  ∙ byte_behind_part (get_or contents n []) behind part.at part.len k has
+                  (omega (arith, from, past, below, meet))
                   ∙ ap (λ (m : ℕ). get_or behind m 0) place))
               | inr apart ↦
-                  let place : i - max start low ≡ i - max (start + x.len) low = omega (arith, from, past, below, apart) in
+                  let place : i - max start low ≡ i - max (start + x.len) low =
+                  omega (arith, from, past, below, apart) in
                   step (no_parts x files n start apart all) (omega (arith, from, past))
                   ∙ ap (λ (v : ℕ). Some v)
                   (sym (ap (λ (l : List ℕ). get_or l (i - max start low) 0) (no_bytes x files n start apart)
@@ -139,16 +150,19 @@ module _ (dir : List ℕ) (seen : Files) where
   stands_in (x ∷ files) (suc j) = stands_in files j
 
 -- what was read of the parts of a slice
-module _ (want : Want) (is : IsWant want) (seen : Files) (start end : ℕ) (read : List ℕ) (within : end ≤ want.plan.total)
-    (size : length read ≡ end - start) (reads : ReadsParts want.layout (contents_in want.dir want.layout seen) start read) where
+module _ (want : Want) (is : IsWant want) (seen : Files) (start end : ℕ) (read : List ℕ)
+    (within : end ≤ want.plan.total) (size : length read ≡ end - start)
+    (reads : ReadsParts want.layout (contents_in want.dir want.layout seen) start read) where
   byte_read : (k : ℕ) → start + k < end → byte_at want.layout (files_in want seen) (start + k) ≡ Some (get_or read k 0)
   byte_read k below =
       let contents = contents_in want.dir want.layout seen in
       let high : ℕ = start + length read in
       let found = byte_from contents start high want.layout (files_in want seen) 0 0
       (length-map want.layout (λ file. seen (name_of want.dir file.path)))
-      (λ j inside. ap (λ (m : ℕ). get_or contents m []) (let e : 0 + j ≡ j = omega arith in e) ∙ stands_in want.dir seen want.layout j)
-      reads.within (omega (arith, within, size, is.total, below)) (start + k) (omega arith) (omega (arith, size, below)) in
+      (λ j inside. ap (λ (m : ℕ). get_or contents m []) (let e : 0 + j ≡ j = omega arith in e)
+      ∙ stands_in want.dir seen want.layout j)
+      reads.within (omega (arith, within, size, is.total, below)) (start + k) (omega arith)
+      (omega (arith, size, below)) in
       ap (byte_at want.layout (files_in want seen)) (let e : start + k ≡ start + k - 0 = omega arith in e)
       ∙ found
       ∙ ap (λ (l : List ℕ). Some (get_or l (start + k - max 0 start) 0)) (sym reads.bytes)
@@ -165,6 +179,7 @@ module _ (want : Want) (is : IsWant want) (seen : Files) (start end : ℕ) (read
       same_lists read (map there (range_with_len 0 count)) (size ∙ sym long)
       (λ k d inside.
       let below : k < count = omega (arith, inside, size) in
-      same_Some (get_or read k d) (get_or read k 0) (sym (slice_get-get_or read k d inside) ∙ slice_get-get_or read k 0 inside)
+      same_Some (get_or read k d) (get_or read k 0)
+      (sym (slice_get-get_or read k d inside) ∙ slice_get-get_or read k 0 inside)
       ∙ ap (λ (o : Option ℕ). unwrap_or o 0) (sym (byte_read k (omega (arith, below))))
       ∙ sym (get_or-map-range_with_len there 0 count k k d below (omega arith)))

@@ -105,7 +105,8 @@ module _ (follow : BlocksFollow) (want : Want) (run : Run) (old new : Files) (un
 
   reach_kept : (start end : ℕ) → Reach want (files_in want old) start end → Reach want (files_in want new) start end
   reach_kept start end reach i below =
-      byte_there want.dir old new (run_start want.plan run) (run_len want.plan run) want.layout under.tears.each (start + i) (reach i below)
+      byte_there want.dir old new (run_start want.plan run) (run_len want.plan run) want.layout under.tears.each
+      (start + i) (reach i below)
 
   piece_reach : (piece : ℕ) → ReachesPiece want (files_in want old) piece → ReachesPiece want (files_in want new) piece
   piece_reach piece = reach_kept (piece_start want.plan.piece_len piece)
@@ -176,7 +177,8 @@ module _ (follow : BlocksFollow) (want : Want) (run : Run) (old new : Files) (un
         let same = agrees block before i below in
         let outside = block_outside block at before (record { from = omega arith; before = below }) in
         same_byte at outside there ∙ same
-        ∙ sym (byte_same want.dir was now (run_start want.plan run) (run_len want.plan run) want.layout change.each at outside
+        ∙ sym (byte_same want.dir was now (run_start want.plan run) (run_len want.plan run) want.layout change.each
+        at outside
         (subst (λ (o : Option ℕ). IsSome o) same there))
 
   -- the bytes of a piece that is given

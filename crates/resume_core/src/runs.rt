@@ -64,7 +64,7 @@ pub fn write_run<D: Disk>(
         → Performs (TornRun want.now run) (D.state disk.old) (D.state disk.new) }
     ensures folders { IsTrue D.tells → (D.state disk.new).folders ≡ (D.state disk.old).folders }
 
-    // At each moment an image gives what one gave before, agrees still with what is read, and stays sound.
+    // At each moment an image gives what one gave before, agrees with what is read, and stays sound.
     ensures keeps { IsTrue D.tells → GiveAtLeast want.now (D.state disk.old).may_leave
         (LeftSince (D.state disk.new) (D.state disk.old).moment) }
     ensures gives { IsTrue D.tells → ListWithin want.now (D.state disk.old).may_leave
