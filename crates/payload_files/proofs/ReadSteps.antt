@@ -26,7 +26,8 @@ module _ (dir : List ℕ) where
   contents_same (file ∷ files) old new same =
       ap (λ (bytes : List ℕ). bytes ∷ contents_in dir files new)
       (ap file_bytes (same (name_of dir file.path)))
-      ∙ ap (λ (rest : List (List ℕ)). file_bytes (old (name_of dir file.path)) ∷ rest) (contents_same files old new same)
+      ∙ ap (λ (rest : List (List ℕ)). file_bytes (old (name_of dir file.path)) ∷ rest)
+      (contents_same files old new same)
 
   -- ---- the disk
 
@@ -79,13 +80,15 @@ module _ (contents : List (List ℕ)) (parts : List Part) (k : ℕ) (d : Part) (
       → take (done + (get_or parts k d).len) (put_mid done (done + (get_or parts k d).len - done) into read)
       ≡ part_bytes contents (take (k + 1) parts)
   next_bytes into read done room size before reads =
-      take-put_mid done (done + (get_or parts k d).len - done) into read (done + (get_or parts k d).len) (omega (arith, size)) room
+      take-put_mid done (done + (get_or parts k d).len - done) into read (done + (get_or parts k d).len)
+      (omega (arith, size)) room
       ∙ ap (λ (l : List ℕ). l ++ read) before
       ∙ ap (λ (l : List ℕ). part_bytes contents (take k parts) ++ l) reads.bytes
       ∙ sym bytes_more
 
 -- all of them
-pub all_read : (files : List FileLen) (contents : List (List ℕ)) (at : ℕ) (parts : List Part) (into : List ℕ) (k done : ℕ)
+pub all_read : (files : List FileLen) (contents : List (List ℕ)) (at : ℕ) (parts : List Part) (into : List ℕ)
+    (k done : ℕ)
     → parts ≡ slice_of files at (length into) → length parts ≤ k → length into ≤ done
     → All (HasPart contents) (take k parts) → take done into ≡ part_bytes contents (take k parts)
     → ReadsParts files contents at into

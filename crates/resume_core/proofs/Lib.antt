@@ -1,6 +1,7 @@
 pub mod Apart
 pub mod Ends
 pub mod Filed
+pub mod PieceBytes
 pub mod Puts
 pub mod Reaching
 pub mod RunBytes

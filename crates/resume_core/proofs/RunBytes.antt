@@ -47,7 +47,8 @@ piece_of_block total len b i inside = record {
 pub one_block : (total len b c i : ℕ) → IsInBlock total len b i → IsInBlock total len c i → b ≡ c
 one_block total len b c i in_b in_c =
     let piece : piece_of len b ≡ piece_of len c =
-    one_piece total len (piece_of len b) (piece_of len c) i (piece_of_block total len b i in_b) (piece_of_block total len c i in_c) in
+    one_piece total len (piece_of len b) (piece_of len c) i (piece_of_block total len b i in_b)
+    (piece_of_block total len c i in_c) in
     let start : piece_of len b * len ≡ piece_of len c * len = ap (λ (p : ℕ). p * len) piece in
     let place : place_of len b ≡ place_of len c =
     omega (arith, start, in_b.from, in_b.before, in_c.from, in_c.before) in
@@ -79,7 +80,8 @@ module _ (follow : BlocksFollow) (total len : ℕ) (plan : IsPlan total len) (fi
       omega (arith, before, next, here)
 
   -- which of them has the byte
-  which_block : (n i : ℕ) → first + n < blocks_of total len → block_start len first ≤ i → i < block_end total len (first + n)
+  which_block : (n i : ℕ) → first + n < blocks_of total len → block_start len first ≤ i
+      → i < block_end total len (first + n)
       → (b : ℕ) × (first ≤ b) × (b ≤ first + n) × IsInBlock total len b i
   which_block zero i within from before =
       let e : first + 0 ≡ first = omega arith in (
@@ -102,7 +104,8 @@ module _ (follow : BlocksFollow) (total len : ℕ) (plan : IsPlan total len) (fi
 
 -- ---- a run
 
-module _ (follow : BlocksFollow) (want : Want) (run : Run) (plan : IsPlan want.plan.total want.plan.piece_len) (is : IsRun want.plan run) where
+module _ (follow : BlocksFollow) (want : Want) (run : Run) (plan : IsPlan want.plan.total want.plan.piece_len)
+    (is : IsRun want.plan run) where
   last_is : run.first + (run.count - 1) ≡ run.first + run.count - 1
   last_is = omega (arith, is.some)
 
@@ -117,6 +120,7 @@ module _ (follow : BlocksFollow) (want : Want) (run : Run) (plan : IsPlan want.p
   pub block_in_run : (i : ℕ) → run_start want.plan run ≤ i → i < run_end want.plan run
       → (b : ℕ) × IsBlockOf run b × IsInBlock want.plan.total want.plan.piece_len b i
   block_in_run i from before =
-      let found = which_block follow want.plan.total want.plan.piece_len plan run.first (run.count - 1) i last_within from
+      let found =
+      which_block follow want.plan.total want.plan.piece_len plan run.first (run.count - 1) i last_within from
       (subst (λ (b : ℕ). i < block_end want.plan.total want.plan.piece_len b) (sym last_is) before) in
       (found.0, record { from = found.1; before = omega (arith, found.2, is.some) }, found.3)

@@ -45,27 +45,27 @@ module _ (start len at n : ℕ) where
 -- ---- all of them
 
 module _ (dir : List ℕ) (old new : Files) (at n : ℕ) where
-  -- the files from one on, which begins at this place of the payload
+  -- a file that begins at this place of the payload
+  abbrev Tears : ℕ → FileLen → Type 0
+  Tears start file =
+      MayMake (TornFile start file.len at n) (old (name_of dir file.path)) (new (name_of dir file.path))
+
+  -- the files from one on, which begins there
   abbrev TornFrom : ℕ → List FileLen → Type 0
   TornFrom start files =
-      (k : ℕ) (file : FileLen) → slice_get files k ≡ Some file
-      → MayMake (TornFile (start + total_of (take k files)) file.len at n)
-      (old (name_of dir file.path)) (new (name_of dir file.path))
+      (k : ℕ) (file : FileLen) → slice_get files k ≡ Some file → Tears (start + total_of (take k files)) file
 
-  first_of : (start : ℕ) (file : FileLen) (files : List FileLen) → TornFrom start (file ∷ files)
-      → MayMake (TornFile start file.len at n) (old (name_of dir file.path)) (new (name_of dir file.path))
+  first_of : (start : ℕ) (file : FileLen) (files : List FileLen) → TornFrom start (file ∷ files) → Tears start file
   first_of start file files torn =
       let e : start + total_of (take 0 (file ∷ files)) ≡ start = omega arith in
-      subst (λ (s : ℕ). MayMake (TornFile s file.len at n) (old (name_of dir file.path)) (new (name_of dir file.path))) e
-      (torn 0 file refl)
+      subst (λ (s : ℕ). Tears s file) e (torn 0 file refl)
 
   rest_of : (start : ℕ) (file : FileLen) (files : List FileLen) → TornFrom start (file ∷ files)
       → TornFrom (start + file.len) files
   rest_of start file files torn k other at_k =
       let e : start + total_of (take (suc k) (file ∷ files)) ≡ start + file.len + total_of (take k files) =
       omega (arith, sum_by-cons (λ (f : FileLen). f.len) file (take k files)) in
-      subst (λ (s : ℕ). MayMake (TornFile s other.len at n) (old (name_of dir other.path)) (new (name_of dir other.path))) e
-      (torn (suc k) other at_k)
+      subst (λ (s : ℕ). Tears s other) e (torn (suc k) other at_k)
 
   byte_from : (files : List FileLen) (start : ℕ) → TornFrom start files
       → (i : ℕ) → (start + i < at) ⊎ (at + n ≤ start + i)
@@ -83,16 +83,20 @@ module _ (dir : List ℕ) (old new : Files) (at n : ℕ) where
             let test = lt-ltb i file.len inside in
             let has : IsSome (slice_get (file_bytes was) i) =
             subst (λ (b : Bool). IsSome (cond b (slice_get (file_bytes was) i) olds)) test some in
-            subst (λ (b : Bool). cond b (slice_get (file_bytes now) i) news ≡ cond b (slice_get (file_bytes was) i) olds)
+            subst
+            (λ (b : Bool). cond b (slice_get (file_bytes now) i) news ≡ cond b (slice_get (file_bytes was) i) olds)
             (sym test)
             (file_byte start file.len at n was now i (first_of start file files torn) outside has)
         | inr past ↦
             let test = le-ltb i file.len past in
-            let has : IsSome olds = subst (λ (b : Bool). IsSome (cond b (slice_get (file_bytes was) i) olds)) test some in
-            subst (λ (b : Bool). cond b (slice_get (file_bytes now) i) news ≡ cond b (slice_get (file_bytes was) i) olds)
+            let has : IsSome olds =
+            subst (λ (b : Bool). IsSome (cond b (slice_get (file_bytes was) i) olds)) test some in
+            subst
+            (λ (b : Bool). cond b (slice_get (file_bytes now) i) news ≡ cond b (slice_get (file_bytes was) i) olds)
             (sym test)
             (byte_from files (start + file.len) (rest_of start file files torn) (i - file.len)
-            (⊎_elim (λ before. inl (omega (arith, before, past))) (λ behind. inr (omega (arith, behind, past))) outside) has)
+            (⊎_elim (λ before. inl (omega (arith, before, past))) (λ behind. inr (omega (arith, behind, past))) outside)
+            has)
       ]
 
   there_from : (files : List FileLen) (start : ℕ) → TornFrom start files → (i : ℕ)
@@ -121,8 +125,7 @@ module _ (dir : List ℕ) (old new : Files) (at n : ℕ) where
     from_start : TornFrom 0 files
     from_start k file at_k =
         let e : total_of (take k files) ≡ 0 + total_of (take k files) = omega arith in
-        subst (λ (s : ℕ). MayMake (TornFile s file.len at n) (old (name_of dir file.path)) (new (name_of dir file.path))) e
-        (torn k file at_k)
+        subst (λ (s : ℕ). Tears s file) e (torn k file at_k)
 
     -- the bytes outside of the range
     pub byte_same : (i : ℕ) → (i < at) ⊎ (at + n ≤ i)

@@ -15,7 +15,7 @@ use Rattle.span_map.specs.Jobs.{run_start, run_end}
 use Rattle.payload_files.specs.Payload.{HasFiles}
 use Rattle.control_file.specs.declared.want.Want.{Want}
 use Rattle.resume_core.specs.Found.{Found, Absent, Refused, Used, found, found_in, ListsPiece, ListsInFlight}
-use Rattle.resume_core.specs.Resume.{PieceResumed, BlockResumed, ResumesPiece, ResumesBlock, IsHashed, Reach, payload_bytes, ReachesPiece, ReachesBlock, Sound, GiveSame, Agrees, byte_at}
+use Rattle.resume_core.specs.Resume.{PieceResumed, BlockResumed, ResumesPiece, ResumesBlock, IsHashed, Reach, piece_payload, ReachesPiece, ReachesBlock, Sound, GiveSame, Agrees, byte_at}
 use Rattle.resume_core.specs.RunLaws.{TornUnder}
 use Rattle.resume_core.specs.Runs.{IsBlockOf, IsControlUsed, TornRun, ListsWithin, run_len}
 use Rattle.resume_core.specs.Wants.{IsWant, control_name, files_in}
@@ -27,7 +27,8 @@ use Rattle.resume_core.proofs.Tearing.{byte_same, byte_there}
 pub sound_within : (want : Want) (image : Files) → Sound want image → ListsWithin want image
 sound_within want image sound = record { pieces = sound.pieces; blocks = sound.blocks }
 
-pub whole_within : (want : Want) (image : Files) → IsWant want → HasFiles want.dir want.layout image → ListsWithin want image
+pub whole_within : (want : Want) (image : Files) → IsWant want → HasFiles want.dir want.layout image
+    → ListsWithin want image
 whole_within want image is has = record {
   pieces = λ piece lists. reach_piece want is image has piece;
   blocks = λ block lists. reach_block want is image has block;
@@ -75,7 +76,9 @@ module _ (follow : BlocksFollow) (want : Want) (run : Run) (old new : Files) (un
       (λ inside.
       let found = block_in_run follow want run under.want_is.plan under.run_is i from inside in
       absurd (none found.0 found.1 found.2))
-      (λ behind. let some = run_has_bytes follow want run under.want_is.plan under.run_is in inr (omega (arith, some, behind)))
+      (λ behind.
+      let some = run_has_bytes follow want run under.want_is.plan under.run_is in
+      inr (omega (arith, some, behind)))
       (cases_lt i (run_end want.plan run)))
       (cases_lt i (run_start want.plan run))
 
@@ -102,7 +105,8 @@ module _ (follow : BlocksFollow) (want : Want) (run : Run) (old new : Files) (un
 
   reach_kept : (start end : ℕ) → Reach want (files_in want old) start end → Reach want (files_in want new) start end
   reach_kept start end reach i below =
-      byte_there want.dir old new (run_start want.plan run) (run_len want.plan run) want.layout under.tears.each (start + i) (reach i below)
+      byte_there want.dir old new (run_start want.plan run) (run_len want.plan run) want.layout under.tears.each
+      (start + i) (reach i below)
 
   piece_reach : (piece : ℕ) → ReachesPiece want (files_in want old) piece → ReachesPiece want (files_in want new) piece
   piece_reach piece = reach_kept (piece_start want.plan.piece_len piece)
@@ -173,13 +177,13 @@ module _ (follow : BlocksFollow) (want : Want) (run : Run) (old new : Files) (un
         let same = agrees block before i below in
         let outside = block_outside block at before (record { from = omega arith; before = below }) in
         same_byte at outside there ∙ same
-        ∙ sym (byte_same want.dir was now (run_start want.plan run) (run_len want.plan run) want.layout change.each at outside
+        ∙ sym (byte_same want.dir was now (run_start want.plan run) (run_len want.plan run) want.layout change.each
+        at outside
         (subst (λ (o : Option ℕ). IsSome o) same there))
 
   -- the bytes of a piece that is given
   piece_bytes_kept : (piece : ℕ) → ResumesPiece want old piece
-      → payload_bytes want (files_in want new) (piece_start want.plan.piece_len piece) (piece_end want.plan.total want.plan.piece_len piece)
-      ≡ payload_bytes want (files_in want old) (piece_start want.plan.piece_len piece) (piece_end want.plan.total want.plan.piece_len piece)
+      → piece_payload want (files_in want new) piece ≡ piece_payload want (files_in want old) piece
   piece_bytes_kept piece gives =
       let start = piece_start want.plan.piece_len piece in
       let end = piece_end want.plan.total want.plan.piece_len piece in

@@ -4,16 +4,14 @@ use Rattle.dl_disk.specs.Files.{Files}
 use Rattle.dl_kinds.specs.Plan.{piece_start, piece_end}
 use Rattle.dl_kinds.specs.declared.plan.Plan.{Plan}
 use Rattle.dl_kinds.specs.declared.runs.Run.{Run}
-use Rattle.dl_words.specs.Lists.{part_at}
 use Rattle.span_map.specs.Jobs.{run_start, run_end}
 use Rattle.payload_files.specs.Changes.{TornSlice, WritesSlice, HoldsSlice}
-use Rattle.payload_files.specs.Payload.{HasFiles, payload_in}
 use Rattle.control_file.specs.declared.want.Want.{Want}
 use Rattle.resume_core.specs.Found.{Found, Absent, Refused, Used, found_in, ListsPiece, ListsInFlight}
-use Rattle.resume_core.specs.Resume.{ResumesBlock, ReachesPiece, ReachesBlock, GiveSame, GivesAtLeast}
+use Rattle.resume_core.specs.Resume.{ResumesBlock, Agrees, ReachesPiece, ReachesBlock, piece_payload, GiveSame, GivesAtLeast}
 use Rattle.resume_core.specs.Wants.{files_in}
 
--- the bytes of a run
+-- how many bytes a run has
 abbrev pub run_len : Plan → Run → ℕ
 run_len plan run = run_end plan run - run_start plan run
 
@@ -60,6 +58,10 @@ pub record ListsWithin (want : Want) (image : Files) : Type 0 where
 abbrev pub ListWithin : Want → (Files → Type 0) → Type 0
 ListWithin want images = (image : Files) → images image → ListsWithin want image
 
+-- each image agrees with what the disk reads
+abbrev pub AllAgree : Want → Files → (Files → Type 0) → Type 0
+AllAgree want seen images = (image : Files) → images image → Agrees want seen image
+
 -- one of the images before gave the same
 pub record GivesAsBefore (want : Want) (images : Files → Type 0) (image : Files) : Type 0 where
   pub before : Files
@@ -73,11 +75,11 @@ GiveAsBefore want old new = (image : Files) → new image → GivesAsBefore want
 abbrev pub GiveAtLeast : Want → (Files → Type 0) → (Files → Type 0) → Type 0
 GiveAtLeast want old new = (image : Files) → new image → GivesAtLeast want old image
 
--- where the files have their lengths, these are the bytes of the piece
-abbrev pub ReadsPiece : Want → ℕ → List ℕ → Files → Type 0
-ReadsPiece want piece bytes seen =
-    let start = piece_start want.plan.piece_len piece in
-    HasFiles want.dir want.layout seen
-    → bytes
-    ≡ part_at (payload_in want.dir want.layout seen) start
-    (piece_end want.plan.total want.plan.piece_len piece - start)
+-- how many bytes a piece has
+abbrev pub len_of_piece : Plan → ℕ → ℕ
+len_of_piece plan piece = piece_end plan.total plan.piece_len piece - piece_start plan.piece_len piece
+
+-- the files have the whole piece, and these are its bytes
+pub record ReadsPiece (want : Want) (piece : ℕ) (seen : Files) (read : List ℕ) : Type 0 where
+  pub reaches : ReachesPiece want (files_in want seen) piece
+  pub bytes : read ≡ piece_payload want (files_in want seen) piece

@@ -1,14 +1,14 @@
 // Runs of blocks are written where no image gives them, and pieces are read.
-ghost use Rattle.std.specs.Prelude.{◌≡◌, ◌<◌, ◌-◌, length, vec_len, IsTrue, OnOk};
+ghost use Rattle.std.specs.Prelude.{◌≡◌, ◌<◌, length, vec_len, IsTrue, OnOk};
 ghost use Rattle.dl_kinds.specs.Causes.{HasCause};
-ghost use Rattle.dl_kinds.specs.Plan.{piece_start, piece_end};
+ghost use Rattle.dl_kinds.specs.Plan.{piece_start};
 ghost use Rattle.dl_disk.specs.Passes.{Performs};
 ghost use Rattle.dl_disk.specs.State.{LeftSince};
 ghost use Rattle.span_map.specs.Jobs.{IsRun};
-ghost use Rattle.payload_files.specs.Reading.{ReadsOnly};
+ghost use Rattle.payload_files.specs.Reading.{ReadsOnly, ReadsSlice};
 ghost use Rattle.resume_core.specs.Causes.{HasStoreCause};
 ghost use Rattle.resume_core.specs.Resume.{AreSound};
-ghost use Rattle.resume_core.specs.Runs.{run_len, LackRun, TornRun, WritesRun, HoldsRun, ListWithin, GiveAsBefore, GiveAtLeast, ReadsPiece};
+ghost use Rattle.resume_core.specs.Runs.{run_len, LackRun, TornRun, WritesRun, HoldsRun, ListWithin, AllAgree, GiveAsBefore, GiveAtLeast, ReadsPiece, len_of_piece};
 ghost use Rattle.resume_core.specs.Wants.{IsWant};
 
 use crate::fault::StoreErr;
@@ -64,11 +64,15 @@ pub fn write_run<D: Disk>(
         → Performs (TornRun want.now run) (D.state disk.old) (D.state disk.new) }
     ensures folders { IsTrue D.tells → (D.state disk.new).folders ≡ (D.state disk.old).folders }
 
-    // At each moment an image gives what one gave before, and stays sound.
+    // At each moment an image gives what one gave before, agrees with what is read, and stays sound.
     ensures keeps { IsTrue D.tells → GiveAtLeast want.now (D.state disk.old).may_leave
         (LeftSince (D.state disk.new) (D.state disk.old).moment) }
     ensures gives { IsTrue D.tells → ListWithin want.now (D.state disk.old).may_leave
         → GiveAsBefore want.now (D.state disk.old).may_leave
+        (LeftSince (D.state disk.new) (D.state disk.old).moment) }
+    ensures agrees { IsTrue D.tells → ListWithin want.now (D.state disk.old).may_leave
+        → AllAgree want.now (D.state disk.old).seen (D.state disk.old).may_leave
+        → AllAgree want.now (D.state disk.new).seen
         (LeftSince (D.state disk.new) (D.state disk.old).moment) }
     ensures sound { IsTrue D.tells
         → AreSound want.now (D.state disk.old).seen (D.state disk.old).may_leave
@@ -81,8 +85,32 @@ pub fn write_run<D: Disk>(
     Ok(())
 }
 
-/// Reads a piece. Its bytes stand in the buffer after Ok, in place of what was there. A file that ends before the piece
-/// does is a fault of the disk.
+// Fills the buffer with the bytes of a piece.
+fn fill_piece<D: Disk>(
+    alloc: Global,
+    disk: &mut D,
+    want: &Want,
+    piece: u32,
+    into: &mut [u8],
+) -> Result<(), IoErr>
+    requires want { IsWant want.now }
+    requires piece { piece < want.now.plan.pieces }
+    requires len { length into.old ≡ len_of_piece want.now.plan piece }
+    ensures read { OnOk result (IsTrue D.tells
+        → ReadsPiece want.now piece (D.state disk.old).seen into.new) }
+    ensures slice { OnOk result (IsTrue D.tells
+        → ReadsSlice want.now.dir want.now.layout (piece_start want.now.plan.piece_len piece)
+        into.new (D.state disk.old).seen) }
+    ensures looks { IsTrue D.tells
+        → ReadsOnly want.now.dir want.now.layout (D.state disk.old) (D.state disk.new) }
+    ensures cause { HasCause (D.faults disk.old) (D.faults disk.new) result }
+{
+    let (start, _) = want.plan.piece_span(piece);
+    read_slice(alloc, disk, want.dir.as_str(), &want.layout, start, into)
+}
+
+/// Reads a piece. After Ok its bytes stand in the buffer, in place of what was there. A file that is missing or ends
+/// before the piece does is a fault of the disk.
 pub fn read_piece<D: Disk>(
     alloc: Global,
     disk: &mut D,
@@ -93,16 +121,17 @@ pub fn read_piece<D: Disk>(
     requires want { IsWant want.now }
     requires piece { piece < want.now.plan.pieces }
     ensures read { OnOk result (IsTrue D.tells
-        → ReadsPiece want.now piece into.new.items (D.state disk.old).seen) }
-    ensures len { OnOk result (vec_len into.new
-        ≡ piece_end want.now.plan.total want.now.plan.piece_len piece
-        - piece_start want.now.plan.piece_len piece) }
+        → ReadsPiece want.now piece (D.state disk.old).seen into.new.items) }
+    ensures slice { OnOk result (IsTrue D.tells
+        → ReadsSlice want.now.dir want.now.layout (piece_start want.now.plan.piece_len piece)
+        into.new.items (D.state disk.old).seen) }
+    ensures len { OnOk result (vec_len into.new ≡ len_of_piece want.now.plan piece) }
     ensures looks { IsTrue D.tells
         → ReadsOnly want.now.dir want.now.layout (D.state disk.old) (D.state disk.new) }
     ensures cause { HasStoreCause (D.faults disk.old) (D.faults disk.new) result }
 {
-    let (start, len) = want.plan.piece_span(piece);
+    let (_, len) = want.plan.piece_span(piece);
     into.resize(len as usize, 0)?;
-    read_slice(alloc, disk, want.dir.as_str(), &want.layout, start, into)?;
+    fill_piece(alloc, disk, want, piece, into)?;
     Ok(())
 }

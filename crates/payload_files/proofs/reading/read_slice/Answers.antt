@@ -77,4 +77,5 @@ returns-clause-slice g c told =
     ∙ c.in_ok-parts.ensures.len in
     slice_read c.args.dir.now files seen c.args.at into c.parts_hold_slices.ensures
     (all_read files (contents_in c.args.dir.now files seen) c.args.at c.deref-part-items.result.now into
-    c.loop-part.part-index c.loop-part.read slice c.loop-part-test.false (omega (arith, full, c.loop-part.auto.into)) (was.within told) (was.bytes told))
+    c.loop-part.part-index c.loop-part.read slice c.loop-part-test.false
+    (omega (arith, full, c.loop-part.auto.into)) (was.within told) (was.bytes told))

@@ -1,4 +1,4 @@
-use Rattle.resume_core.proofs.WrittenRuns.{written_keeps, written_gives, written_sound}
+use Rattle.resume_core.proofs.WrittenRuns.{written_keeps, written_gives, written_agrees, written_sound}
 use Rattle.resume_core.proofs.runs.write_run.Goals as goal
 
 pub returns-in_err-put_run-clause-gives : goal.returns-in_err-put_run-clause-gives
@@ -36,3 +36,15 @@ returns-clause-keeps g c told =
     written_keeps c.args.want.now c.args.run (g.D.Disk.state c.args.disk.now) (g.D.Disk.state c.put_run.new.disk)
     c.requires.want c.requires.run (c.requires.lacks told) (c.put_run.ensures.performs told)
     c.torn_files_keep_what_is_given.ensures.pieces c.torn_files_keep_what_is_given.ensures.blocks
+
+pub returns-in_err-put_run-clause-agrees : goal.returns-in_err-put_run-clause-agrees
+returns-in_err-put_run-clause-agrees g c told =
+    written_agrees c.args.want.now c.args.run (g.D.Disk.state c.args.disk.now) (g.D.Disk.state c.put_run.new.disk)
+    c.requires.want c.requires.run (c.requires.lacks told) (c.put_run.ensures.performs told)
+    c.torn_files_keep_what_is_given.ensures.agree
+
+pub returns-clause-agrees : goal.returns-clause-agrees
+returns-clause-agrees g c told =
+    written_agrees c.args.want.now c.args.run (g.D.Disk.state c.args.disk.now) (g.D.Disk.state c.put_run.new.disk)
+    c.requires.want c.requires.run (c.requires.lacks told) (c.put_run.ensures.performs told)
+    c.torn_files_keep_what_is_given.ensures.agree
