@@ -1,6 +1,9 @@
 pub mod Apart
 pub mod Ends
 pub mod Filed
+pub mod Listings
+pub mod Partial
+pub mod Places
 pub mod Puts
 pub mod Reaching
 pub mod Same
@@ -10,3 +13,5 @@ pub mod Savings
 pub mod Stretched
 pub mod Stretching
 pub mod Wholes
+pub mod TableRows
+pub mod TableSaves

@@ -6,4 +6,5 @@ pub mod Resume
 pub mod Steps
 pub mod SaveLaws
 pub mod StretchLaws
+pub mod Tables
 pub mod Wants

@@ -5,7 +5,9 @@ mod control_files;
 mod fault;
 mod finishing;
 mod laws;
+mod listing;
 mod names;
+mod progress;
 mod whole_files;
 
 pub use fault::StoreErr;
@@ -14,3 +16,4 @@ pub use laws::{
     finished_files_are_sound, same_files_give_the_same, saved_files_give_what_is_listed,
     saves_give_either, stretched_files_keep_what_is_given,
 };
+pub use progress::save;
