@@ -1,7 +1,10 @@
 pub mod Apart
 pub mod Ends
 pub mod Filed
+pub mod Listings
+pub mod Partial
 pub mod PieceBytes
+pub mod Places
 pub mod Puts
 pub mod Reaching
 pub mod RunBytes
@@ -11,6 +14,8 @@ pub mod Saving
 pub mod Savings
 pub mod Stretched
 pub mod Stretching
+pub mod TableRows
+pub mod TableSaves
 pub mod Tearing
 pub mod Torn
 pub mod Wholes

@@ -8,4 +8,5 @@ pub mod Runs
 pub mod SaveLaws
 pub mod Steps
 pub mod StretchLaws
+pub mod Tables
 pub mod Wants

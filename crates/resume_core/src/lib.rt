@@ -5,8 +5,10 @@ mod control_files;
 mod fault;
 mod finishing;
 mod laws;
+mod listing;
 mod names;
 mod runs;
+mod progress;
 mod whole_files;
 
 pub use fault::StoreErr;
@@ -17,3 +19,4 @@ pub use laws::{
     torn_files_keep_what_is_given,
 };
 pub use runs::{read_piece, write_run};
+pub use progress::save;
