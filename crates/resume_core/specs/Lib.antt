@@ -3,6 +3,7 @@ pub mod Found
 pub mod Laws
 pub mod Listing
 pub mod Resume
+pub mod States
 pub mod Steps
 pub mod SaveLaws
 pub mod StretchLaws
