@@ -6,6 +6,7 @@ pub mod Resume
 pub mod RunLaws
 pub mod Runs
 pub mod SaveLaws
+pub mod States
 pub mod Steps
 pub mod StretchLaws
 pub mod Tables

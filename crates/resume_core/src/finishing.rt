@@ -3,12 +3,10 @@ ghost use Rattle.std.specs.Prelude.{◌≡◌, IsTrue, IsErrOf, OnOk};
 ghost use Rattle.dl_kinds.specs.Causes.{HasCause};
 ghost use Rattle.dl_kinds.specs.declared.outside.IoErr.TheVariants.{NoMemory as OutOfMemory};
 ghost use Rattle.dl_disk.specs.Calls.{Stays};
-ghost use Rattle.dl_disk.specs.Passes.{Performs};
-ghost use Rattle.dl_disk.specs.State.{LeftSince};
 ghost use Rattle.resume_core.specs.Causes.{HasStoreCause};
-ghost use Rattle.resume_core.specs.Resume.{AreSound};
-ghost use Rattle.resume_core.specs.Steps.{Finishes, AreFinished};
-ghost use Rattle.resume_core.specs.Wants.{IsWant, control_name, files_in};
+ghost use Rattle.resume_core.specs.States.{PerformsFinish, SamePayload, StaysSound};
+ghost use Rattle.resume_core.specs.Steps.{AreFinished};
+ghost use Rattle.resume_core.specs.Wants.{IsWant, control_name};
 ghost use Rattle.resume_core.specs.declared.fault.StoreErr.TheVariants.{NoMemory};
 
 use crate::fault::StoreErr;
@@ -31,7 +29,7 @@ fn sync_and_remove<D: Disk>(
     ensures finished { OnOk result (IsTrue D.tells
         → AreFinished want.now (D.state disk.old).seen (D.state disk.new).may_leave) }
     ensures performs { IsTrue D.tells
-        → Performs (Finishes want.now (D.state disk.old).seen) (D.state disk.old) (D.state disk.new) }
+        → PerformsFinish want.now (D.state disk.old) (D.state disk.new) }
     ensures unmade { IsErrOf result OutOfMemory → IsTrue D.tells
         → Stays (D.state disk.old) (D.state disk.new) }
     ensures folders { IsTrue D.tells → (D.state disk.new).folders ≡ (D.state disk.old).folders }
@@ -51,12 +49,11 @@ pub fn finish<D: Disk>(alloc: Global, disk: &mut D, want: &Want) -> Result<(), S
 
     // At each moment an image is one of those at the start, or one of those with the control file gone.
     ensures performs { IsTrue D.tells
-        → Performs (Finishes want.now (D.state disk.old).seen) (D.state disk.old) (D.state disk.new) }
+        → PerformsFinish want.now (D.state disk.old) (D.state disk.new) }
     ensures payload { IsTrue D.tells
-        → files_in want.now (D.state disk.new).seen ≡ files_in want.now (D.state disk.old).seen }
+        → SamePayload want.now (D.state disk.old) (D.state disk.new) }
     ensures sound { IsTrue D.tells
-        → AreSound want.now (D.state disk.old).seen (D.state disk.old).may_leave
-        → AreSound want.now (D.state disk.new).seen (LeftSince (D.state disk.new) (D.state disk.old).moment) }
+        → StaysSound want.now (D.state disk.old) (D.state disk.new) }
 
     // Without memory the control file is still in every image.
     ensures unmade { IsErrOf result NoMemory → IsTrue D.tells

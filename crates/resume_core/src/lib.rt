@@ -7,8 +7,8 @@ mod finishing;
 mod laws;
 mod listing;
 mod names;
-mod runs;
 mod progress;
+mod runs;
 mod whole_files;
 
 pub use fault::StoreErr;
@@ -18,5 +18,5 @@ pub use laws::{
     saved_files_give_what_is_listed, saves_give_either, stretched_files_keep_what_is_given,
     torn_files_keep_what_is_given,
 };
-pub use runs::{read_piece, write_run};
 pub use progress::save;
+pub use runs::{read_piece, write_run};

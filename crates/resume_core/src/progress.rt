@@ -2,15 +2,11 @@
 ghost use Rattle.std.specs.Prelude.{◌≡◌, IsTrue, IsErrOf, OnOk};
 ghost use Rattle.dl_kinds.specs.Causes.{HasCause};
 ghost use Rattle.dl_kinds.specs.declared.outside.IoErr.TheVariants.{NoMemory as OutOfMemory};
-ghost use Rattle.dl_disk.specs.Files.{Follows};
-ghost use Rattle.dl_disk.specs.Passes.{Performs};
-ghost use Rattle.dl_disk.specs.State.{LeftSince};
 ghost use Rattle.payload_files.specs.Payload.{HasFiles};
 ghost use Rattle.resume_core.specs.Causes.{HasStoreCause};
-ghost use Rattle.resume_core.specs.Resume.{AreSound};
-ghost use Rattle.resume_core.specs.Steps.{SameBut};
-ghost use Rattle.resume_core.specs.Tables.{IsTableOf, SavesTable, AreTableSaved, GiveTable, GiveOldOrTable, MatchesTable};
-ghost use Rattle.resume_core.specs.Wants.{IsWant, files_in, temporary_name};
+ghost use Rattle.resume_core.specs.States.{PerformsSave, SamePayload, GivesOldOrTable, StaysSound, LeavesTemporary};
+ghost use Rattle.resume_core.specs.Tables.{IsTableOf, AreTableSaved, GiveTable, MatchesTable};
+ghost use Rattle.resume_core.specs.Wants.{IsWant};
 ghost use Rattle.resume_core.specs.declared.fault.StoreErr.TheVariants.{NoMemory};
 
 use crate::control_files::put_listing;
@@ -28,10 +24,10 @@ fn put_table<D: Disk>(alloc: Global, disk: &mut D, want: &Want, table: &Table) -
     requires table { IsTableOf want.now table.now }
     ensures saved { OnOk result (IsTrue D.tells → AreTableSaved want.now table.now
         (D.state disk.old).seen (D.state disk.new).may_leave) }
-    ensures performs { IsTrue D.tells → Performs
-        (SavesTable want.now table.now (D.state disk.old).seen) (D.state disk.old) (D.state disk.new) }
-    ensures unmade { IsErrOf result OutOfMemory → IsTrue D.tells → Follows
-        (SameBut (temporary_name want.now)) (D.state disk.old).may_leave (D.state disk.new).may_leave }
+    ensures performs { IsTrue D.tells
+        → PerformsSave want.now table.now (D.state disk.old) (D.state disk.new) }
+    ensures unmade { IsErrOf result OutOfMemory → IsTrue D.tells
+        → LeavesTemporary want.now (D.state disk.old) (D.state disk.new) }
     ensures folders { IsTrue D.tells → (D.state disk.new).folders ≡ (D.state disk.old).folders }
     ensures cause { HasCause (D.faults disk.old) (D.faults disk.new) result }
 {
@@ -52,14 +48,14 @@ pub fn save<D: Disk>(
     requires lengths { IsTrue D.tells → HasFiles want.now.dir want.now.layout (D.state disk.old).seen }
 
     // At each moment an image is one of those at the start, or has the new control file beside the payload.
-    ensures performs { IsTrue D.tells → Performs
-        (SavesTable want.now table.now (D.state disk.old).seen) (D.state disk.old) (D.state disk.new) }
+    ensures performs { IsTrue D.tells
+        → PerformsSave want.now table.now (D.state disk.old) (D.state disk.new) }
     ensures payload { IsTrue D.tells
-        → files_in want.now (D.state disk.new).seen ≡ files_in want.now (D.state disk.old).seen }
+        → SamePayload want.now (D.state disk.old) (D.state disk.new) }
 
     // So it gives what an image gave at the start, or what the table lists; and after Ok the latter.
-    ensures gives { IsTrue D.tells → GiveOldOrTable want.now table.now (D.state disk.old).may_leave
-        (LeftSince (D.state disk.new) (D.state disk.old).moment) }
+    ensures gives { IsTrue D.tells
+        → GivesOldOrTable want.now table.now (D.state disk.old) (D.state disk.new) }
     ensures acknowledged { OnOk result (IsTrue D.tells
         → GiveTable want.now table.now (D.state disk.new).may_leave) }
     ensures saved { OnOk result (IsTrue D.tells → AreTableSaved want.now table.now
@@ -67,12 +63,11 @@ pub fn save<D: Disk>(
 
     // What was sound stays so at each moment.
     ensures sound { IsTrue D.tells → MatchesTable want.now table.now (D.state disk.old).seen
-        → AreSound want.now (D.state disk.old).seen (D.state disk.old).may_leave
-        → AreSound want.now (D.state disk.new).seen (LeftSince (D.state disk.new) (D.state disk.old).moment) }
+        → StaysSound want.now (D.state disk.old) (D.state disk.new) }
 
     // Without memory every image has the control file that one had before.
-    ensures unmade { IsErrOf result NoMemory → IsTrue D.tells → Follows
-        (SameBut (temporary_name want.now)) (D.state disk.old).may_leave (D.state disk.new).may_leave }
+    ensures unmade { IsErrOf result NoMemory → IsTrue D.tells
+        → LeavesTemporary want.now (D.state disk.old) (D.state disk.new) }
     ensures folders { IsTrue D.tells → (D.state disk.new).folders ≡ (D.state disk.old).folders }
     ensures cause { HasStoreCause (D.faults disk.old) (D.faults disk.new) result }
 {
