@@ -65,7 +65,7 @@ pub trait Disk {
         ensures looks { IsTrue tells → Looks (state self.old) (state self.new) result }
         ensures cause { HasCause (faults self.old) (faults self.new) result };
 
-    /// Puts the file of one name in the place of another. Without such a file it is a fault.
+    /// Puts the file of one name in the place of another.
     fn replace(&mut self, from: &str, to: &str) -> Result<(), IoErr>
         ensures moved { OnOk result (IsTrue tells
             → IsTaken (Moved from.now to.now) (state self.old) (state self.new)) }
@@ -73,7 +73,7 @@ pub trait Disk {
             → Alters (MayBe (Moved from.now to.now)) (state self.old) (state self.new) result }
         ensures cause { HasCause (faults self.old) (faults self.new) result };
 
-    /// Takes the file away. Without such a file it is a fault.
+    /// Takes the file away.
     fn remove(&mut self, name: &str) -> Result<(), IoErr>
         ensures removed { OnOk result (IsTrue tells
             → IsTaken (Removes name.now) (state self.old) (state self.new)) }
