@@ -1,25 +1,22 @@
 -- Steps over paths and files, and the first file whose path clashes.
-use Rattle.std.proofs.Common.{◌≡◌, ℕ, zero, suc, ◌+◌, ◌-◌, ◌<◌, ◌≤◌, List, [], ◌∷◌, ◌++◌, length, take, get_or, arith, sym, subst, ap, ◌∙◌, refl, inl, inr, ◌⊎◌, ⊎_elim, Bool, true, false, Some, append_assoc, append-nil, not, map}
+use Rattle.std.proofs.Common.{◌≡◌, ℕ, zero, suc, ◌+◌, ◌-◌, ◌<◌, ◌≤◌, List, [], ◌∷◌, length, take, get_or, arith, sym, subst, refl, inl, inr, ◌⊎◌, ⊎_elim, Bool, true, false, Some, not, map}
 use Rattle.std.specs.Bool.{IsTrue, MatchBool, Decides}
-use Rattle.std.specs.Prelude.{nat_eq}
 use Rattle.std.specs.Option.{IsSomeAnd}
-use Rattle.std.specs.List.{AllAdjacentBelow, All, Any, slice_get, starts_with}
+use Rattle.std.specs.List.{AllAdjacentBelow, All, Any, slice_get}
 use Rattle.std.specs.List.Sorted.{IsSorted, IsPermutation}
-use Rattle.std.specs.Ordering.{nat_cmp}
 use Rattle.std.specs.Str.{bytes_eq}
-use Rattle.std.specs.Cmp.Lexicographic.{slice_cmp, pointwise}
+use Rattle.std.specs.Cmp.Lexicographic.{pointwise}
 use Rattle.std.proofs.lemmas.List.{take_all, take_more, take-take, length-take, get_or-take, get_or_read}
 use Rattle.std.proofs.lemmas.List.Elements.{All-more, All-take, All-get_or}
-use Rattle.std.proofs.lemmas.List.Concat.{flat_map-append}
 use Rattle.std.proofs.lemmas.List.Quantifiers.{all_pairs_push}
 use Rattle.std.proofs.lemmas.Option.{slice_get_within, get_or_from_slice_get, slice_get-get_or}
 use Rattle.std.proofs.lemmas.Slice.Eq.{slice_eq-Decides, bytes_eq-Decides}
 use Rattle.span_map.specs.Paths.{IsPath, Begins, Clash}
-use Rattle.span_map.specs.Keys.{key_of, SomeNext}
+use Rattle.span_map.specs.Order.{SomeNext, paths_cmp}
 use Rattle.span_map.specs.Layout.{AreApart, IsRefused}
 use Rattle.span_map.specs.declared.files.FileLen.{FileLen}
 use Rattle.span_map.specs.declared.files.LayoutErr.TheVariants.{Repeated}
-use Rattle.span_map.proofs.Judged.{apart_if_no_neighbours, not_apart_if_neighbours, file_key}
+use Rattle.span_map.proofs.Judged.{apart_if_no_neighbours, not_apart_if_neighbours}
 
 -- ---- one element more
 
@@ -29,37 +26,28 @@ All-more_at P xs i x all is holds = All-more P xs i x (slice_get_within xs i x i
 pub All-whole : {X : Type 0} (P : X → Type 0) (xs : List X) (n : ℕ) → All P (take n xs) → length xs ≤ n → All P xs
 All-whole P xs n all whole = subst (λ l. All P l) (take_all n xs whole) all
 
-pub key_more : (path : List (List ℕ)) (i : ℕ) (part : List ℕ) → slice_get path i ≡ Some part → key_of (take (i + 1) path) ≡ (key_of (take i path) ++ part) ++ 0 ∷ []
-key_more path i part is =
-    ap key_of (take_more path i part (slice_get_within path i part is) ∙ ap (λ p. take i path ++ p ∷ []) (get_or_from_slice_get path i part part is))
-    ∙ flat_map-append (λ p. p ++ 0 ∷ []) (take i path) (part ∷ [])
-    ∙ ap (λ l. key_of (take i path) ++ l) (append-nil (part ++ 0 ∷ []))
-    ∙ sym (append_assoc (key_of (take i path)) part (0 ∷ []))
-
--- ---- what sorted keys tell
-
-pub begins_from_test : (key front : List ℕ) → starts_with nat_eq key front ≡ true → Begins front key
-begins_from_test key front test = sym ((bytes_eq-Decides front (take (length front) key)).0 test)
+-- ---- what sorted paths tell
 
 -- what a read at n and at the place before shows
-pub next_begins : {X : Type 0} (f : X → List ℕ) (keys : List X) (n : ℕ) (x y : X) → 1 ≤ n → n < length keys → x ≡ get_or keys n x → y ≡ get_or keys (n - 1) y
-    → Begins (f y) (f x) → SomeNext (λ a b. Begins (f a) (f b)) keys
-next_begins f keys n x y some within here before begins =
+pub next_begins : {X : Type 0} (f : X → List (List ℕ)) (paths : List X) (n : ℕ) (x y : X) → 1 ≤ n → n < length paths → x ≡ get_or paths n x → y ≡ get_or paths (n - 1) y
+    → Begins (f y) (f x) → SomeNext (λ a b. Begins (f a) (f b)) paths
+next_begins f paths n x y some within here before begins =
     let after : n - 1 + 1 ≡ n = omega arith in (
       n - 1,
       omega arith,
       λ d.
-          subst (λ k. Begins (f (get_or keys (n - 1) d)) (f (get_or keys k d))) (sym after)
-          (subst (λ a. Begins (f a) (f (get_or keys n d))) (get_or_read keys (n - 1) y (omega arith) before d)
-          (subst (λ b. Begins (f y) (f b)) (get_or_read keys n x within here d) begins)),
+          subst (λ k. Begins (f (get_or paths (n - 1) d)) (f (get_or paths k d))) (sym after)
+          (subst (λ a. Begins (f a) (f (get_or paths n d))) (get_or_read paths (n - 1) y (omega arith) before d)
+          (subst (λ b. Begins (f y) (f b)) (get_or_read paths n x within here d) begins)),
     )
 
-pub judged : {X : Type 0} (f : X → List ℕ) (files : List FileLen) (keys sorted : List X) (next : Bool) → All (λ file. IsPath file.path) files
-    → map f keys ≡ map file_key files → IsPermutation keys sorted → IsSorted (λ a b. slice_cmp nat_cmp (f a) (f b)) sorted
+pub judged : {X : Type 0} (f : X → List (List ℕ)) (files : List FileLen) (paths sorted : List X) (next : Bool)
+    → map f paths ≡ map (λ file. file.path) files → IsPermutation paths sorted → IsSorted (λ a b. paths_cmp (f a) (f b)) sorted
     → MatchBool next (SomeNext (λ a b. Begins (f a) (f b)) sorted) (AllAdjacentBelow (λ a b. Begins (f a) (f b) → ⊥) sorted (length sorted))
     → (IsTrue (not next) → AreApart files) × (AreApart files → IsTrue (not next))
-judged f files keys sorted true are same moved rises some = (λ no. absurd (let e : false ≡ true = no in cc), λ apart. absurd (not_apart_if_neighbours f files keys sorted are same moved some apart))
-judged f files keys sorted false are same moved rises none = (λ _. apart_if_no_neighbours f files keys sorted are same moved rises none, λ _. refl)
+judged f files paths sorted true same moved rises some =
+    (λ no. absurd (let e : false ≡ true = no in cc), λ apart. absurd (not_apart_if_neighbours f files paths sorted same moved some apart))
+judged f files paths sorted false same moved rises none = (λ _. apart_if_no_neighbours f files paths sorted same moved rises none, λ _. refl)
 
 -- ---- the first clash
 

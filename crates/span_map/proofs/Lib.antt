@@ -2,6 +2,7 @@ pub mod Bytes
 pub mod Clashes
 pub mod Fronts
 pub mod Judged
+pub mod Order
 pub mod Pairs
 pub mod Refusals
 pub mod Starts

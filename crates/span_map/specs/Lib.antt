@@ -1,5 +1,5 @@
 pub mod Jobs
-pub mod Keys
+pub mod Order
 pub mod Layout
 pub mod Paths
 pub mod Slices

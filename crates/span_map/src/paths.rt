@@ -2,12 +2,13 @@
 ghost use Rattle.std.specs.Prelude.{◌≡◌, ◌↔◌, ◌≤◌, ◌<◌, ◌+◌, ◌^◌, ◌≢◌, ℕ, List, IsTrue, IsSomeAnd, IfOk, OnOk, IfErr, MatchOption, MatchBool, All, AllPairs, map, length, take, slice_get};
 ghost use Rattle.std.specs.List.{AllAdjacentBelow};
 ghost use Rattle.span_map.specs.Paths.{IsValidPart, IsPath, Begins, Clash};
-ghost use Rattle.span_map.specs.Keys.{key_of, SomeNext};
+ghost use Rattle.span_map.specs.Order.{paths_cmp, SomeNext};
 ghost use Rattle.span_map.specs.Layout.{HavePaths, IsRefused, AreApart, IsFirstClash};
 
 use crate::{FileLen, LayoutErr};
 use dl_kinds::Texts;
 use std::alloc::{AllocError, Global};
+use std::cmp::Ordering;
 
 /// The most bytes of a part of a path.
 pub const MAX_PART_LEN: usize = 255;
@@ -35,13 +36,6 @@ pub fn is_valid_part(bytes: &[u8]) -> bool
         && !bytes.contains(&NUL)
 }
 
-fn part(path: &Texts, place: usize) -> &[u8]
-    requires { place < length path.now }
-    ensures { slice_get path.now place ≡ Some result.now }
-{
-    path.get(place).unwrap().bytes()
-}
-
 fn is_path(path: &Texts) -> bool
     ensures { IsTrue result ↔ IsPath path.now }
 {
@@ -49,57 +43,73 @@ fn is_path(path: &Texts) -> bool
         return false;
     }
     for place in 0..path.len() {
-        if !is_valid_part(part(path, place)) {
+        if !is_valid_part(path.at(place).bytes()) {
             return false;
         }
     }
     true
 }
 
-fn key(alloc: Global, path: &Texts) -> Result<Vec<u8>, AllocError>
-    ensures { IfOk result (λ key. key.items ≡ key_of path.now) }
+// How two paths stand in the order of their parts, each as bytes.
+fn compare(a: &Texts, b: &Texts) -> Ordering
+    ensures { result ≡ paths_cmp a.now b.now }
 {
-    let mut key = Vec::new(alloc);
-    for place in 0..path.len() {
-        key.extend_from_slice(part(path, place))?;
-        key.push(NUL)?;
+    for place in 0..a.len().min(b.len()) {
+        let order = a.at(place).bytes().cmp(b.at(place).bytes());
+        if order != Ordering::Equal {
+            return order;
+        }
     }
-    Ok(key)
+    a.len().cmp(&b.len())
 }
 
-fn keys(alloc: Global, files: &[FileLen]) -> Result<Vec<Vec<u8>>, AllocError>
-    ensures { IfOk result (λ keys. map (λ key. key.items) keys.items
-        ≡ map (λ file. key_of file.path) files.now) }
+// Whether a path begins with all the parts of another.
+fn begins(front: &Texts, path: &Texts) -> bool
+    ensures { IsTrue result ↔ Begins front.now path.now }
 {
-    let mut keys = Vec::with_capacity(alloc, files.len())?;
+    if path.len() < front.len() {
+        return false;
+    }
+    for place in 0..front.len() {
+        if front.at(place).bytes() != path.at(place).bytes() {
+            return false;
+        }
+    }
+    true
+}
+
+fn paths_of(alloc: Global, files: &[FileLen]) -> Result<Vec<&Texts>, AllocError>
+    ensures { IfOk result (λ paths. map (λ path. path.now) paths.items
+        ≡ map (λ file. file.path) files.now) }
+{
+    let mut paths = Vec::with_capacity(alloc, files.len())?;
     for file in files {
-        keys.push(key(alloc, &file.path)?)?;
+        paths.push(&file.path)?;
     }
-    Ok(keys)
+    Ok(paths)
 }
 
-// Whether a key begins the one that follows it.
-fn some_begins_next(keys: &[Vec<u8>]) -> bool
+// Whether a path begins the one that follows it.
+fn some_begins_next(paths: &[&Texts]) -> bool
     ensures { MatchBool result
-        (SomeNext (λ a b. Begins a.items b.items) keys.now)
-        (AllAdjacentBelow (λ a b. Begins a.items b.items → ⊥) keys.now (length keys.now)) }
+        (SomeNext (λ a b. Begins a.now b.now) paths.now)
+        (AllAdjacentBelow (λ a b. Begins a.now b.now → ⊥) paths.now (length paths.now)) }
 {
-    for place in 1..keys.len() {
-        if keys[place].starts_with(&keys[place - 1]) {
+    for place in 1..paths.len() {
+        if begins(paths[place - 1], paths[place]) {
             return true;
         }
     }
     false
 }
 
-// In sorted keys whatever begins a later key begins the next one too, so neighbours tell.
+// In sorted paths whatever begins a later path begins the next one too, so neighbours tell.
 fn are_apart(alloc: Global, files: &[FileLen]) -> Result<bool, AllocError>
-    requires { All (λ file. IsPath file.path) files.now }
     ensures { IfOk result (λ apart. IsTrue apart ↔ AreApart files.now) }
 {
-    let mut keys = keys(alloc, files)?;
-    keys.sort_unstable();
-    Ok(!some_begins_next(&keys))
+    let mut paths = paths_of(alloc, files)?;
+    paths.sort_unstable_by(|a, b| compare(a, b));
+    Ok(!some_begins_next(&paths))
 }
 
 // The first file whose path clashes with an earlier one.
