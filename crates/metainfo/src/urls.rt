@@ -24,13 +24,6 @@ fn push_escaped(url: &mut String, part: &str) -> Result<(), NoMemory>
     utf8_percent_encode(part, RESERVED).append_to(url)
 }
 
-fn part(path: &Texts, place: usize) -> &str
-    requires { place < length path.now }
-    ensures { slice_get path.now place ≡ Some result.now }
-{
-    path.get(place).unwrap().as_str()
-}
-
 // Adds the part of this number, behind a slash if it isn't the first.
 fn push_part(url: &mut String, place: usize, part: &str) -> Result<(), NoMemory>
     ensures { OnOk result (string_bytes url.new
@@ -48,7 +41,7 @@ fn push_path(url: &mut String, path: &Texts) -> Result<(), NoMemory>
         ≡ string_bytes url.old ++ join_with_byte SLASH (map specs.escaped path.now)) }
 {
     for place in 0..path.len() {
-        push_part(url, place, part(path, place))?;
+        push_part(url, place, path.at(place).as_str())?;
     }
     Ok(())
 }

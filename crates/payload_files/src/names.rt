@@ -11,13 +11,6 @@ pub const DOT: u8 = 46;
 /// The byte `/`, which stands between the parts of a path.
 pub const SLASH: u8 = 47;
 
-fn part(path: &Texts, place: usize) -> &str
-    requires { place < length path.now }
-    ensures { slice_get path.now place ≡ Some result.now }
-{
-    path.get(place).unwrap().as_str()
-}
-
 // Adds the part at this place to those before it.
 fn add_part(text: &mut String, path: &Texts, place: usize) -> Result<(), AllocError>
     requires within { place < length path.now }
@@ -25,10 +18,10 @@ fn add_part(text: &mut String, path: &Texts, place: usize) -> Result<(), AllocEr
     ensures { OnOk result (string_bytes text.new ≡ path_text (take (place + 1) path.now)) }
 {
     if place == 0 {
-        return text.push_str(part(path, place));
+        return text.push_str(path.at(place).as_str());
     }
     text.push('/')?;
-    text.push_str(part(path, place))
+    text.push_str(path.at(place).as_str())
 }
 
 // The parts at the front of a path.

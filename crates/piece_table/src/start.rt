@@ -1,20 +1,20 @@
 // What a table counts at its start.
 ghost use Rattle.std.specs.Prelude.{◌≡◌, ◌<◌, ◌≤◌, ◌+◌, ◌^◌, length, map, count_by, IfOk};
 ghost use Rattle.dl_kinds.specs.Plan.{blocks_of, pieces_of};
+ghost use Rattle.dl_kinds.specs.declared.plan.TheConstants.{MAX_PIECE_BLOCKS};
 ghost use Rattle.dl_words.specs.Lists.{part_at};
 ghost use Rattle.piece_table.specs.Kept.{AreCounts};
 ghost use Rattle.piece_table.specs.Steps.{giver_at_start};
 ghost use Rattle.piece_table.specs.Sums.{block_bytes, piece_bytes, sum_where};
 
 use crate::Giver;
-use crate::blocks::run_of;
 use bit_rows::BitRow;
 use dl_kinds::{Plan, Run};
 use std::alloc::{AllocError, Global};
 
 // How many blocks of the run are landed.
 fn count_landed(landed: &BitRow, run: Run) -> u16
-    requires few { run.count ≤ 4096 }
+    requires few { run.count ≤ MAX_PIECE_BLOCKS }
     requires within { run.first + run.count ≤ length landed.now }
     requires bounded { run.first + run.count < 2 ^ 32 }
     ensures { result ≡ count_by (λ is. is) (part_at landed.now run.first run.count) }
@@ -36,7 +36,7 @@ pub fn counts_of(alloc: Global, plan: &Plan, landed: &BitRow) -> Result<Vec<u16>
 {
     let mut held = Vec::with_capacity(alloc, plan.pieces as usize)?;
     for piece in 0..plan.pieces {
-        held.push(count_landed(landed, run_of(plan, piece)))?;
+        held.push(count_landed(landed, plan.piece_run(piece)))?;
     }
     Ok(held)
 }

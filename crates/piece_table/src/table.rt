@@ -6,7 +6,7 @@ ghost use Rattle.piece_table.specs.Progress.{IsFull, IsListed, IsStart, IsValid}
 ghost use Rattle.piece_table.specs.Steps.{started, landed_by, settled, cleared, made_sole};
 ghost use Rattle.piece_table.specs.Sums.{completed_of, verified_bytes_of};
 
-use crate::blocks::{run_of, take_out};
+use crate::blocks::take_out;
 use crate::new_runs::new_runs;
 use crate::start::{counts_of, givers_of, landed_bytes, verified_bytes};
 use crate::{Giver, NewRuns};
@@ -129,7 +129,7 @@ impl Table {
         requires { slice_get self.old.verified piece ≡ Some false }
         ensures { self.new ≡ cleared self.old piece }
     {
-        self.completed -= take_out(&self.plan, &mut self.landed, run_of(&self.plan, piece));
+        self.completed -= take_out(&self.plan, &mut self.landed, self.plan.piece_run(piece));
         self.held[piece as usize] = 0;
         self.givers[piece as usize] = Giver::Nobody;
     }

@@ -10,5 +10,5 @@ loop-place-preserved c =
     let old = string_bytes c.args.url.now in
     let so_far = join_with_byte 47 (map escaped (take c.loop-place.place c.args.path.now)) in
     rw (c.in_ok-push_part.ensures, c.loop-place.invariant)
-    (append_assoc old so_far (behind c.loop-place.place (escaped c.part.result.now))
-    ∙ ap (λ (l : List ℕ). old ++ l) (sym (part_joined c.args.path.now c.loop-place.place c.part.result.now c.part.ensures)))
+    (append_assoc old so_far (behind c.loop-place.place (escaped c.as_str.result.now))
+    ∙ ap (λ (l : List ℕ). old ++ l) (sym (part_joined c.args.path.now c.loop-place.place c.as_str.result.now (rw (sym c.as_str.ensures) at c.at.ensures))))

@@ -26,9 +26,9 @@ loop-piece-preserved c =
     let plan = c.args.plan.now in
     let landed = c.args.landed.now in
     let piece = c.loop-piece.piece in
-    let run = c.run_of.ensures in
+    let run = c.piece_run.ensures in
     let count : c.count_landed.result ≡ landed_count plan.total plan.piece_len landed piece =
-    c.count_landed.ensures ∙ ap (λ n. count_of (part_at landed n c.run_of.result.count)) run.first
+    c.count_landed.ensures ∙ ap (λ n. count_of (part_at landed n c.piece_run.result.count)) run.first
     ∙ ap (λ n. count_of (part_at landed (piece * full_blocks plan.piece_len) n)) run.count in
     let left = pushed (landed_count plan.total plan.piece_len landed) c.loop-piece.held.items c.push.new.self.items piece c.count_landed.result c.loop-piece.invariant.many c.loop-piece.invariant.each count c.in_ok-push.ensures.items in
     record { many = left.0; each = left.1 }
