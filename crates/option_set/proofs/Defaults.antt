@@ -1,5 +1,5 @@
 -- The defaults of the options, and lists of six.
-use Rattle.std.proofs.Common.{◌≡◌, ℕ, zero, suc, ◌+◌, ◌<◌, ◌≤◌, List, [], ◌∷◌, ◌++◌, length, take, get_or, Option, None, Some, refl, sym, ◌∙◌, ap, arith, lit≤, lit<, append-nil}
+use Rattle.std.proofs.Common.{◌≡◌, ℕ, zero, suc, ◌+◌, ◌<◌, List, [], ◌∷◌, ◌++◌, length, take, get_or, refl, ◌∙◌, ap, arith, lit≤, lit<, append-nil}
 use Rattle.std.proofs.lemmas.List.{take_more}
 use Rattle.std.specs.List.{flat_map}
 use Rattle.std.proofs.lemmas.Grind.{flat_map-append}
@@ -10,7 +10,7 @@ use Rattle.option_set.specs.declared.kinds.Word.TheVariants as word
 use Rattle.option_set.specs.Settings.{IsWithinLimits, MeetsRule}
 use Rattle.option_set.specs.Table.{row_of_text}
 use Rattle.option_set.specs.Values.{default_values, AreValues, number_value, text_of_word}
-use Rattle.std.specs.Prelude.{IfSome, Contains, codes}
+use Rattle.std.specs.Prelude.{IfSome, codes}
 
 -- each default is within its limits
 default_within : (num : Num) → IsWithinLimits num (number_value default_values num)

@@ -2,4 +2,5 @@ mod Decimals
 mod Defaults
 mod Limits
 mod Members
+mod Names
 mod Rows

@@ -1,5 +1,5 @@
 -- Numbers outside the limits of an option.
-use Rattle.std.proofs.Common.{◌≡◌, ℕ, ◌<◌, ◌≤◌, ◌⊎◌, inl, inr, List, Option, Some, sym, ◌∙◌, ap, arith}
+use Rattle.std.proofs.Common.{◌≡◌, ℕ, ◌<◌, ◌⊎◌, inl, inr, List, Some, sym, ◌∙◌, ap, arith}
 use Rattle.std.specs.Option.{option_map}
 use Rattle.option_set.specs.declared.kinds.Num.{Num}
 use Rattle.option_set.specs.declared.table.NumRow.{NumRow}

@@ -1,12 +1,7 @@
 -- Members of lists of files.
-use Rattle.std.proofs.Common.{◌≡◌, ◌↔◌, ℕ, ◌<◌, ◌≤◌, Bool, true, false, List, length, Option, Some, None, All, IsTrue, MatchBool, refl, sym, arith, get_or}
+use Rattle.std.proofs.Common.{◌↔◌, ℕ, ◌<◌, Bool, true, false, List, length, IsTrue, MatchBool, refl, arith, get_or}
 use Rattle.std.specs.List.{AllWithin, HoldsAt}
-use Rattle.std.proofs.lemmas.List.Elements.{AllWithin-from_all}
-use Rattle.std.specs.Option.{option_map}
-use Rattle.option_set.specs.Numbers.{decimal_value, saturated}
-use Rattle.option_set.specs.Files.{IsMember, IsFileList, NamesFiles, file_members, first_text, last_text}
-use Rattle.option_set.specs.declared.files.TheConstants.{MAX_FILES}
-use Rattle.option_set.proofs.Decimals.{spelled, small, same, unspelled}
+use Rattle.option_set.specs.Files.{IsMember, IsFileList, file_members}
 
 -- all members name files, or some member doesn't
 pub all_or_some : (text : List ℕ) (result : Bool)

@@ -1,5 +1,5 @@
 -- What contracts see of settings.
-use Rattle.std.specs.Prelude.{◌≡◌, ◌≢◌, ℕ, List, Option, None, Some, Result, Ok, Err}
+use Rattle.std.specs.Prelude.{◌≡◌, ℕ, List, None, Some, Result, Ok, Err}
 use Rattle.option_set.specs.declared.kinds.Num.{Num}
 use Rattle.option_set.specs.declared.kinds.Opt.{Opt}
 use Rattle.option_set.specs.declared.kinds.Opt.TheVariants as opt
@@ -31,6 +31,10 @@ pub record IsSettingOf (name value : List ℕ) (assigned : Assigned) : Type 0 wh
   pub name_is : (table_row (option_of assigned)).name ≡ name
   pub value_is : Assigns value assigned
   pub assignable : IsAssignable assigned
+
+-- .. and no setting at all
+abbrev pub IsNoSetting : List ℕ → List ℕ → Type 0
+IsNoSetting name value = (assigned : Assigned) → ¬ IsSettingOf name value assigned
 
 -- what reading the value of an option of a number answers
 abbrev pub ReadsNumber : Num → List ℕ → Result ℕ OptErr → Type 0

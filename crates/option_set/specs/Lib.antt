@@ -5,3 +5,4 @@ pub mod Files
 pub mod Settings
 pub mod Assignments
 pub mod Values
+pub mod Laws

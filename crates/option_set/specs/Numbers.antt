@@ -1,5 +1,5 @@
 -- Numbers in the values of options (aria2 manual, "OPTIONS": a size may have `K` or `M` appended). The texts are bytes.
-use Rattle.std.specs.Prelude.{◌≡◌, ◌==◌, ◌&&◌, ◌||◌, ◌*◌, ◌-◌, ◌^◌, min, ℕ, Bool, not, List, [], ◌∷◌, length, take, slice_index, nat_lt, nat_le, if◌then◌else◌, Option, None, Some, codes}
+use Rattle.std.specs.Prelude.{◌==◌, ◌&&◌, ◌||◌, ◌*◌, ◌-◌, ◌^◌, min, ℕ, Bool, not, List, length, take, slice_index, nat_lt, if◌then◌else◌, Option, None, Some, codes}
 use Rattle.std.specs.List.{list_all}
 use Rattle.std.specs.Char.{is_ascii_digit}
 use Rattle.std.specs.Str.{bytes_eq}

@@ -1,15 +1,14 @@
 -- Settings: options with a value each, and how they are read.
-use Rattle.std.specs.Prelude.{◌≡◌, ◌≢◌, ◌≤◌, ℕ, List, Option, None, Some, Result, Ok, Err, Contains, length, ◌<◌}
+use Rattle.std.specs.Prelude.{◌≡◌, ◌≤◌, ℕ, List, Some, Contains, length, ◌<◌}
 use Rattle.dl_kinds.specs.Gid.{IsGidText}
 use Rattle.dl_kinds.specs.Checksum.{IsChecksum}
 use Rattle.span_map.specs.Paths.{IsValidPart}
 use Rattle.option_set.specs.declared.kinds.Num.{Num}
-use Rattle.option_set.specs.declared.kinds.Word.{Word}
 use Rattle.option_set.specs.declared.kinds.Opt.{Opt}
 use Rattle.option_set.specs.declared.kinds.Opt.TheVariants as opt
 use Rattle.option_set.specs.declared.kinds.Rule.{Rule}
 use Rattle.option_set.specs.declared.kinds.Rule.TheVariants as rule
-use Rattle.option_set.specs.Table.{table_row, row_of_number, row_of_text}
+use Rattle.option_set.specs.Table.{row_of_number, row_of_text}
 use Rattle.option_set.specs.Numbers.{number_value}
 use Rattle.option_set.specs.Files.{IsFileList}
 

@@ -1,6 +1,6 @@
 -- The options, each by its row (aria2 manual, "OPTIONS"; the limits of `split`, `piece-length`, `max-tries`, the speed
 -- limits and `max-concurrent-downloads`, and which calls change what, are this program's own).
-use Rattle.std.specs.Prelude.{◌≡◌, ◌≤◌, ◌*◌, ◌^◌, ℕ, Option, None, Some, List, [], ◌∷◌, codes, Bool, true, false}
+use Rattle.std.specs.Prelude.{ℕ, Option, None, Some, List, [], ◌∷◌, codes, Bool, true, false}
 use Rattle.option_set.specs.declared.kinds.Num.{Num}
 use Rattle.option_set.specs.declared.kinds.Num.TheVariants.{AutoSaveInterval, CheckIntegrity, EnableRpc, MaxConcurrentDownloads, MaxConnectionPerServer, MaxDownloadLimit, MaxOverallDownloadLimit, MaxTries, MinSplitSize, Pause, PieceLength, RpcListenPort, RpcMaxRequestSize, Split}
 use Rattle.option_set.specs.declared.kinds.Word.{Word}

@@ -3,6 +3,7 @@
 
 mod files;
 mod kinds;
+mod laws;
 mod numbers;
 mod options;
 mod setting;
@@ -11,6 +12,7 @@ mod table;
 
 pub use files::{FileRange, MAX_FILES};
 pub use kinds::{Change, Num, Opt, Rule, Scope, Spelling, Word, WordUse};
+pub use laws::names_are_apart;
 pub use options::Options;
 pub use setting::{OptErr, Setting, read};
 pub use settings::Settings;

@@ -2,7 +2,7 @@
 ghost use Rattle.std.specs.Prelude.{◌≡◌, ◌≢◌, ◌↔◌, ◌<◌, ◌≤◌, ◌^◌, ℕ, IsTrue, IsOk, IfOk, IsErrOf, IfErr, IfSome, MatchResult, length, Contains};
 ghost use Rattle.option_set.specs.Table.{table_row, row_of_number, row_of_text};
 ghost use Rattle.option_set.specs.Settings.{IsWithinLimits, MeetsRule, SpellsValue, IsOutside};
-ghost use Rattle.option_set.specs.Assignments.{IsSettingOf, ReadsNumber, option_of};
+ghost use Rattle.option_set.specs.Assignments.{IsNoSetting, IsSettingOf, ReadsNumber, option_of};
 ghost use Rattle.option_set.specs.declared.setting.OptErr.TheVariants.{Unknown, BadValue, OutOfRange, NoMemory};
 
 use crate::files::is_file_list;
@@ -128,6 +128,8 @@ pub fn read(alloc: Global, name: &str, value: &str) -> Result<Setting, OptErr>
         → (option : Opt) × ((table_row option).name ≡ name.now) × ¬ SpellsValue option value.now }
     ensures out_of_range { (least : ℕ) → (most : ℕ) → IsErrOf result (OutOfRange least most)
         → IsOutside name.now value.now least most }
+    ensures refused { IfErr result (λ fault. fault ≢ NoMemory
+        → IsNoSetting name.now value.now) }
 {
     let option = Opt::named(name).ok_or(OptErr::Unknown)?;
     let assigned = match option {

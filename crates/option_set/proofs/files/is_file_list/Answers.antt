@@ -1,8 +1,8 @@
-use Rattle.std.proofs.Common.{ℕ, ◌<◌, length, List, lit<, rules}
+use Rattle.std.proofs.Common.{ℕ, List, lit<, rules}
 use borrow.Author.Tests.{tests}
 use Rattle.std.proofs.lemmas.Iterator.{cases_from_all}
 use Rattle.std.proofs.lemmas.Iterator.Splits.{YieldsList-from_str_split}
-use Rattle.option_set.specs.Files.{IsMember, file_members}
+use Rattle.option_set.specs.Files.{IsMember}
 use Rattle.option_set.proofs.Members.{all_or_some}
 use Rattle.option_set.proofs.files.is_file_list.Goals as goal
 

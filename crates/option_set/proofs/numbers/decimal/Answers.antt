@@ -1,5 +1,5 @@
-use Rattle.std.proofs.Common.{◌≡◌, ◌∙◌, sym, ap, true, Some, None, ℕ}
-use Rattle.option_set.specs.Numbers.{decimal_value, saturated, is_decimal}
+use Rattle.std.proofs.Common.{◌≡◌, ◌∙◌, sym, ap, true, Some}
+use Rattle.option_set.specs.Numbers.{is_decimal}
 use Rattle.option_set.proofs.Decimals.{number_read}
 use Rattle.option_set.proofs.numbers.decimal.Goals as goal
 

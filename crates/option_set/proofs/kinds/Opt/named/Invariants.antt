@@ -1,4 +1,4 @@
-use Rattle.std.proofs.Common.{◌≡◌, ◌≢◌, ℕ, ◌<◌, get_or}
+use Rattle.std.proofs.Common.{◌≢◌, ℕ, ◌<◌, get_or}
 use Rattle.option_set.specs.Table.{table_row}
 use Rattle.option_set.specs.declared.kinds.Num.TheVariants.{AutoSaveInterval}
 use Rattle.option_set.specs.declared.kinds.Opt.TheVariants as opt

@@ -1,4 +1,4 @@
-use Rattle.std.proofs.Common.{◌≡◌, arith}
+use Rattle.std.proofs.Common.{arith}
 use Rattle.option_set.specs.declared.kinds.Num.TheVariants.{AutoSaveInterval}
 use Rattle.option_set.specs.declared.kinds.Opt.TheVariants as opt
 use Rattle.option_set.specs.Table.{all_options}
