@@ -1,0 +1,2 @@
+pub mod OptionLists
+pub mod Parsed

@@ -1,0 +1,4 @@
+pub mod Command
+pub mod Sources
+pub mod Lines
+pub mod Found

@@ -1,0 +1,11 @@
+//! What the words of the command line mean: values of options, and what is to be downloaded.
+#![tactic(auto)]
+
+mod command;
+mod line;
+mod options;
+mod source;
+
+pub use line::{CommandLine, read};
+pub use source::{MAX_URIS, Source};
+pub use std::alloc::AllocError as NoMemory;
