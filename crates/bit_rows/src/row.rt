@@ -155,8 +155,8 @@ impl BitRow {
         }
     }
 
-    // The first place from `from` on with this value, or the row's length where there is none.
-    fn next(&self, from: u32, wanted: bool) -> u32
+    /// The first place from `from` on with this value, or the row's length where there is none.
+    pub fn next(&self, from: u32, wanted: bool) -> u32
         ensures within { result ≤ length self.now }
         ensures found { result < length self.now → slice_get self.now result ≡ Some wanted }
         ensures later { result < length self.now → from ≤ result }
