@@ -1,6 +1,8 @@
 -- Claims that stand, and the numbers of the pieces.
 use Rattle.std.proofs.Common.{◌≡◌, ℕ, suc, ◌+◌, ◌-◌, ◌<◌, ◌≤◌, ◌++◌, Bool, true, false, cond, List, [], ◌∷◌, Some, length, replicate, refl, sym, ap, ◌∙◌, inl, inr, arith}
 use Rattle.std.specs.Prelude.{Contains, find, nat_lt}
+use Rattle.std.proofs.lemmas.Bool.{cases_lt}
+use Rattle.std.proofs.lemmas.Bool.Decides.{nat_tests}
 use Rattle.std.proofs.lemmas.List.{append-nil}
 use Rattle.std.proofs.lemmas.List.Elements.{All-contains}
 use Rattle.dl_kinds.specs.Plan.{blocks_of, pieces_of}
@@ -59,4 +61,19 @@ pub room_more : (pieces closed before after : ℕ) → before ≤ after → room
 room_more pieces closed before after more = elim (nat_lt closed pieces) as (λ (b : Bool). cond b 0 before ≤ cond b 0 after) [
   | true ↦ omega arith
   | false ↦ more
+]
+
+-- .. and where there is room for one
+pub full_where_room : (total piece_len next pieces room : ℕ) (standing : List Claim) (closed : List ℕ)
+    → KeepsClaims total piece_len standing closed next → pieces ≡ pieces_of total piece_len
+    → 1 ≤ room_of pieces (length closed) room → length closed ≡ pieces_of total piece_len
+full_where_room total piece_len next pieces room standing closed kept is some = elim kept.pieces [
+  | inl full ↦ full
+  | inr bare ↦ elim (cases_lt (length closed) pieces) [
+    | inl few ↦
+        let test : nat_lt (length closed) pieces ≡ true = grind (arith, nat_tests) in
+        let none : room_of pieces (length closed) room ≡ 0 = rw test refl in
+        absurd (omega arith)
+    | inr enough ↦ let l : length closed ≡ 0 = rw (bare.0) refl in omega arith
+  ]
 ]

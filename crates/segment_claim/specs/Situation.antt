@@ -1,5 +1,6 @@
 -- What the choice of a claim goes by.
-use Rattle.std.specs.Prelude.{◌≡◌, ℕ, ◌==◌, ◌≤◌, Bool, List, count_by, length, map, slice_index_or}
+use Rattle.std.specs.Prelude.{◌≡◌, ℕ, ◌==◌, ◌≤◌, Bool, false, List, count_by, length, map, slice_get}
+use Rattle.std.specs.Option.{option_map_or}
 use Rattle.dl_kinds.specs.Plan.{pieces_of}
 use Rattle.dl_kinds.specs.declared.claims.Claim.{Claim}
 use Rattle.mirror_blame.specs.Book.{MarkBook}
@@ -28,10 +29,16 @@ pub record Situation : Type 0 where
 abbrev pub mirrors_of : Situation → ℕ
 mirrors_of s = length s.hosts
 
+-- the claim's mirror is on this host
+abbrev pub is_on : List ℕ → ℕ → Claim → Bool
+is_on hosts host claim = option_map_or (λ number. number == host) (slice_get hosts claim.mirror) false
+
 -- for each mirror, how many claims stand on its host
+abbrev pub loads_of : List ℕ → List Claim → List ℕ
+loads_of hosts standing = map (λ host. count_by (is_on hosts host) standing) hosts
+
 abbrev pub host_loads : Situation → List ℕ
-host_loads s =
-    map (λ host. count_by (λ claim. slice_index_or s.hosts claim.mirror 0 == host) s.standing) s.hosts
+host_loads s = loads_of s.hosts s.standing
 
 -- the situation that claims, a table, marks and limits make
 abbrev pub situation_of : ClaimBook → Progress → MarkBook → Rules → Situation

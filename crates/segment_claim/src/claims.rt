@@ -1,14 +1,22 @@
 // The claims of a download.
-ghost use Rattle.std.specs.Prelude.{◌≡◌, ◌<◌, ◌≤◌, not, length, OnOk};
-ghost use Rattle.dl_kinds.specs.Plan.{pieces_of};
-ghost use Rattle.segment_claim.specs.Book.{no_claims, kept_where, with_cleared, claim_under, is_open_under, first_open_under, swept};
+ghost use Rattle.std.specs.Prelude.{◌≡◌, ◌↔◌, ◌⊎◌, ◌<◌, ◌≤◌, not, length, IsNone, IfNone, IfSome, OnOk};
+ghost use Rattle.dl_kinds.specs.Plan.{blocks_of, pieces_of};
+ghost use Rattle.segment_claim.specs.Book.{granted, no_claims, kept_where, with_cleared, claim_under, is_open_under, first_open_under, swept};
 ghost use Rattle.segment_claim.specs.Open.{has_number};
-ghost use Rattle.segment_claim.specs.Situation.{IsTableOf};
-ghost use Rattle.segment_claim.specs.Sound.{AreClaims};
+ghost use Rattle.segment_claim.specs.Free.{HasNoFreeClaim, IsFreeGrant};
+ghost use Rattle.segment_claim.specs.Situation.{FitTogether, IsTableOf, situation_of};
+ghost use Rattle.segment_claim.specs.Sound.{AreClaims, IsWithinBlocks};
+ghost use Rattle.segment_claim.specs.Theft.{IsStealOf, stolen_claim};
+ghost use Rattle.segment_claim.specs.declared.limits.TheConstants.{MAX_SPLIT};
 
+use crate::Limits;
+use crate::free::Found;
 use crate::open::{first_open, is_open, sweep};
-use dl_kinds::{Claim, Plan};
+use crate::scene::{Scene, host_loads};
+use dl_kinds::{Claim, Moment, Plan};
+use mirror_blame::Marks;
 use piece_table::Table;
+use slow_steal::Steal;
 use std::alloc::{AllocError, Global};
 use std::marker::Model;
 
@@ -132,5 +140,114 @@ impl Claims {
         if !self.standing.is_empty() {
             sweep(&self.plan, table.blocks(), &self.closed, &mut self.standing);
         }
+    }
+
+    // The claims with what else the choice of a claim looks at.
+    fn scene<'a>(&'a self, table: &'a Table, marks: &'a Marks, limits: &'a Limits<'a>) -> Scene<'a>
+        requires fit { FitTogether self.now table.now marks.now limits.now }
+        requires made { (1 ≤ self.now.spare) ⊎ (1 ≤ length self.now.standing) }
+        ensures { result ≡ situation_of self.now table.now marks.now limits.now }
+    {
+        let landed = table.blocks();
+        let sole = table.sole();
+        let standing = self.standing.as_slice();
+        let closed = self.closed.as_slice();
+        let loads = host_loads(limits.hosts, standing);
+        Scene {
+            plan: self.plan,
+            landed,
+            sole,
+            wanted: limits.wanted,
+            standing,
+            closed,
+            marks,
+            hosts: limits.hosts,
+            per_host: limits.per_host,
+            split: limits.split,
+            min_blocks: limits.min_blocks,
+            loads,
+        }
+    }
+
+    // A claim stands.
+    fn grant(&mut self, claim: Claim)
+        requires few { length self.old.standing < MAX_SPLIT }
+        requires room { 1 ≤ self.old.spare }
+        requires number { self.old.next ≤ claim.id }
+        requires blocks { IsWithinBlocks (blocks_of self.old.total self.old.piece_len) claim }
+        ensures { self.new ≡ granted self.old claim }
+    {
+        self.next = claim.id as u128 + 1;
+        self.standing.insert(0, claim).unwrap();
+    }
+
+    /// Grants the free claim: of the free stretches for which a mirror is found, the first blocks of the longest, and of
+    /// equally long ones of the lowest. None is where no mirror is found for any.
+    pub fn grant_free(
+        &mut self,
+        id: u64,
+        worker: u32,
+        table: &Table,
+        marks: &Marks,
+        limits: &Limits,
+        now: Moment,
+    ) -> Option<Claim>
+        requires fit { FitTogether self.old table.now marks.now limits.now }
+        requires few { length self.old.standing < MAX_SPLIT }
+        requires room { 1 ≤ self.old.spare }
+        requires number { self.old.next ≤ id }
+        ensures claim { IfSome result
+            (IsFreeGrant (situation_of self.old table.now marks.now limits.now) id worker now.0) }
+        ensures granted { IfSome result (λ claim. self.new ≡ granted self.old claim) }
+        ensures none { IsNone result
+            ↔ HasNoFreeClaim (situation_of self.old table.now marks.now limits.now) }
+        ensures same { IfNone result (self.new ≡ self.old) }
+    {
+        let found = self.scene(table, marks, limits).free_claim();
+        match found {
+            Some(Found { run, mirror }) => {
+                let claim = Claim {
+                    id,
+                    worker,
+                    mirror,
+                    run,
+                    victim: None,
+                    since: now,
+                };
+                self.grant(claim);
+                Some(claim)
+            }
+            None => None,
+        }
+    }
+
+    /// Grants blocks that are stolen of a standing claim.
+    pub fn grant_steal(
+        &mut self,
+        id: u64,
+        worker: u32,
+        steal: Steal,
+        mirror: u16,
+        now: Moment,
+    ) -> Claim
+        requires steal { IsStealOf self.old steal }
+        requires few { length self.old.standing < MAX_SPLIT }
+        requires room { 1 ≤ self.old.spare }
+        requires number { self.old.next ≤ id }
+        ensures claim { result ≡ stolen_claim id worker steal mirror now.0 }
+        ensures granted { self.new ≡ granted self.old result }
+    {
+        // Looked at, since a proof knows what holds of the claims once one of their parts was.
+        let _ = &self.standing;
+        let claim = Claim {
+            id,
+            worker,
+            mirror,
+            run: steal.run,
+            victim: Some(steal.victim),
+            since: now,
+        };
+        self.grant(claim);
+        claim
     }
 }

@@ -2,8 +2,11 @@
 #![tactic(auto)]
 
 mod claims;
+mod free;
 mod limits;
 mod open;
+mod scene;
+mod stretches;
 mod views;
 
 pub use claims::Claims;
