@@ -1,6 +1,7 @@
 -- The best of the stretches that were looked at.
-use Rattle.std.specs.Prelude.{◌≡◌, ◌⊎◌, ℕ, ◌+◌, ◌*◌, ◌<◌, ◌≤◌, true, false, Option, Some, MatchOption, slice_index_or}
+use Rattle.std.specs.Prelude.{◌≡◌, ◌⊎◌, ℕ, ◌+◌, ◌*◌, ◌^◌, ◌<◌, ◌≤◌, true, false, Option, Some, MatchOption, slice_index_or}
 use Rattle.dl_kinds.specs.Plan.{blocks_of, blocks_of_piece, full_blocks}
+use Rattle.dl_kinds.specs.declared.claims.Claim.{Claim}
 use Rattle.dl_kinds.specs.declared.runs.Run.{Run}
 use Rattle.piece_table.specs.Changes.{is_in}
 use Rattle.segment_claim.specs.Free.{IsGrantable, IsMirrorFor, IsPreferred, is_free}
@@ -15,6 +16,11 @@ GoesFirst run found = (found.run.count < run.count) ⊎ ((run.count ≡ found.ru
 pub record IsWithinPayload (s : Situation) (run : Run) : Type 0 where
   pub some : 1 ≤ run.count
   pub within : run.first + run.count ≤ blocks_of s.total s.piece_len
+
+-- the claim is of some blocks, all of the payload
+pub record IsOfPayload (s : Situation) (claim : Claim) : Type 0 where
+  pub run : IsWithinPayload s claim.run
+  pub bounded : claim.run.first + claim.run.count < 2 ^ 32
 
 -- this stretch was found with its mirror, and it is preferred to each that was looked at and that a mirror is chosen for
 pub record IsBestFound (s : Situation) (Looked : Run → Type 0) (found : Found) : Type 0 where

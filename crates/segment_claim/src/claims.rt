@@ -6,13 +6,13 @@ ghost use Rattle.segment_claim.specs.Open.{has_number};
 ghost use Rattle.segment_claim.specs.Free.{HasNoFreeClaim, IsFreeGrant};
 ghost use Rattle.segment_claim.specs.Situation.{FitTogether, IsTableOf, situation_of};
 ghost use Rattle.segment_claim.specs.Sound.{AreClaims, IsWithinBlocks};
-ghost use Rattle.segment_claim.specs.Theft.{IsStealOf, stolen_claim};
+ghost use Rattle.segment_claim.specs.Theft.{AreViews, IsStealOf, stolen_claim};
 ghost use Rattle.segment_claim.specs.declared.limits.TheConstants.{MAX_SPLIT};
 
-use crate::Limits;
 use crate::free::Found;
 use crate::open::{first_open, is_open, sweep};
 use crate::scene::{Scene, host_loads};
+use crate::{Limits, Views};
 use dl_kinds::{Claim, Moment, Plan};
 use mirror_blame::Marks;
 use piece_table::Table;
@@ -218,6 +218,21 @@ impl Claims {
                 Some(claim)
             }
             None => None,
+        }
+    }
+
+    /// What is seen of each standing claim, the newest first, in place of what the list held.
+    pub fn views(&self, table: &Table, marks: &Marks, limits: &Limits, into: &mut Views)
+        requires { FitTogether self.now table.now marks.now limits.now }
+        ensures { AreViews (situation_of self.now table.now marks.now limits.now) into.new }
+    {
+        into.clear();
+        if self.standing.is_empty() {
+            return;
+        }
+        let scene = self.scene(table, marks, limits);
+        for claim in &self.standing {
+            into.push(scene.view_of(claim));
         }
     }
 

@@ -5,6 +5,7 @@ mod claims;
 mod free;
 mod limits;
 mod open;
+mod own;
 mod scene;
 mod stretches;
 mod views;
