@@ -6,6 +6,7 @@ pub mod Finding
 pub mod KeptLemmas
 pub mod Loose
 pub mod Standing
+pub mod StealLemmas
 pub mod LooseRuns
 pub mod OwnRuns
 pub mod Zips

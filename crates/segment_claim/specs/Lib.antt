@@ -1,6 +1,7 @@
 pub mod Book
 pub mod Free
 pub mod Kept
+pub mod Laws
 pub mod Open
 pub mod Rules
 pub mod Search

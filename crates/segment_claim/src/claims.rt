@@ -1,9 +1,9 @@
 // The claims of a download.
-ghost use Rattle.std.specs.Prelude.{◌≡◌, ◌↔◌, ◌⊎◌, ◌<◌, ◌≤◌, not, length, IsNone, IfNone, IfSome, OnOk};
+ghost use Rattle.std.specs.Prelude.{◌≡◌, ◌↔◌, ◌⊎◌, ℕ, ◌+◌, ◌<◌, ◌≤◌, not, length, IsNone, IfNone, IfSome, OnOk};
 ghost use Rattle.dl_kinds.specs.Plan.{blocks_of, pieces_of};
 ghost use Rattle.segment_claim.specs.Book.{granted, no_claims, kept_where, with_cleared, claim_under, is_open_under, first_open_under, swept};
 ghost use Rattle.segment_claim.specs.Open.{has_number};
-ghost use Rattle.segment_claim.specs.Free.{HasNoFreeClaim, IsFreeGrant};
+ghost use Rattle.segment_claim.specs.Free.{HasNoFreeClaim, IsFreeGrant, IsMirrorFor};
 ghost use Rattle.segment_claim.specs.Situation.{FitTogether, IsTableOf, situation_of};
 ghost use Rattle.segment_claim.specs.Sound.{AreClaims, IsWithinBlocks};
 ghost use Rattle.segment_claim.specs.Theft.{AreViews, IsStealOf, stolen_claim};
@@ -13,7 +13,7 @@ use crate::free::Found;
 use crate::open::{first_open, is_open, sweep};
 use crate::scene::{Scene, host_loads};
 use crate::{Limits, Views};
-use dl_kinds::{Claim, Moment, Plan};
+use dl_kinds::{Claim, Moment, Plan, Run};
 use mirror_blame::Marks;
 use piece_table::Table;
 use slow_steal::Steal;
@@ -234,6 +234,20 @@ impl Claims {
         for claim in &self.standing {
             into.push(scene.view_of(claim));
         }
+    }
+
+    /// The mirror that is chosen for the pieces of a run, by the claims that stand on each mirror's host.
+    pub fn mirror_for(&self, run: Run, table: &Table, marks: &Marks, limits: &Limits) -> Option<u16>
+        requires fit { FitTogether self.now table.now marks.now limits.now }
+        requires room { 1 ≤ self.now.spare }
+        requires some { 1 ≤ run.count }
+        requires within { run.first + run.count ≤ blocks_of self.now.total self.now.piece_len }
+        ensures chosen { IfSome result
+            (IsMirrorFor (situation_of self.now table.now marks.now limits.now) run) }
+        ensures none { IfNone result ((mirror : ℕ)
+            → ¬ IsMirrorFor (situation_of self.now table.now marks.now limits.now) run mirror) }
+    {
+        self.scene(table, marks, limits).mirror_for(run)
     }
 
     /// Grants blocks that are stolen of a standing claim.

@@ -3,6 +3,7 @@
 
 mod claims;
 mod free;
+mod laws;
 mod limits;
 mod open;
 mod own;
@@ -12,6 +13,7 @@ mod views;
 
 pub use claims::Claims;
 pub use dl_kinds::Claim;
+pub use laws::steals_are_of_claims;
 pub use limits::{Limits, MAX_MIRRORS, MAX_SPLIT};
 pub use std::alloc::AllocError as NoMemory;
 pub use views::Views;
