@@ -1,5 +1,5 @@
 // The claims of a download.
-ghost use Rattle.std.specs.Prelude.{◌≡◌, ◌↔◌, ◌⊎◌, ℕ, ◌+◌, ◌<◌, ◌≤◌, not, length, IsNone, IfNone, IfSome, OnOk};
+ghost use Rattle.std.specs.Prelude.{◌≡◌, ◌↔◌, ◌⊎◌, ℕ, ◌+◌, ◌<◌, ◌≤◌, ◌^◌, not, All, length, IsNone, IfNone, IfSome, OnOk};
 ghost use Rattle.dl_kinds.specs.Plan.{blocks_of, pieces_of};
 ghost use Rattle.segment_claim.specs.Book.{granted, no_claims, kept_where, with_cleared, claim_under, is_open_under, first_open_under, swept};
 ghost use Rattle.segment_claim.specs.Open.{has_number};
@@ -224,7 +224,8 @@ impl Claims {
     /// What is seen of each standing claim, the newest first, in place of what the list held.
     pub fn views(&self, table: &Table, marks: &Marks, limits: &Limits, into: &mut Views)
         requires { FitTogether self.now table.now marks.now limits.now }
-        ensures { AreViews (situation_of self.now table.now marks.now limits.now) into.new }
+        ensures views { AreViews (situation_of self.now table.now marks.now limits.now) into.new }
+        ensures bounded { All (λ view. view.own.first + view.own.count < 2 ^ 32) into.new }
     {
         into.clear();
         if self.standing.is_empty() {

@@ -35,7 +35,8 @@ impl<'a> Scene<'a> {
     // The longest run of the claim's own blocks, and of equally long ones the last.
     fn own_run(&self, claim: &Claim) -> Run
         requires { IsOfPayload self.now claim.now }
-        ensures { IsOwnRun self.now claim.now result }
+        ensures run { IsOwnRun self.now claim.now result }
+        ensures bounded { result.first + result.count < 2 ^ 32 }
     {
         let end = claim.run.first + claim.run.count;
         let mut longest = Run {
@@ -109,7 +110,8 @@ impl<'a> Scene<'a> {
     /// What is seen of a claim.
     pub fn view_of(&self, claim: &Claim) -> ClaimView
         requires { IsOfPayload self.now claim.now }
-        ensures { IsViewOf self.now claim.now result }
+        ensures view { IsViewOf self.now claim.now result }
+        ensures bounded { result.own.first + result.own.count < 2 ^ 32 }
     {
         let landed = self.count_landed(claim);
         let own = self.own_run(claim);

@@ -23,5 +23,5 @@ loop-block-preserved c =
           (own_ends s claim block run longest up c.loop-block.auto.block (sym c.is_own.ensures ∙ w.if-is_own.false))
     ]
 
-pub returns : goal.returns
-returns c = all_looked_at c.args.self.now c.args.claim.now c.loop-block.block c.loop-block.run c.loop-block.longest c.loop-block.invariant c.loop-block-test.false
+pub returns-clause-run : goal.returns-clause-run
+returns-clause-run c = all_looked_at c.args.self.now c.args.claim.now c.loop-block.block c.loop-block.run c.loop-block.longest c.loop-block.invariant c.loop-block-test.false
