@@ -1,0 +1,12 @@
+pub mod Alike
+pub mod BestStretch
+pub mod Counting
+pub mod Covers
+pub mod Finding
+pub mod KeptLemmas
+pub mod Loose
+pub mod Standing
+pub mod StealLemmas
+pub mod LooseRuns
+pub mod OwnRuns
+pub mod Zips

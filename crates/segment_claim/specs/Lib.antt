@@ -1,0 +1,13 @@
+pub mod Book
+pub mod Free
+pub mod Kept
+pub mod Laws
+pub mod Open
+pub mod Rules
+pub mod Search
+pub mod Seen
+pub mod Situation
+pub mod Sound
+pub mod Spans
+pub mod Theft
+pub mod Views
