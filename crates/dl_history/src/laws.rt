@@ -1,0 +1,13 @@
+// What is kept of a download, over every legal history.
+ghost use Rattle.dl_history.specs.AccountLaws.{AccountsMatchEvents};
+
+use dl_kinds::plan_laws;
+use piece_table::kept_is_afresh;
+
+/// In every legal history of a download, what is kept of it step by step is what its events say.
+pub fn accounts_match_events()
+    ensures { AccountsMatchEvents }
+{
+    plan_laws();
+    kept_is_afresh();
+}

@@ -1,0 +1,8 @@
+//! What happens to one download, and what its events say of its blocks, pieces and claims.
+#![tactic(auto)]
+
+mod laws;
+mod marks;
+
+pub use laws::accounts_match_events;
+pub use marks::CHECKSUM_FAILED;
