@@ -11,7 +11,7 @@ use Rattle.dl_kinds.specs.declared.claims.Claim.{Claim}
 use Rattle.dl_history.proofs.Bools.{and_both, and_left, and_right, not_or}
 use Rattle.dl_history.proofs.Members.{find_more}
 use Rattle.dl_history.specs.OwnEvents.{Grants, Lands, Loses, OwnEvent, Sizes}
-use Rattle.dl_history.specs.StandingClaims.{blocks_in, ends_claim, first_open_in, grants_claim, is_open_in, is_probe, is_standing, lands_block, since}
+use Rattle.dl_history.specs.StandingClaims.{blocks_in, ends_claim, first_open_since, grants_claim, is_open_since, is_probe, is_standing, lands_block, since}
 
 -- the claim ended since its grant
 abbrev pub has_ended : List OwnEvent → Claim → Bool
@@ -23,12 +23,12 @@ has_come own g b = list_any (lands_block b) (since (grants_claim g.id) own)
 
 -- it has an open block, or is a probe
 abbrev pub has_more : List OwnEvent → Claim → Bool
-has_more own g = is_probe g || is_some (first_open_in own g)
+has_more own g = is_probe g || is_some (first_open_since own g)
 
 -- a block that is open after a landing was so before
 pub open_before : (own : List OwnEvent) (c m : ℕ) (run : Run) (g : Claim) (b : ℕ)
-    → is_open_in (Lands c m run ∷ own) g b ≡ true
-    → is_open_in own g b ≡ true
+    → is_open_since (Lands c m run ∷ own) g b ≡ true
+    → is_open_since own g b ≡ true
 open_before own c m run g b h =
     and_both (is_in b g.run) (not (has_come own g b))
     (and_left (is_in b g.run) (not (is_in b run || has_come own g b)) h)
@@ -44,8 +44,8 @@ pub stood_before_landing : (own : List OwnEvent) (c m : ℕ) (run : Run) (g : Cl
 stood_before_landing own c m run g h =
     and_both (not (has_ended own g)) (has_more own g)
     (and_left (not (has_ended own g)) (has_more (Lands c m run ∷ own) g) h)
-    (or_more (is_probe g) (is_some (first_open_in (Lands c m run ∷ own) g)) (is_some (first_open_in own g))
-    (find_more (is_open_in (Lands c m run ∷ own) g) (is_open_in own g) (blocks_in g.run) (open_before own c m run g))
+    (or_more (is_probe g) (is_some (first_open_since (Lands c m run ∷ own) g)) (is_some (first_open_since own g))
+    (find_more (is_open_since (Lands c m run ∷ own) g) (is_open_since own g) (blocks_in g.run) (open_before own c m run g))
     (and_right (not (has_ended own g)) (has_more (Lands c m run ∷ own) g) h))
 
 stood_before_end : (own : List OwnEvent) (g : Claim) (t : Bool)
@@ -66,7 +66,7 @@ stood_before_sizing own c total g h = stood_before_end own g (eqb c g.id) h
 
 -- an older claim is as it was after a grant
 pub open_after_grant : (own : List OwnEvent) (cl g : Claim) (b : ℕ) → cl.id ≢ g.id
-    → is_open_in (Grants cl ∷ own) g b ≡ is_open_in own g b
+    → is_open_since (Grants cl ∷ own) g b ≡ is_open_since own g b
 open_after_grant own cl g b apart =
     ap
     (λ (e : Bool). is_in b g.run
@@ -82,6 +82,6 @@ standing_after_grant own cl g apart =
     && not (list_any (lands_block b) (cond e [] (Grants cl ∷ since (grants_claim g.id) own)))) (blocks_in g.run))))
     (ne_eqb cl.id g.id apart)
 
-pub new_open : (own : List OwnEvent) (cl : Claim) (b : ℕ) → is_open_in (Grants cl ∷ own) cl b ≡ true
+pub new_open : (own : List OwnEvent) (cl : Claim) (b : ℕ) → is_open_since (Grants cl ∷ own) cl b ≡ true
     → is_in b cl.run ≡ true
 new_open own cl b h = and_left (is_in b cl.run) (not (has_come (Grants cl ∷ own) cl b)) h

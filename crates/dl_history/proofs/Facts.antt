@@ -18,7 +18,7 @@ use Rattle.dl_history.proofs.Members.{Has, any_has, has_all, has_any, has_filter
 use Rattle.dl_history.specs.OwnEvents.{Checks, Clears, Grants, Halts, Lands, Loses, Opens, OwnEvent, Saves, Settles, Sizes}
 use Rattle.dl_history.specs.OwnLegal.{IsNewClaim, IsSoleRun, LegalOwn, MayClaim, MayLand, MayProbe, MaySettle}
 use Rattle.dl_history.specs.PayloadParts.{is_alive, is_landed_in, is_mixed, is_opened, is_sole_in, source_by}
-use Rattle.dl_history.specs.StandingClaims.{blocks_in, granted_claims, grants_claim, has_given_all, is_open_in, is_standing, lands_block, lands_block_by, since, standing_claims, stands_in}
+use Rattle.dl_history.specs.StandingClaims.{blocks_in, granted_claims, grants_claim, has_given_all, is_open_since, is_standing, lands_block, lands_block_by, since, standing_claims, stands_in}
 
 pub record Facts (total len : ℕ) (own : List OwnEvent) : Type 0 where
   -- only what was granted lands_block
@@ -27,36 +27,36 @@ pub record Facts (total len : ℕ) (own : List OwnEvent) : Type 0 where
   pub within : (g : Claim) → Has (granted_claims own) g → g.run.first + g.run.count ≤ blocks_of total len
   -- an open block of a claim that stands isn't landed
   pub unlanded : (g : Claim) (b : ℕ) → Has (granted_claims own) g → is_standing own g ≡ true
-      → is_open_in own g b ≡ true → is_landed_in len own b ≡ false
+      → is_open_since own g b ≡ true → is_landed_in len own b ≡ false
   -- one claim at most has open blocks in a sole piece
   pub unique : (g h : Claim) (b b' : ℕ) → Has (granted_claims own) g → Has (granted_claims own) h
       → is_standing own g ≡ true → is_standing own h ≡ true
-      → is_open_in own g b ≡ true → is_open_in own h b' ≡ true → is_sole_in own (piece_of len b) ≡ true
+      → is_open_since own g b ≡ true → is_open_since own h b' ≡ true → is_sole_in own (piece_of len b) ≡ true
       → piece_of len b ≡ piece_of len b' → g.id ≡ h.id
   -- and it is of the whole piece ..
   pub covers : (g : Claim) (b b' : ℕ) → Has (granted_claims own) g → is_standing own g ≡ true
-      → is_open_in own g b ≡ true → is_sole_in own (piece_of len b) ≡ true
+      → is_open_since own g b ≡ true → is_sole_in own (piece_of len b) ≡ true
       → b' < blocks_of total len → piece_of len b' ≡ piece_of len b → is_in b' g.run ≡ true
   -- .. and of it alone
   pub only : (g : Claim) (b b' : ℕ) → Has (granted_claims own) g → is_standing own g ≡ true
-      → is_open_in own g b ≡ true → is_sole_in own (piece_of len b) ≡ true
+      → is_open_since own g b ≡ true → is_sole_in own (piece_of len b) ≡ true
       → is_in b' g.run ≡ true → piece_of len b' ≡ piece_of len b
 
 -- after the event fewer claims stand, with fewer open blocks
 pub record Shrinks (own own' : List OwnEvent) : Type 0 where
   pub had : (g : Claim) → Has (granted_claims own') g → Has (granted_claims own) g
   pub stood : (g : Claim) → is_standing own' g ≡ true → is_standing own g ≡ true
-  pub was_open : (g : Claim) (b : ℕ) → is_open_in own' g b ≡ true → is_open_in own g b ≡ true
+  pub was_open : (g : Claim) (b : ℕ) → is_open_since own' g b ≡ true → is_open_since own g b ≡ true
 
 -- a piece that is sole now was so before, or has no open block
 abbrev pub WasSole : ℕ → List OwnEvent → List OwnEvent → Type 0
 WasSole len own own' = (g : Claim) (b : ℕ) → Has (granted_claims own) g → is_standing own g ≡ true
-    → is_open_in own g b ≡ true → is_sole_in own' (piece_of len b) ≡ true → is_sole_in own (piece_of len b) ≡ true
+    → is_open_since own g b ≡ true → is_sole_in own' (piece_of len b) ≡ true → is_sole_in own (piece_of len b) ≡ true
 
 shrunk : (total len : ℕ) (own own' : List OwnEvent) → Facts total len own → Shrinks own own' → WasSole len own own'
     → ((c b : ℕ) → list_any (lands_block_by c b) own' ≡ true
     → list_any (λ (g : Claim). g.id == c) (granted_claims own') ≡ true)
-    → ((g : Claim) (b : ℕ) → is_open_in own' g b ≡ true → is_landed_in len own' b ≡ true
+    → ((g : Claim) (b : ℕ) → is_open_since own' g b ≡ true → is_landed_in len own' b ≡ true
     → is_landed_in len own b ≡ true)
     → Facts total len own'
 shrunk total len own own' f s sole granted landed =
@@ -82,7 +82,7 @@ shrunk total len own own' f s sole granted landed =
 -- ---- landings
 
 landed_elsewhere : (len : ℕ) (own : List OwnEvent) (c m : ℕ) (run : Run) → stands_in own c ≡ true
-    → (g : Claim) (b : ℕ) → is_open_in (Lands c m run ∷ own) g b ≡ true
+    → (g : Claim) (b : ℕ) → is_open_since (Lands c m run ∷ own) g b ≡ true
     → (t : Bool) → is_in b run ≡ t → is_landed_in len (Lands c m run ∷ own) b ≡ true → is_landed_in len own b ≡ true
 landed_elsewhere len own c m run stood g b opened true is h =
     true_not_false (is_in b run || list_any (lands_block b) (since (grants_claim g.id) own))
@@ -174,7 +174,7 @@ opens_facts : (total len : ℕ) (own : List OwnEvent) (verified blocks : List Bo
     → LegalOwn total len own
     → is_opened own ≡ false → Facts total len own → Facts total len (Opens verified blocks now ∷ own)
 opens_facts total len own verified blocks now legal un f =
-    let no : (g : Claim) (b : ℕ) → Has (granted_claims own) g → is_open_in own g b ≡ true → ⊥ =
+    let no : (g : Claim) (b : ℕ) → Has (granted_claims own) g → is_open_since own g b ≡ true → ⊥ =
     λ g b h o. probe_shut g b ((early total len own legal un).probes g h)
     (and_left (is_in b g.run) (not (has_come own g b)) o) in
     record {
@@ -274,7 +274,7 @@ landed_before_grant total len own cl b f may h =
 -- of two claims the new one has no block open of the other's sole piece
 pub new_and_old : (total len : ℕ) (own : List OwnEvent) (cl : Claim) (h : Claim) (b b' : ℕ)
     → GrantFacts total len own cl → Facts total len own
-    → Has (granted_claims own) h → is_standing own h ≡ true → is_in b cl.run ≡ true → is_open_in own h b' ≡ true
+    → Has (granted_claims own) h → is_standing own h ≡ true → is_in b cl.run ≡ true → is_open_since own h b' ≡ true
     → is_sole_in own (piece_of len b) ≡ true → piece_of len b ≡ piece_of len b' → ⊥
 new_and_old total len own cl h b b' may f hh sh inside oh is same =
     ⊎_elim
@@ -286,8 +286,8 @@ new_and_old total len own cl h b b' may f hh sh inside oh is same =
     below_end b' h.run (and_left (is_in b' h.run) _ oh) in omega arith in
     let at : piece_of len b ≡ one.piece = (one.exact b below).0 inside in
     let inside' : is_in b' cl.run ≡ true = (one.exact b' below').1 (sym same ∙ at) in
-    true_not_false (is_open_in own h b') oh
-    (has_all (λ (g : Claim). is_open_in own g b' ≡ false) (standing_claims own) h (one.free b' inside')
+    true_not_false (is_open_since own h b') oh
+    (has_all (λ (g : Claim). is_open_since own g b' ≡ false) (standing_claims own) h (one.free b' inside')
     (in_filter (is_standing own) (granted_claims own) h hh sh)))
     may.pieces
 
@@ -325,10 +325,10 @@ claims_facts total len own cl f may =
     has_all (λ (x : Claim). x.id < cl.id) (granted_claims own) g may.fresh h in absurd (omega (arith, is)) in
     let st : (g : Claim) → Has (granted_claims own) g → is_standing own' g ≡ true → is_standing own g ≡ true =
     λ g h s. sym (standing_after_grant own cl g (older g h)) ∙ s in
-    let op : (g : Claim) (b : ℕ) → Has (granted_claims own) g → is_open_in own' g b ≡ true
-    → is_open_in own g b ≡ true = λ g b h o. sym (open_after_grant own cl g b (older g h)) ∙ o in
-    let new : (g : Claim) (b : ℕ) → cl ≡ g → is_open_in own' g b ≡ true → is_in b cl.run ≡ true =
-    λ g b is o. new_open own cl b (subst (λ (x : Claim). is_open_in own' x b ≡ true) (sym is) o) in
+    let op : (g : Claim) (b : ℕ) → Has (granted_claims own) g → is_open_since own' g b ≡ true
+    → is_open_since own g b ≡ true = λ g b h o. sym (open_after_grant own cl g b (older g h)) ∙ o in
+    let new : (g : Claim) (b : ℕ) → cl ≡ g → is_open_since own' g b ≡ true → is_in b cl.run ≡ true =
+    λ g b is o. new_open own cl b (subst (λ (x : Claim). is_open_since own' x b ≡ true) (sym is) o) in
     record {
       granted = λ c' b by. or_right (eqb cl.id c') (list_any (λ (g : Claim). g.id == c') (granted_claims own))
           (f.granted c' b by);

@@ -32,9 +32,9 @@ use Rattle.dl_history.proofs.Whole.{since_new, since_old}
 use Rattle.dl_history.proofs.Wrong.{landed_claims, landed_sizes}
 use Rattle.dl_history.specs.Accounts.{Account, after_finding, after_halt, after_own, after_save, after_sizing, at_opening, first_still_open, new_account, with_claim, without_sole, without_sole_at, without_soles}
 use Rattle.dl_history.specs.OwnEvents.{Checks, Clears, Grants, Halts, Lands, Loses, Opens, OwnEvent, Saves, Settles, Sizes}
-use Rattle.dl_history.specs.OwnLegal.{LegalOwn, MayClaim, MayLose, MayProbe}
+use Rattle.dl_history.specs.OwnLegal.{LegalOwn, MayBeLost, MayClaim, MayProbe}
 use Rattle.dl_history.specs.PayloadParts.{is_landed_in, is_mixed, is_sole_in}
-use Rattle.dl_history.specs.StandingClaims.{blocks_in, ends_claim, first_open_in, granted_claims, grants_claim, is_open_in, is_probe, is_standing, lands_block, since, standing_claims}
+use Rattle.dl_history.specs.StandingClaims.{blocks_in, ends_claim, first_open_since, granted_claims, grants_claim, is_open_since, is_probe, is_standing, lands_block, since, standing_claims}
 
 -- ---- a verdict
 
@@ -127,16 +127,16 @@ sizes_follows total len own k c told legal f =
 -- ---- a grant
 
 new_open_first : (own : List OwnEvent) (cl : Claim) → 1 ≤ cl.run.count
-    → is_some (first_open_in (Grants cl ∷ own) cl) ≡ true
+    → is_some (first_open_since (Grants cl ∷ own) cl) ≡ true
 new_open_first own cl some =
     let own' = Grants cl ∷ own in
     let has : Has (blocks_in cl.run) cl.run.first = has_first cl.run.first cl.run.count some in
-    let fo : is_open_in own' cl cl.run.first ≡ true =
+    let fo : is_open_since own' cl cl.run.first ≡ true =
     and_both (is_in cl.run.first cl.run) (not (has_come own' cl cl.run.first)) (in_run cl.run cl.run.first has)
     (ap not (since_new own cl cl.run.first)) in
-    not_false (is_some (first_open_in own' cl))
-    (λ none. true_not_false (is_open_in own' cl cl.run.first) fo
-    (unfound (is_open_in own' cl) (blocks_in cl.run) none cl.run.first has))
+    not_false (is_some (first_open_since own' cl))
+    (λ none. true_not_false (is_open_since own' cl cl.run.first) fo
+    (unfound (is_open_since own' cl) (blocks_in cl.run) none cl.run.first has))
 
 new_stands : (total len : ℕ) (own : List OwnEvent) (cl : Claim) → MayProbe own cl ⊎ MayClaim total len own cl
     → is_standing (Grants cl ∷ own) cl ≡ true
@@ -147,14 +147,31 @@ new_stands total len own cl may =
     (eq-eqb cl.id cl.id refl) in
     and_both (not (has_ended own' cl)) (has_more own' cl) nd
     (⊎_elim
-    (λ (probe : MayProbe own cl). or_left (is_probe cl) (is_some (first_open_in own' cl))
+    (λ (probe : MayProbe own cl). or_left (is_probe cl) (is_some (first_open_since own' cl))
     (eq-eqb cl.run.count 0 probe.count))
-    (λ (claim : MayClaim total len own cl). or_right (is_probe cl) (is_some (first_open_in own' cl))
+    (λ (claim : MayClaim total len own cl). or_right (is_probe cl) (is_some (first_open_since own' cl))
     (new_open_first own cl claim.some))
     may)
 
 cond_true : {A : Type 0} (t : Bool) (x y : A) → t ≡ true → cond t x y ≡ x
 cond_true t x y is = ap (λ (e : Bool). cond e x y) is
+
+below_next : (t : Bool) (n m x : ℕ) → (t ≡ true → x < n) → (t ≡ false → x < m) → x < cond t n m
+below_next true n m x probe real = probe refl
+below_next false n m x probe real = real refl
+
+most_next : (t : Bool) (n m x : ℕ) → x ≤ n → x ≤ m → x ≤ cond t n m
+most_next true n m x a b = a
+most_next false n m x a b = b
+
+abbrev pub NextFrom : List OwnEvent → ℕ → Type 0
+NextFrom own n = (n ≡ 0) ⊎ ((g : Claim) × Has (granted_claims own) g × (g.id + 1 ≡ n))
+
+next_case : (t : Bool) (own : List OwnEvent) (cl : Claim) (n : ℕ) → NextFrom own n
+    → NextFrom (Grants cl ∷ own) (cond t n (cl.id + 1))
+next_case true own cl n (inl none) = inl none
+next_case true own cl n (inr some) = inr (some.0, inr some.1, some.2)
+next_case false own cl n from = inr (cl, inl refl, refl)
 
 claims_follows : (laws : Below) (total len : ℕ) (own : List OwnEvent) (k : Account) (cl : Claim) → IsPlan total len
     → LegalOwn total len (Grants cl ∷ own) → Follows total len own k
@@ -181,10 +198,20 @@ claims_follows laws total len own k cl plan legal f =
           ∙ sym (cond_true (is_standing own' (cl)) (cl ∷ filter (is_standing own') (granted_claims own))
           (filter (is_standing own') (granted_claims own)) (new_stands total len own cl legal.1));
       long = f.long;
-      older = λ g h. ⊎_elim (λ (is : cl ≡ g). let e : cl.id ≡ g.id = ap (λ (x : Claim). x.id) is in omega arith)
-          (λ (old : Has (granted_claims own) g). let o = fresh g old in omega arith) h;
-      next_from = inr (cl, inl refl, refl);
-      closed_le = λ p. let o = f.closed_le p in omega arith;
+      older = λ g h real.
+          ⊎_elim
+          (λ (is : cl ≡ g).
+          let e : cl.id ≡ g.id = ap (λ (x : Claim). x.id) is in
+          below_next (is_probe cl) k.next (cl.id + 1) g.id
+          (λ probe. true_not_false (is_probe g) (subst (λ (x : Claim). is_probe x ≡ true) is probe) real)
+          (λ r. omega arith))
+          (λ (old : Has (granted_claims own) g).
+          below_next (is_probe cl) k.next (cl.id + 1) g.id (λ probe. f.older g old real)
+          (λ r. let o = fresh g old in omega arith))
+          h;
+      next_from = next_case (is_probe cl) own cl k.next f.next_from;
+      closed_le = λ p. most_next (is_probe cl) k.next (cl.id + 1) (get_or k.closed p 0) (f.closed_le p)
+          (let o = f.closed_le p in omega arith);
       open_is = λ g b hg sg below inside.
           ⊎_elim
           (λ (is : cl ≡ g).
@@ -216,7 +243,7 @@ pub record Dropped (total len : ℕ) (own : List OwnEvent) (k : Account) (gs : L
   pub closed_le : (p : ℕ) → get_or d.closed p 0 ≤ k.next
 
 drops_one : (total len : ℕ) (own : List OwnEvent) (k d : Account) (gs : List Claim) (g : Claim) (b p : ℕ)
-    → first_open_in own g ≡ Some b → piece_of len b ≡ p → Dropped total len own k gs d
+    → first_open_since own g ≡ Some b → piece_of len b ≡ p → Dropped total len own k gs d
     → (s : Bool) → is_sole_in own p ≡ s → get_or d.progress.sole p false ≡ s
     → Dropped total len own k (g ∷ gs) (without_sole d p)
 drops_one total len own k d gs g b p first here f true is flag =
@@ -244,7 +271,7 @@ drops_one total len own k d gs g b p first here f false is flag =
 drops_first : (laws : Below) (total len : ℕ) (own : List OwnEvent) (k : Account) → IsPlan total len
     → LegalOwn total len own → Follows total len own k → (d : Account) (gs : List Claim) (g : Claim)
     → Has (granted_claims own) g
-    → Dropped total len own k gs d → (o : Option ℕ) → first_open_in own g ≡ o
+    → Dropped total len own k gs d → (o : Option ℕ) → first_open_since own g ≡ o
     → Dropped total len own k (g ∷ gs) (without_sole_at d o)
 drops_first laws total len own k plan legal f d gs g hg rest None is =
     record {
@@ -258,7 +285,7 @@ drops_first laws total len own k plan legal f d gs g hg rest None is =
       closed_le = rest.closed_le;
     }
 drops_first laws total len own k plan legal f d gs g hg rest (Some b) is =
-    let o = found (is_open_in own g) (blocks_in g.run) b is in
+    let o = found (is_open_since own g) (blocks_in g.run) b is in
     let inside : b < blocks_of total len = let x = (facts total len own legal).within g hg in let e =
     below_end b g.run (and_left (is_in b g.run) _ o.1) in omega arith in
     let in_plan : piece_of len b < pieces_of total len = piece_below laws total len b plan inside in
@@ -293,7 +320,7 @@ halts_follows laws total len own k ends plan legal f =
       table = d.table;
       standing_are = sym (none_stand (granted_claims own) (is_standing (Halts ends ∷ own)) (λ g h. refl));
       long = d.long ∙ f.long;
-      older = λ g h. rw d.next (f.older g h);
+      older = λ g h real. rw d.next (f.older g h real);
       next_from = rw d.next f.next_from;
       closed_le = rw d.next d.closed_le;
       open_is = λ g b hg sg below inside. absurd cc;
@@ -303,7 +330,7 @@ halts_follows laws total len own k ends plan legal f =
 
 -- the sole row at the piece of a loss
 flag_at : (laws : Below) (total len : ℕ) (own : List OwnEvent) (c m p : ℕ) → IsPlan total len → LegalOwn total len own
-    → MayLose len own c m p
+    → MayBeLost len own c m p
     → (t : Bool) → is_sole_in own p ≡ t → get_or (table_at total len own).sole p false ≡ t
 flag_at laws total len own c m p plan legal may true is = soles laws total len own plan legal p
     (loss_piece laws total len own c m p plan legal may is) ∙ is
@@ -337,7 +364,7 @@ follows laws total len [] plan legal =
       table = refl;
       standing_are = refl;
       long = length-replicate (pieces_of total len) 0;
-      older = λ g h. absurd h;
+      older = λ g h real. absurd h;
       next_from = inl refl;
       closed_le = λ p. zero_row (pieces_of total len) p;
       open_is = λ g b hg sg below inside. absurd hg;

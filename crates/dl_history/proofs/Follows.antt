@@ -19,7 +19,7 @@ use Rattle.piece_table.specs.Steps.{started, landed_by, cleared}
 use Rattle.piece_table.specs.Afresh.{after_changes}
 use Rattle.dl_history.proofs.Below.{Below}
 use Rattle.dl_history.proofs.Bools.{and_left, not_true, open_after, true_not_false}
-use Rattle.dl_history.proofs.Early.{below_end}
+use Rattle.dl_history.proofs.Early.{below_end, probe_shut}
 use Rattle.dl_history.proofs.Ends.{has_ended, has_more, stood_before_landing, stood_before_loss}
 use Rattle.dl_history.proofs.Facts.{facts}
 use Rattle.dl_history.proofs.Keeping.{afresh, blocks_at, loss_piece, rows, table_at, verified_at}
@@ -30,7 +30,7 @@ use Rattle.dl_history.specs.Accounts.{Account, after_landing, after_loss, first_
 use Rattle.dl_history.specs.OwnEvents.{Clears, Lands, Loses, OwnEvent, Sizes}
 use Rattle.dl_history.specs.OwnLegal.{LegalOwn}
 use Rattle.dl_history.specs.PayloadParts.{is_landed_in, is_sole_in}
-use Rattle.dl_history.specs.StandingClaims.{blocks_in, first_open_in, granted_claims, grants_claim, is_open_in, is_probe, is_standing, lands_block, since, standing_claims}
+use Rattle.dl_history.specs.StandingClaims.{blocks_in, first_open_since, granted_claims, grants_claim, is_open_since, is_probe, is_standing, lands_block, since, standing_claims}
 
 shut_side : (i x : Bool) → i ≡ true → (i && not x) ≡ false → not x ≡ false
 shut_side true x is h = h
@@ -66,17 +66,17 @@ zero_row (suc n) zero = omega arith
 zero_row (suc n) (suc p) = zero_row n p
 
 pub gone_yes : (len : ℕ) (own : List OwnEvent) (g : Claim) (gs : List Claim) (b p : ℕ) (xs : List Change)
-    → first_open_in own g ≡ Some b → piece_of len b ≡ p → is_sole_in own p ≡ true
+    → first_open_since own g ≡ Some b → piece_of len b ≡ p → is_sole_in own p ≡ true
     → gone len own (g ∷ gs) xs ≡ Clear p ∷ gone len own gs xs
 gone_yes len own g gs b p xs first here is = rw (first, here, is) refl
 
 pub gone_no : (len : ℕ) (own : List OwnEvent) (g : Claim) (gs : List Claim) (b p : ℕ) (xs : List Change)
-    → first_open_in own g ≡ Some b → piece_of len b ≡ p → is_sole_in own p ≡ false
+    → first_open_since own g ≡ Some b → piece_of len b ≡ p → is_sole_in own p ≡ false
     → gone len own (g ∷ gs) xs ≡ gone len own gs xs
 gone_no len own g gs b p xs first here is = rw (first, here, is) refl
 
 pub gone_none : (len : ℕ) (own : List OwnEvent) (g : Claim) (gs : List Claim) (xs : List Change)
-    → first_open_in own g ≡ None → gone len own (g ∷ gs) xs ≡ gone len own gs xs
+    → first_open_since own g ≡ None → gone len own (g ∷ gs) xs ≡ gone len own gs xs
 gone_none len own g gs xs first = rw first refl
 
 -- what is kept: the table that the changes make, the standing claims, and which of their blocks clearings closed
@@ -84,7 +84,7 @@ pub record Follows (total len : ℕ) (own : List OwnEvent) (k : Account) : Type 
   pub table : k.progress ≡ table_at total len own
   pub standing_are : k.standing ≡ standing_claims own
   pub long : length k.closed ≡ pieces_of total len
-  pub older : (g : Claim) → Has (granted_claims own) g → g.id < k.next
+  pub older : (g : Claim) → Has (granted_claims own) g → is_probe g ≡ false → g.id < k.next
   pub next_from : (k.next ≡ 0) ⊎ ((g : Claim) × Has (granted_claims own) g × (g.id + 1 ≡ k.next))
   pub closed_le : (p : ℕ) → get_or k.closed p 0 ≤ k.next
   pub open_is : (g : Claim) (b : ℕ) → Has (granted_claims own) g → is_standing own g ≡ true → b < blocks_of total len
@@ -109,7 +109,7 @@ opens_cases : (total len : ℕ) (own : List OwnEvent) (landed : List Bool) (clos
     → (not (is_landed_in len own b) && nat_le (get_or closed (piece_of len b) 0) g.id) ≡ not
     (list_any (lands_block b) (since (grants_claim g.id) own)))
     → (x : ℕ) (t : Bool) → is_in x g.run ≡ t
-    → (is_in x g.run && not (get_or landed x false) && nat_le (get_or closed (piece_of len x) 0) g.id) ≡ is_open_in
+    → (is_in x g.run && not (get_or landed x false) && nat_le (get_or closed (piece_of len x) 0) g.id) ≡ is_open_since
     own g x
 opens_cases total len own landed closed g within rows each x true is =
     let below : x < blocks_of total len = let e = below_end x g.run is in omega arith in
@@ -127,7 +127,7 @@ pub opens_same : (total len : ℕ) (own : List OwnEvent) (k : Account) (g : Clai
     → ((b : ℕ) → b < blocks_of total len → is_in b g.run ≡ true
     → (not (is_landed_in len own b) && nat_le (get_or k.closed (piece_of len b) 0) g.id) ≡ not
     (list_any (lands_block b) (since (grants_claim g.id) own)))
-    → (x : ℕ) → is_still_open k g x ≡ is_open_in own g x
+    → (x : ℕ) → is_still_open k g x ≡ is_open_since own g x
 opens_same total len own k g within len_is rows each x =
     ap (λ (n : ℕ). is_in x g.run && not (get_or k.progress.landed x false)
     && nat_le (get_or k.closed (piece_of n x) 0) g.id) len_is
@@ -136,9 +136,9 @@ opens_same total len own k g within len_is rows each x =
 pub first_same : (laws : Below) (total len : ℕ) (own : List OwnEvent) (k : Account) → IsPlan total len
     → LegalOwn total len own → Follows total len own k → (g : Claim) → Has (granted_claims own) g
     → is_standing own g ≡ true
-    → first_still_open k g ≡ first_open_in own g
+    → first_still_open k g ≡ first_open_since own g
 first_same laws total len own k plan legal f g hg sg =
-    find_same (is_still_open k g) (is_open_in own g) (blocks_in g.run)
+    find_same (is_still_open k g) (is_open_since own g) (blocks_in g.run)
     (opens_same total len own k g ((facts total len own legal).within g hg)
     (ap (λ (p : Progress). p.piece_len) f.table ∙ (afresh laws total len own plan legal).piece_len_is)
     (λ b below. ap (λ (p : Progress). get_or p.landed b false) f.table ∙ rows laws total len own plan legal b below)
@@ -181,7 +181,7 @@ lands_follows laws total len own k c m run plan legal f =
           ∙ filters (is_busy k1) (is_standing own) (is_standing own') (granted_claims own)
           (λ g hg. busy_cases own c m run g (is_busy k1 g) (is_standing own g) refl
           (λ sg. ap (λ (o : Option ℕ). is_probe g || is_some o)
-          (find_same (is_still_open k1 g) (is_open_in own' g) (blocks_in g.run)
+          (find_same (is_still_open k1 g) (is_open_since own' g) (blocks_in g.run)
           (opens_same total len own' k1 g ((facts total len own legal.0).within g hg)
           (ap (λ (p : Progress). p.piece_len) table ∙ (afresh laws total len own' plan legal).piece_len_is)
           (λ b below. ap (λ (p : Progress). get_or p.landed b false) table
@@ -267,9 +267,9 @@ loses_cases laws total len own k c m p mark plan legal f true is flag =
           let top : get_or (set k.closed p k.next) (piece_of len b) 0 ≡ k.next =
           ap (λ (n : ℕ). get_or (set k.closed p k.next) n 0) here
           ∙ get_or-set_same k.closed p k.next 0 (omega (arith, f.long)) in
-          let shut : is_open_in own g b ≡ false =
-          not_true (is_open_in own g b) (loss_shut total len own c m p mark legal.0 legal.1 g b hg sg is here) in
-          rw (top, over k.next g.id (f.older g hg))
+          let shut : is_open_since own g b ≡ false =
+          not_true (is_open_since own g b) (loss_shut total len own c m p mark legal.0 legal.1 g b hg sg is here) in
+          rw (top, over k.next g.id (f.older g hg (not_true (is_probe g) (λ is. probe_shut g b is inside))))
           (and_zero (not (is_landed_in len own' b))
           ∙ sym (shut_side (is_in b g.run) (list_any (lands_block b) (since (grants_claim g.id) own)) inside
           shut)))
@@ -302,9 +302,9 @@ clears_follows laws total len own k p plan legal f =
           let top : get_or (set k.closed p k.next) (piece_of len b) 0 ≡ k.next =
           ap (λ (n : ℕ). get_or (set k.closed p k.next) n 0) here
           ∙ get_or-set_same k.closed p k.next 0 (let w = legal.1.within in omega (arith, f.long)) in
-          let shut : is_open_in own g b ≡ false = clear_shut total len own p legal.0 legal.1.cause g b hg sg below
+          let shut : is_open_since own g b ≡ false = clear_shut total len own p legal.0 legal.1.cause g b hg sg below
           here in
-          rw (top, over k.next g.id (f.older g hg))
+          rw (top, over k.next g.id (f.older g hg (not_true (is_probe g) (λ is. probe_shut g b is inside))))
           (and_zero (not (is_landed_in len (Clears p ∷ own) b))
           ∙ sym (shut_side (is_in b g.run) (list_any (lands_block b) (since (grants_claim g.id) own)) inside
           shut)))

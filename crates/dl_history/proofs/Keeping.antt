@@ -30,9 +30,9 @@ use Rattle.dl_history.proofs.Table.{lost_block, table_says}
 use Rattle.dl_history.proofs.TableChanges.{blocks_at_start, changes_of, gone, gone_at}
 use Rattle.dl_history.proofs.Whole.{granted_there}
 use Rattle.dl_history.specs.OwnEvents.{Checks, Clears, Grants, Halts, Lands, Loses, Opens, OwnEvent, Saves, Settles, Sizes}
-use Rattle.dl_history.specs.OwnLegal.{LegalOwn, MayLose}
+use Rattle.dl_history.specs.OwnLegal.{LegalOwn, MayBeLost}
 use Rattle.dl_history.specs.PayloadParts.{finding_on, is_landed_in, is_mixed, is_sole_in, is_verified_in, is_wrong_in, source_in}
-use Rattle.dl_history.specs.StandingClaims.{blocks_in, first_open_in, granted_claims, is_open_in, is_standing, standing_claims}
+use Rattle.dl_history.specs.StandingClaims.{blocks_in, first_open_since, granted_claims, is_open_since, is_standing, standing_claims}
 
 -- ---- the table's start, and its changes
 
@@ -124,18 +124,18 @@ gone_one total len true p xs below rest = All-cons (IsWithin total len) (Clear p
 gone_one total len false p xs below rest = rest
 
 pub loss_piece : (laws : Below) (total len : ℕ) (own : List OwnEvent) (c m p : ℕ) → IsPlan total len
-    → LegalOwn total len own → MayLose len own c m p
+    → LegalOwn total len own → MayBeLost len own c m p
     → is_sole_in own p ≡ true → p < pieces_of total len
 loss_piece laws total len own c m p plan legal may is =
     let lb = lost_block total len own c m p legal may (opened_by_sole total len own p legal is) in
     subst (λ (q : ℕ). q < pieces_of total len) lb.piece_is (piece_below laws total len lb.block plan lb.below)
 
 gone_at_within : (laws : Below) (total len : ℕ) (own : List OwnEvent) → IsPlan total len → Facts total len own
-    → (g : Claim) → Has (granted_claims own) g → (o : Option ℕ) → first_open_in own g ≡ o → (xs : List Change)
+    → (g : Claim) → Has (granted_claims own) g → (o : Option ℕ) → first_open_since own g ≡ o → (xs : List Change)
     → All (IsWithin total len) xs → All (IsWithin total len) (gone_at len own o xs)
 gone_at_within laws total len own plan f g hg None is xs rest = rest
 gone_at_within laws total len own plan f g hg (Some b) is xs rest =
-    let o = found (is_open_in own g) (blocks_in g.run) b is in
+    let o = found (is_open_since own g) (blocks_in g.run) b is in
     let inside : b < blocks_of total len = let x = f.within g hg in let e =
     below_end b g.run (and_left (is_in b g.run) _ o.1) in omega arith in
     gone_one total len (is_sole_in own (piece_of len b)) (piece_of len b) xs
@@ -163,10 +163,10 @@ gone_within : (laws : Below) (total len : ℕ) (own : List OwnEvent) → IsPlan 
 gone_within laws total len own plan f [] sub xs rest = rest
 gone_within laws total len own plan f (g ∷ gs) sub xs rest =
     let more = gone_within laws total len own plan f gs (λ x h. sub x (inr h)) xs rest in
-    gone_at_within laws total len own plan f g (sub g (inl refl)) (first_open_in own g) refl (gone len own gs xs) more
+    gone_at_within laws total len own plan f g (sub g (inl refl)) (first_open_since own g) refl (gone len own gs xs) more
 
 run_within : (total len : ℕ) (own : List OwnEvent) → Facts total len own → (g : Claim) → Has (granted_claims own) g
-    → (run : Run) → 1 ≤ run.count → ((b : ℕ) → is_in b run ≡ true → is_open_in own g b ≡ true)
+    → (run : Run) → 1 ≤ run.count → ((b : ℕ) → is_in b run ≡ true → is_open_since own g b ≡ true)
     → run.first + run.count ≤ blocks_of total len
 run_within total len own f g hg run some each =
     let last = run.first + (run.count - 1) in
@@ -255,7 +255,7 @@ sole_at len own (Some b) xs p = sole_one (is_sole_in own (piece_of len b)) (piec
 sole_gone : (len : ℕ) (own : List OwnEvent) (gs : List Claim) (xs : List Change) (p : ℕ)
     → changed_sole (gone len own gs xs) p ≡ changed_sole xs p
 sole_gone len own [] xs p = refl
-sole_gone len own (g ∷ gs) xs p = sole_at len own (first_open_in own g) (gone len own gs xs) p
+sole_gone len own (g ∷ gs) xs p = sole_at len own (first_open_since own g) (gone len own gs xs) p
     ∙ sole_gone len own gs xs p
 
 sole_verdict : (p q : ℕ) (r w : Bool) (xs : List Change) (rest : Bool) → changed_sole xs p ≡ rest
@@ -309,7 +309,7 @@ right_at len own (Some b) xs p = right_one (is_sole_in own (piece_of len b)) (pi
 right_gone : (len : ℕ) (own : List OwnEvent) (gs : List Claim) (xs : List Change) (p : ℕ)
     → changed_right (gone len own gs xs) p ≡ changed_right xs p
 right_gone len own [] xs p = refl
-right_gone len own (g ∷ gs) xs p = right_at len own (first_open_in own g) (gone len own gs xs) p
+right_gone len own (g ∷ gs) xs p = right_at len own (first_open_since own g) (gone len own gs xs) p
     ∙ right_gone len own gs xs p
 
 right_verdict : (t : Bool) (p q : ℕ) (r : Bool) (xs : List Change)
@@ -403,7 +403,7 @@ verdicts_at len own (Some b) xs p = verdicts_one (is_sole_in own (piece_of len b
 verdicts_gone : (len : ℕ) (own : List OwnEvent) (gs : List Claim) (xs : List Change) (p : ℕ)
     → filter_map (verdict_on p) (gone len own gs xs) ≡ filter_map (verdict_on p) xs
 verdicts_gone len own [] xs p = refl
-verdicts_gone len own (g ∷ gs) xs p = verdicts_at len own (first_open_in own g) (gone len own gs xs) p
+verdicts_gone len own (g ∷ gs) xs p = verdicts_at len own (first_open_since own g) (gone len own gs xs) p
     ∙ verdicts_gone len own gs xs p
 
 verdicts_mixed : (t : Bool) (q : ℕ) (r : Bool) (xs : List Change) (p : ℕ)

@@ -28,7 +28,7 @@ use Rattle.dl_history.specs.Accounts.{Account, account_of, is_still_open}
 use Rattle.dl_history.specs.OwnEvents.{OwnEvent}
 use Rattle.dl_history.specs.OwnLegal.{LegalOwn}
 use Rattle.dl_history.specs.PayloadParts.{is_alive, is_landed_in, is_opened, source_in, sources_in}
-use Rattle.dl_history.specs.StandingClaims.{granted_claims, is_open_in, is_probe, is_standing, standing_claims}
+use Rattle.dl_history.specs.StandingClaims.{granted_claims, is_open_since, is_probe, is_standing, standing_claims}
 
 all_from : {A : Type 0} (P : A → Type 0) (xs : List A) → ((x : A) → Has xs x → P x) → All P xs
 all_from P [] each = All-nil P
@@ -84,7 +84,7 @@ matches_opened laws total len own plan legal opened =
       };
       claims = record {
         standing = f.standing_are;
-        open_blocks = all_from (λ (g : Claim). (b : ℕ) → is_still_open k g b ≡ is_open_in own g b)
+        open_blocks = all_from (λ (g : Claim). (b : ℕ) → is_still_open k g b ≡ is_open_since own g b)
             (standing_claims own)
             (λ g h.
             let there = has_filter (is_standing own) (granted_claims own) g h in
@@ -117,7 +117,7 @@ shut_both true a b x is = absurd cc
 shut_both false a b x is = refl
 
 probe_alike : (own : List OwnEvent) (k : Account) (g : Claim) → is_probe g ≡ true → (b : ℕ)
-    → is_still_open k g b ≡ is_open_in own g b
+    → is_still_open k g b ≡ is_open_since own g b
 probe_alike own k g is b =
     shut_both (is_in b g.run) (not (get_or k.progress.landed b false))
     (nat_le (get_or k.closed (piece_of k.progress.piece_len b) 0) g.id)
@@ -150,7 +150,7 @@ matches_unopened laws total len own plan legal un =
       };
       claims = record {
         standing = b.standing ∙ f.standing_are;
-        open_blocks = all_from (λ (g : Claim). (x : ℕ) → is_still_open k g x ≡ is_open_in own g x)
+        open_blocks = all_from (λ (g : Claim). (x : ℕ) → is_still_open k g x ≡ is_open_since own g x)
             (standing_claims own)
             (λ g h. probe_alike own k g (e.probes g (has_filter (is_standing own) (granted_claims own) g h).0));
         within = all_from (λ (g : Claim). g.run.first + g.run.count ≤ blocks_of total len) (standing_claims own)

@@ -16,7 +16,7 @@ use Rattle.dl_history.proofs.Whole.{early_shut, granted_there, sole_before_verdi
 use Rattle.dl_history.specs.OwnEvents.{Checks, Clears, Grants, Halts, Lands, Loses, Opens, OwnEvent, Saves, Settles, Sizes}
 use Rattle.dl_history.specs.OwnLegal.{LegalOwn}
 use Rattle.dl_history.specs.PayloadParts.{is_alive, is_landed_in, is_sole_in, source_by}
-use Rattle.dl_history.specs.StandingClaims.{granted_claims, has_given_all, is_open_in, is_standing, stands_in}
+use Rattle.dl_history.specs.StandingClaims.{granted_claims, has_given_all, is_open_since, is_standing, stands_in}
 
 -- all claims that count but this one
 abbrev pub without : List OwnEvent → ℕ → ℕ → Bool
@@ -48,7 +48,7 @@ and_false false b h = refl
 
 -- without the landings of a sole piece's claim no block of the piece is landed
 pub absent : (total len : ℕ) (own : List OwnEvent) → LegalOwn total len own → (g : Claim) (b b' : ℕ)
-    → Has (granted_claims own) g → is_standing own g ≡ true → is_open_in own g b ≡ true
+    → Has (granted_claims own) g → is_standing own g ≡ true → is_open_since own g b ≡ true
     → is_sole_in own (piece_of len b) ≡ true → b' < blocks_of total len → piece_of len b' ≡ piece_of len b
     → is_present (source_by (without own g.id) (piece_of len b) b' own) ≡ false
 absent total len [] legal g b b' hg sg og is below same = absurd hg
@@ -61,7 +61,7 @@ absent total len (Grants cl ∷ own) legal g b b' hg sg og is below same =
     (λ h.
     ⊎_elim
     (λ (gn : cl ≡ g).
-    let inside = new_open own cl b (subst (λ (x : Claim). is_open_in (Grants cl ∷ own) x b ≡ true) (sym gn) og) in
+    let inside = new_open own cl b (subst (λ (x : Claim). is_open_since (Grants cl ∷ own) x b ≡ true) (sym gn) og) in
     let inside' = whole_run total len own cl b b' may inside is below same in
     let was = fewer own (without (Grants cl ∷ own) g.id) (is_alive own) (piece_of len b) b'
     (λ c' by w. alive_before_grant total len own cl c' may (no_landing_yet total len own cl c' b' f may by)

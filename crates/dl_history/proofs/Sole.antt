@@ -16,7 +16,7 @@ use Rattle.dl_history.proofs.Members.{Has, any_has, has_all}
 use Rattle.dl_history.specs.OwnEvents.{Checks, Clears, Grants, Halts, Lands, Loses, Opens, OwnEvent, Saves, Settles, Sizes}
 use Rattle.dl_history.specs.OwnLegal.{LegalOwn}
 use Rattle.dl_history.specs.PayloadParts.{is_opened}
-use Rattle.dl_history.specs.StandingClaims.{blocks_in, first_open_in, granted_claims, grants_claim, has_given_all, is_open_in, is_probe, is_standing, lands_block, lands_block_by, since}
+use Rattle.dl_history.specs.StandingClaims.{blocks_in, first_open_since, granted_claims, grants_claim, has_given_all, is_open_since, is_probe, is_standing, lands_block, lands_block_by, since}
 
 -- ---- numbers of a run
 
@@ -71,18 +71,18 @@ some_of (Some x) h = (x, refl)
 -- ---- a claim that stands has an open block, and is known by its number
 
 pub first_block : (own : List OwnEvent) (g : Claim) → is_probe g ≡ false → is_standing own g ≡ true → (b : ℕ)
-    × (first_open_in own g ≡ Some b)
+    × (first_open_since own g ≡ Some b)
 first_block own g real s =
     let more = and_right (not (has_ended own g)) (has_more own g) s in
-    some_of (first_open_in own g)
-    (or_cases (is_probe g) (is_some (first_open_in own g)) more (λ is. true_not_false (is_probe g) is real)
+    some_of (first_open_since own g)
+    (or_cases (is_probe g) (is_some (first_open_since own g)) more (λ is. true_not_false (is_probe g) is real)
     (λ is. is))
 
 pub open_block : (own : List OwnEvent) (g : Claim) → is_probe g ≡ false → is_standing own g ≡ true → (b : ℕ)
-    × (is_open_in own g b ≡ true)
+    × (is_open_since own g b ≡ true)
 open_block own g real s =
     let o = first_block own g real s in
-    (o.0, (found (is_open_in own g) (blocks_in g.run) o.0 o.1).1)
+    (o.0, (found (is_open_since own g) (blocks_in g.run) o.0 o.1).1)
 
 -- a claim that stands once the download is opened is no probe
 pub real_claim : (total len : ℕ) (own : List OwnEvent) (g : Claim) → LegalOwn total len own → is_opened own ≡ true
@@ -172,7 +172,7 @@ run_has run b inside =
 -- a claim with an open block hasn't given its whole run
 pub not_whole : (total len : ℕ) (own : List OwnEvent) → LegalOwn total len own → (g : Claim) (b : ℕ)
     → Has (granted_claims own) g
-    → is_open_in own g b ≡ true → has_given_all own g.id ≡ true → ⊥
+    → is_open_since own g b ≡ true → has_given_all own g.id ≡ true → ⊥
 not_whole total len own legal g b has opened whole =
     let r = any_has
     (λ (x : Claim). x.id == g.id && list_all (λ b'. list_any (lands_block_by g.id b') own) (blocks_in x.run))

@@ -21,9 +21,9 @@ use Rattle.dl_history.proofs.Sole.{all_each, apart, each_all, first_block, found
 use Rattle.dl_history.proofs.TableChanges.{blocks_at_start, changes_of, gone, table_source}
 use Rattle.dl_history.proofs.Whole.{alive_after_landing, granted_there, sole_by, sole_lands, sole_then, solely}
 use Rattle.dl_history.specs.OwnEvents.{Checks, Clears, Grants, Halts, Lands, Loses, Opens, OwnEvent, Saves, Settles, Sizes}
-use Rattle.dl_history.specs.OwnLegal.{LegalOwn, MayLand, MayLose, MaySize}
+use Rattle.dl_history.specs.OwnLegal.{LegalOwn, MayLand, MayBeLost, MaySize}
 use Rattle.dl_history.specs.PayloadParts.{counts, is_alive, is_landed_in, is_mixed, is_opened, is_sole_in, source_by, source_in}
-use Rattle.dl_history.specs.StandingClaims.{blocks_in, ends_claim, first_open_in, granted_claims, grants_claim, has_given_all, is_open_in, is_standing, lands_block, lands_block_by, piece_of_first, since, standing_claims, stands_in}
+use Rattle.dl_history.specs.StandingClaims.{blocks_in, ends_claim, first_open_since, granted_claims, grants_claim, has_given_all, is_open_since, is_standing, lands_block, lands_block_by, piece_of_first, since, standing_claims, stands_in}
 
 -- ---- a landing
 
@@ -70,7 +70,7 @@ stays total len own c m run legal may b c' by alive =
     (sole_then (piece_of len b) b c' own by) in
     subst (λ (n : ℕ). is_alive (Lands c m run ∷ own) n ≡ true) who
     (alive_after_landing total len own c m run legal may r.0 o.0 r.1 r.2 o.1 is
-    (is_some (first_open_in (Lands c m run ∷ own) r.0)) refl))
+    (is_some (first_open_since (Lands c m run ∷ own) r.0)) refl))
     (λ w. or_right (stands_in (Lands c m run ∷ own) c') (has_given_all (Lands c m run ∷ own) c')
     (whole_more own c m run c' w))
 
@@ -96,21 +96,21 @@ pub record LostBlock (total len : ℕ) (own : List OwnEvent) (claim : Claim) (pi
   pub there : Has (granted_claims own) claim
   pub standing : is_standing own claim ≡ true
   pub block : ℕ
-  pub first : first_open_in own claim ≡ Some block
-  pub opened : is_open_in own claim block ≡ true
+  pub first : first_open_since own claim ≡ Some block
+  pub opened : is_open_since own claim block ≡ true
   pub piece_is : piece_of len block ≡ piece
   pub below : block < blocks_of total len
   pub unlanded : is_landed_in len own block ≡ false
 
 pub lost_block : (total len : ℕ) (own : List OwnEvent) (c m p : ℕ) → LegalOwn total len own
-    → (may : MayLose len own c m p) → is_opened own ≡ true
+    → (may : MayBeLost len own c m p) → is_opened own ≡ true
     → LostBlock total len own may.claim p
 lost_block total len own c m p legal may opened =
     let there = has_filter (is_standing own) (granted_claims own) may.claim
     (has_from (standing_claims own) may.claim may.stands.0 may.stands.1 may.stands.2) in
     let o = first_block own may.claim (real_claim total len own may.claim legal opened there.0 there.1) there.1 in
     let f = facts total len own legal in
-    let opened_there = (found (is_open_in own may.claim) (blocks_in may.claim.run) o.0 o.1).1 in
+    let opened_there = (found (is_open_since own may.claim) (blocks_in may.claim.run) o.0 o.1).1 in
     record {
       there = there.0;
       standing = there.1;
@@ -128,7 +128,7 @@ lost_block total len own c m p legal may opened =
 
 -- what the claim gave is gone where its piece is sole
 pub gone_by_loss : (total len : ℕ) (own : List OwnEvent) (c m p : ℕ) (mark : Mark) → LegalOwn total len own
-    → MayLose len own c m p → (b : ℕ) → b < blocks_of total len
+    → MayBeLost len own c m p → (b : ℕ) → b < blocks_of total len
     → is_sole_in own p ≡ true → piece_of len b ≡ p
     → source_by (is_alive (Loses c m p mark ∷ own)) (piece_of len b) b own ≡ Absent
 gone_by_loss total len own c m p mark legal may b below is here =
@@ -153,7 +153,7 @@ gone_by_loss total len own c m p mark legal may b below is here =
 
 -- .. and elsewhere all is as before
 pub kept_by_loss : (total len : ℕ) (own : List OwnEvent) (c m p : ℕ) (mark : Mark) → LegalOwn total len own
-    → MayLose len own c m p → (b : ℕ)
+    → MayBeLost len own c m p → (b : ℕ)
     → (is_sole_in own p ≡ true → piece_of len b ≡ p → ⊥)
     → source_by (is_alive (Loses c m p mark ∷ own)) (piece_of len b) b own ≡ source_by (is_alive own)
     (piece_of len b) b own
@@ -183,7 +183,7 @@ kept_by_loss total len own c m p mark legal may b never =
     (or_right (stands_in (Loses c m p mark ∷ own) c') (has_given_all own c'))))
 
 loss_cases : (total len : ℕ) (own : List OwnEvent) (c m p : ℕ) (mark : Mark) → LegalOwn total len own
-    → MayLose len own c m p → (b : ℕ) → b < blocks_of total len
+    → MayBeLost len own c m p → (b : ℕ) → b < blocks_of total len
     → source_of len (blocks_at_start own) (changes_of len own) b ≡ source_by (is_alive own) (piece_of len b) b own
     → (s e : Bool) → is_sole_in own p ≡ s → eqb (piece_of len b) p ≡ e
     → source_of len (blocks_at_start own) (cond s (Clear p ∷ changes_of len own) (changes_of len own)) b ≡ source_by
@@ -201,7 +201,7 @@ loss_cases total len own c m p mark legal may b below ih false e s q =
 
 -- a claim ends in the block's sole piece
 abbrev pub Hits : ℕ → List OwnEvent → ℕ → Claim → Type 0
-Hits len own b g = (x : ℕ) × (first_open_in own g ≡ Some x) × (is_sole_in own (piece_of len x) ≡ true)
+Hits len own b g = (x : ℕ) × (first_open_since own g ≡ Some x) × (is_sole_in own (piece_of len x) ≡ true)
     × (piece_of len b ≡ piece_of len x)
 
 abbrev pub Gone : ℕ → List OwnEvent → ℕ → List Claim → Type 0
@@ -212,7 +212,7 @@ Gone len own b gs =
     × (source_of len (blocks_at_start own) (gone len own gs (changes_of len own)) b ≡ table_source len own b))
 
 gone_more : (len : ℕ) (own : List OwnEvent) (b : ℕ) (g : Claim) (gs : List Claim) → Gone len own b gs → (o : Option ℕ)
-    → first_open_in own g ≡ o
+    → first_open_since own g ≡ o
     → ((x : ℕ) → o ≡ Some x → (s e : Bool) → is_sole_in own (piece_of len x) ≡ s
     → eqb (piece_of len b) (piece_of len x) ≡ e → Gone len own b (g ∷ gs))
     → Gone len own b (g ∷ gs)
@@ -227,7 +227,7 @@ gone_more len own b g gs rest None is some =
     × (source_of len (blocks_at_start own) (gone len own gs (changes_of len own)) b ≡ table_source len own b)).
     inr (
       λ k hk hits. ⊎_elim
-          (λ (same : g ≡ k). let e : first_open_in own g ≡ Some hits.0 = ap (first_open_in own) same
+          (λ (same : g ≡ k). let e : first_open_since own g ≡ Some hits.0 = ap (first_open_since own) same
           ∙ hits.1 in absurd (let n : None ≡ Some hits.0 = sym is ∙ e in cc)) (λ (old : Has gs k). h.0 k old hits)
           hk,
       rw is h.1,
@@ -235,7 +235,7 @@ gone_more len own b g gs rest None is some =
     rest
 
 gone_some : (len : ℕ) (own : List OwnEvent) (b : ℕ) (g : Claim) (gs : List Claim) → Gone len own b gs → (x : ℕ)
-    → first_open_in own g ≡ Some x
+    → first_open_since own g ≡ Some x
     → (s e : Bool) → is_sole_in own (piece_of len x) ≡ s → eqb (piece_of len b) (piece_of len x) ≡ e
     → Gone len own b (g ∷ gs)
 gone_some len own b g gs rest x is true true s e =
@@ -251,7 +251,7 @@ gone_some len own b g gs rest x is true false s e =
       λ k hk hits.
           ⊎_elim
           (λ (same : g ≡ k).
-          let at : x ≡ hits.0 = let q : Some x ≡ Some hits.0 = sym is ∙ (ap (first_open_in own) same ∙ hits.1) in
+          let at : x ≡ hits.0 = let q : Some x ≡ Some hits.0 = sym is ∙ (ap (first_open_since own) same ∙ hits.1) in
           cc in
           true_not_false (eqb (piece_of len b) (piece_of len x))
           (eq-eqb (piece_of len b) (piece_of len x) (hits.3 ∙ ap (piece_of len) (sym at))) e)
@@ -270,7 +270,7 @@ gone_some len own b g gs rest x is false e s q =
       λ k hk hits.
           ⊎_elim
           (λ (same : g ≡ k).
-          let at : x ≡ hits.0 = let q : Some x ≡ Some hits.0 = sym is ∙ (ap (first_open_in own) same ∙ hits.1) in
+          let at : x ≡ hits.0 = let q : Some x ≡ Some hits.0 = sym is ∙ (ap (first_open_since own) same ∙ hits.1) in
           cc in
           true_not_false (is_sole_in own (piece_of len x))
           (subst (λ (y : ℕ). is_sole_in own (piece_of len y) ≡ true) (sym at) hits.2) s)
@@ -283,7 +283,7 @@ pub gone_cases : (len : ℕ) (own : List OwnEvent) (b : ℕ) (gs : List Claim) �
 gone_cases len own b [] = inr (λ g h hits. h, refl)
 gone_cases len own b (g ∷ gs) =
     let rest = gone_cases len own b gs in
-    gone_more len own b g gs rest (first_open_in own g) refl
+    gone_more len own b g gs rest (first_open_since own g) refl
     (λ x is s e p q. gone_some len own b g gs rest x is s e p q)
 
 halted_alive : (own : List OwnEvent) (ends : Bool) (c : ℕ) → is_alive (Halts ends ∷ own) c ≡ true
@@ -299,7 +299,7 @@ pub halt_same : (total len : ℕ) (own : List OwnEvent) (ends : Bool) → LegalO
     len (Halts ends ∷ own) b
 halt_same total len own ends legal b below ih (inl h) =
     let there = has_filter (is_standing own) (granted_claims own) h.0 h.1 in
-    let o = found (is_open_in own h.0) (blocks_in h.0.run) h.2.0 h.2.1 in
+    let o = found (is_open_since own h.0) (blocks_in h.0.run) h.2.0 h.2.1 in
     h.3 ∙ sym (absent_source (source_by (is_alive (Halts ends ∷ own)) (piece_of len b) b own)
     (not_true (is_present (source_by (is_alive (Halts ends ∷ own)) (piece_of len b) b own))
     (λ present.
@@ -326,7 +326,7 @@ halt_same total len own ends legal b below ih (inr h) =
     real_claim total len own r.0 legal
     (opened_by_sole total len own (piece_of len b) legal (sole_then (piece_of len b) b c own by)) r.1 r.2 in
     let first = first_block own r.0 real r.2 in
-    let o = found (is_open_in own r.0) (blocks_in r.0.run) first.0 first.1 in
+    let o = found (is_open_since own r.0) (blocks_in r.0.run) first.0 first.1 in
     let same : piece_of len first.0 ≡ piece_of len b =
     solely total len own legal r.0 b first.0 r.1 r.2
     (subst (λ (n : ℕ). sole_lands (piece_of len b) b n own ≡ true) (sym who) by)
@@ -411,7 +411,7 @@ table_says total len (Lands c m run ∷ own) legal b below =
     (λ now. ih ∙ absent_source (source_in len own b) (f.unlanded may.claim b there.0 there.1 (may.open_in b now)))
     (λ now is. subst (λ (n : ℕ). is_alive (Lands c m run ∷ own) n ≡ true) may.id_is
     (alive_after_landing total len own c m run legal.0 may may.claim b there.0 there.1 (may.open_in b now) is
-    (is_some (first_open_in (Lands c m run ∷ own) may.claim)) refl))
+    (is_some (first_open_since (Lands c m run ∷ own) may.claim)) refl))
     (λ away. ih ∙ same_source own (is_alive own) (is_alive (Lands c m run ∷ own)) (piece_of len b) b
     (λ c' by. same_tests (is_alive own c') (is_alive (Lands c m run ∷ own) c')
     (stays total len own c m run legal.0 may b c' by) (alive_before_landing own c m run stood c')))

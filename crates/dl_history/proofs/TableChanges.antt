@@ -7,7 +7,7 @@ use Rattle.piece_table.specs.Changes.{Change, Land, Settle, Clear, MakeSole, Sou
 use Rattle.piece_table.specs.declared.giver.Giver.{Giver}
 use Rattle.dl_history.specs.OwnEvents.{Checks, Clears, Grants, Halts, Lands, Loses, Opens, OwnEvent, Saves, Settles, Sizes}
 use Rattle.dl_history.specs.PayloadParts.{is_mixed, is_sole_in}
-use Rattle.dl_history.specs.StandingClaims.{first_open_in, standing_claims}
+use Rattle.dl_history.specs.StandingClaims.{first_open_since, standing_claims}
 
 -- a claim ends at this open block
 abbrev pub gone_at : ℕ → List OwnEvent → Option ℕ → List Change → List Change
@@ -17,7 +17,7 @@ gone_at len before (Some b) changes = if is_sole_in before (piece_of len b) then
 
 abbrev pub gone : ℕ → List OwnEvent → List Claim → List Change → List Change
 gone len before [] changes = changes
-gone len before (g ∷ others) changes = gone_at len before (first_open_in before g) (gone len before others changes)
+gone len before (g ∷ others) changes = gone_at len before (first_open_since before g) (gone len before others changes)
 
 abbrev pub with_finding_on : ℕ → Bool → Giver → List Change → List Change
 with_finding_on p right giver changes = if not right

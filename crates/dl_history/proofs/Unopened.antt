@@ -1,5 +1,5 @@
 -- What is kept of a download before its opening, and that what it begins with doesn't matter once it is opened.
-use Rattle.std.proofs.Common.{◌≡◌, ◌≢◌, ℕ, Bool, true, false, cond, eqb, Option, Some, None, List, [], ◌∷◌, get_or, refl, sym, ap, ◌∙◌, ⊎_elim}
+use Rattle.std.proofs.Common.{◌+◌, ◌≡◌, ◌≢◌, ℕ, Bool, true, false, cond, eqb, Option, Some, None, List, [], ◌∷◌, get_or, refl, sym, ap, ◌∙◌, ⊎_elim}
 use Rattle.std.specs.Prelude.{◌||◌, not}
 use Rattle.std.specs.List.{filter_map}
 use Rattle.std.proofs.lemmas.Bool.{eq-eqb}
@@ -21,7 +21,7 @@ use Rattle.dl_history.specs.Listings.{no_listing}
 use Rattle.dl_history.specs.OwnEvents.{Checks, Clears, Grants, Halts, Lands, Loses, Opens, OwnEvent, Saves, Settles, Sizes}
 use Rattle.dl_history.specs.OwnLegal.{IsLossOf, IsWrongLast, LegalOwn, MayClear, MayLand}
 use Rattle.dl_history.specs.PayloadParts.{finding_on, is_opened, is_sole_in}
-use Rattle.dl_history.specs.StandingClaims.{granted_claims, is_standing, standing_claims}
+use Rattle.dl_history.specs.StandingClaims.{granted_claims, is_probe, is_standing, standing_claims}
 
 -- ---- a clearing comes after the opening
 
@@ -136,7 +136,7 @@ bare total len (Grants cl ∷ own) legal un =
       listing = b.listing;
       saved = b.saved;
       standing = ap (λ (gs : List Claim). cl ∷ gs) b.standing;
-      next = refl;
+      next = ap (λ (n : ℕ). cond (is_probe cl) n (cl.id + 1)) b.next;
       told = b.told;
       checked = b.checked;
       ended = b.ended;

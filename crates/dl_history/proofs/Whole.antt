@@ -19,7 +19,7 @@ use Rattle.dl_history.proofs.Sole.{apart, each_all, in_run, unfound}
 use Rattle.dl_history.specs.OwnEvents.{Checks, Clears, Grants, Halts, Lands, Loses, Opens, OwnEvent, Saves, Settles, Sizes}
 use Rattle.dl_history.specs.OwnLegal.{LegalOwn, MayLand, MaySettle}
 use Rattle.dl_history.specs.PayloadParts.{is_alive, is_landed_in, is_mixed, is_opened, is_sole_in}
-use Rattle.dl_history.specs.StandingClaims.{blocks_in, first_open_in, granted_claims, grants_claim, has_given_all, is_open_in, is_probe, is_standing, lands_block, lands_block_by, since, standing_claims, stands_in}
+use Rattle.dl_history.specs.StandingClaims.{blocks_in, first_open_since, granted_claims, grants_claim, has_given_all, is_open_since, is_probe, is_standing, lands_block, lands_block_by, since, standing_claims, stands_in}
 
 -- the grant that a landing is of
 pub granted_there : (own : List OwnEvent) (c m : ℕ) (run : Run) (may : MayLand own c m run)
@@ -29,7 +29,7 @@ granted_there own c m run may = has_filter (is_standing own) (granted_claims own
 
 pub sole_before_verdict : (total len : ℕ) (own : List OwnEvent) (p : ℕ) (right : Bool) (giver : Giver)
     → Facts total len own → MaySettle total len own p giver
-    → (g : Claim) (b : ℕ) → Has (granted_claims own) g → is_standing own g ≡ true → is_open_in own g b ≡ true
+    → (g : Claim) (b : ℕ) → Has (granted_claims own) g → is_standing own g ≡ true → is_open_since own g b ≡ true
     → is_sole_in (Settles p right giver ∷ own) (piece_of len b) ≡ true → is_sole_in own (piece_of len b) ≡ true
 sole_before_verdict total len own p right giver f may g b hg sg og is =
     or_cases (eqb p (piece_of len b) && not right && is_mixed giver) (is_sole_in own (piece_of len b)) is
@@ -59,14 +59,14 @@ since_old own cl b c' other =
 -- no block is open in a claim before the opening
 pub early_shut : {P : Type 0} (total len : ℕ) (own : List OwnEvent) (g : Claim) (b : ℕ) → LegalOwn total len own
     → is_opened own ≡ false
-    → Has (granted_claims own) g → is_open_in own g b ≡ true → P
+    → Has (granted_claims own) g → is_open_since own g b ≡ true → P
 early_shut total len own g b legal un has opened =
     absurd (probe_shut g b ((early total len own legal un).probes g has)
     (and_left (is_in b g.run) (not (has_come own g b)) opened))
 
 -- what came of the run of a sole piece's claim since its grant, it gave itself
 pub itself : (total len : ℕ) (own : List OwnEvent) → LegalOwn total len own → (g : Claim) (b b' : ℕ)
-    → Has (granted_claims own) g → is_standing own g ≡ true → is_open_in own g b ≡ true
+    → Has (granted_claims own) g → is_standing own g ≡ true → is_open_since own g b ≡ true
     → is_sole_in own (piece_of len b) ≡ true → is_in b' g.run ≡ true
     → list_any (lands_block b') (since (grants_claim g.id) own) ≡ true
     → list_any (lands_block_by g.id b') own ≡ true
@@ -120,8 +120,8 @@ itself total len (Halts ends ∷ own) legal g b b' hg sg og is inside came = abs
 -- a sole piece's claim that lands_block its last open block is whole then
 pub ends_whole : (total len : ℕ) (own : List OwnEvent) (c m : ℕ) (run : Run) → LegalOwn total len own
     → MayLand own c m run → (g : Claim) (b : ℕ) → Has (granted_claims own) g → is_standing own g ≡ true
-    → is_open_in own g b ≡ true → is_sole_in own (piece_of len b) ≡ true
-    → is_some (first_open_in (Lands c m run ∷ own) g) ≡ false → has_given_all (Lands c m run ∷ own) g.id ≡ true
+    → is_open_since own g b ≡ true → is_sole_in own (piece_of len b) ≡ true
+    → is_some (first_open_since (Lands c m run ∷ own) g) ≡ false → has_given_all (Lands c m run ∷ own) g.id ≡ true
 ends_whole total len own c m run legal may g b hg sg og is none =
     let f = facts total len own legal in
     let there = granted_there own c m run may in
@@ -133,7 +133,7 @@ ends_whole total len own c m run legal may g b hg sg og is none =
     (each_all (λ x. list_any (lands_block_by g.id x) (Lands c m run ∷ own)) (blocks_in g.run)
     (λ x hx.
     let inside : is_in x g.run ≡ true = in_run g.run x hx in
-    let shut : is_open_in (Lands c m run ∷ own) g x ≡ false = unfound (is_open_in (Lands c m run ∷ own) g)
+    let shut : is_open_since (Lands c m run ∷ own) g x ≡ false = unfound (is_open_since (Lands c m run ∷ own) g)
     (blocks_in g.run) none x hx in
     let came : (is_in x run || list_any (lands_block x) (since (grants_claim g.id) own)) ≡ true =
     shut_came (is_in x g.run) (is_in x run || list_any (lands_block x) (since (grants_claim g.id) own)) inside
@@ -151,14 +151,14 @@ ends_whole total len own c m run legal may g b hg sg og is none =
 -- .. so it counts after the landing as before
 pub alive_after_landing : (total len : ℕ) (own : List OwnEvent) (c m : ℕ) (run : Run) → LegalOwn total len own
     → MayLand own c m run → (g : Claim) (b : ℕ) → Has (granted_claims own) g → is_standing own g ≡ true
-    → is_open_in own g b ≡ true → is_sole_in own (piece_of len b) ≡ true → (t : Bool)
-    → is_some (first_open_in (Lands c m run ∷ own) g) ≡ t → is_alive (Lands c m run ∷ own) g.id ≡ true
+    → is_open_since own g b ≡ true → is_sole_in own (piece_of len b) ≡ true → (t : Bool)
+    → is_some (first_open_since (Lands c m run ∷ own) g) ≡ t → is_alive (Lands c m run ∷ own) g.id ≡ true
 alive_after_landing total len own c m run legal may g b hg sg og is true some =
     or_left (stands_in (Lands c m run ∷ own) g.id) (has_given_all (Lands c m run ∷ own) g.id)
     (stands_by (Lands c m run ∷ own) g.id g hg
     (and_both (not (has_ended own g)) (has_more (Lands c m run ∷ own) g)
     (and_left (not (has_ended own g)) (has_more own g) sg)
-    (or_right (is_probe g) (is_some (first_open_in (Lands c m run ∷ own) g)) some))
+    (or_right (is_probe g) (is_some (first_open_since (Lands c m run ∷ own) g)) some))
     (eq-eqb g.id g.id refl))
 alive_after_landing total len own c m run legal may g b hg sg og is false none =
     or_right (stands_in (Lands c m run ∷ own) g.id) (has_given_all (Lands c m run ∷ own) g.id)
@@ -248,7 +248,7 @@ solely total len (Lands c m run ∷ own) legal g b x hg sg h inside =
     (and_left (c == g.id) (is_in b run)
     (and_left (c == g.id && is_in b run) (is_sole_in own (piece_of len b)) now)) in
     let same : may.claim ≡ g = apart total len own legal.0 may.claim g there.0 hg (may.id_is ∙ who) in
-    let og : is_open_in own g b ≡ true = subst (λ (y : Claim). is_open_in own y b ≡ true) same (may.open_in b inb) in
+    let og : is_open_since own g b ≡ true = subst (λ (y : Claim). is_open_since own y b ≡ true) same (may.open_in b inb) in
     f.only g b x hg sg' og is inside)
     (λ old. solely total len own legal.0 g b x hg sg' old inside)
 solely total len (Settles p right giver ∷ own) legal g b x hg sg h inside =

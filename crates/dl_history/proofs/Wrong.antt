@@ -23,9 +23,9 @@ use Rattle.dl_history.proofs.Sole.{found}
 use Rattle.dl_history.proofs.Table.{Gone, gone_by_loss, gone_cases, halt_same, kept_by_loss, lost_block, lost_not_standing, sizes_same, table_says}
 use Rattle.dl_history.proofs.TableChanges.{table_source}
 use Rattle.dl_history.specs.OwnEvents.{Checks, Clears, Grants, Halts, Lands, Loses, Opens, OwnEvent, Saves, Settles, Sizes}
-use Rattle.dl_history.specs.OwnLegal.{IsLossOf, IsWrongLast, LegalOwn, MayClear, MayLose}
+use Rattle.dl_history.specs.OwnLegal.{IsLossOf, IsWrongLast, LegalOwn, MayClear, MayBeLost}
 use Rattle.dl_history.specs.PayloadParts.{is_landed_in, is_sole_in, is_verified_in, source_in}
-use Rattle.dl_history.specs.StandingClaims.{blocks_in, granted_claims, is_open_in, is_standing, standing_claims}
+use Rattle.dl_history.specs.StandingClaims.{blocks_in, granted_claims, is_open_since, is_standing, standing_claims}
 
 given_or : (t : Bool) (m : ℕ) (x : Source) → is_present (cond t (given x m) x) ≡ (t || is_present x)
 given_or true m Absent = refl
@@ -35,9 +35,9 @@ given_or false m x = refl
 
 -- once a sole piece's claim is lost, no other claim has an open block in it
 pub loss_shut : (total len : ℕ) (own : List OwnEvent) (c m p : ℕ) (mark : Mark) → LegalOwn total len own
-    → MayLose len own c m p → (g : Claim) (b : ℕ) → Has (granted_claims own) g
+    → MayBeLost len own c m p → (g : Claim) (b : ℕ) → Has (granted_claims own) g
     → is_standing (Loses c m p mark ∷ own) g ≡ true → is_sole_in own p ≡ true → piece_of len b ≡ p
-    → is_open_in own g b ≡ true → ⊥
+    → is_open_since own g b ≡ true → ⊥
 loss_shut total len own c m p mark legal may g b hg sg is here og =
     let f = facts total len own legal in
     let lb = lost_block total len own c m p legal may (opened_by_sole total len own p legal is) in
@@ -53,7 +53,7 @@ halts_wrong : (total len : ℕ) (own : List OwnEvent) (ends : Bool) (p : ℕ) �
 halts_wrong total len own ends p legal b below here full (inl h) =
     let f = facts total len own legal in
     let there = has_filter (is_standing own) (granted_claims own) h.0 h.1 in
-    let o = found (is_open_in own h.0) (blocks_in h.0.run) h.2.0 h.2.1 in
+    let o = found (is_open_since own h.0) (blocks_in h.0.run) h.2.0 h.2.1 in
     let inside : h.2.0 < blocks_of total len = let x = f.within h.0 there.0 in let e =
     below_end h.2.0 h.0.run (and_left (is_in h.2.0 h.0.run) _ o.1) in omega arith in
     true_not_false (is_landed_in len own h.2.0) (full h.2.0 inside (sym h.2.3 ∙ here))
@@ -134,13 +134,13 @@ wrong_full total len (Halts ends ∷ own) p legal w b below here =
 -- no claim that stands has an open block in a piece that may be cleared
 pub clear_shut : (total len : ℕ) (own : List OwnEvent) (p : ℕ) → LegalOwn total len own → IsLossOf p own
     ⊎ IsWrongLast len p own → (g : Claim) (b : ℕ) → Has (granted_claims own) g → is_standing own g ≡ true
-    → b < blocks_of total len → piece_of len b ≡ p → is_open_in own g b ≡ false
+    → b < blocks_of total len → piece_of len b ≡ p → is_open_since own g b ≡ false
 clear_shut total len own p legal (inr w) g b hg sg below here =
-    not_true (is_open_in own g b)
+    not_true (is_open_since own g b)
     (λ og. true_not_false (is_landed_in len own b) (wrong_full total len own p legal w b below here)
     ((facts total len own legal).unlanded g b hg sg og))
 clear_shut total len (Loses c m q mark ∷ own) p legal (inl w) g b hg sg below here =
-    not_true (is_open_in own g b)
+    not_true (is_open_since own g b)
     (λ og. loss_shut total len own c m q mark legal.0 legal.1 g b hg sg
     (subst (λ (x : ℕ). is_sole_in own x ≡ true) (sym w.0) w.1) (here ∙ sym w.0) og)
 clear_shut total len [] p legal (inl w) g b hg sg below here = absurd w
@@ -283,7 +283,7 @@ verified_full laws total len (Halts ends ∷ own) p plan legal below is b inside
 
 -- the piece of a claim's open block isn't verified
 pub loss_unverified : (laws : Below) (total len : ℕ) (own : List OwnEvent) (c m p : ℕ) → IsPlan total len
-    → LegalOwn total len own → MayLose len own c m p → p < pieces_of total len → is_verified_in own p ≡ false
+    → LegalOwn total len own → MayBeLost len own c m p → p < pieces_of total len → is_verified_in own p ≡ false
 loss_unverified laws total len own c m p plan legal may below =
     let f = facts total len own legal in
     not_true (is_verified_in own p)

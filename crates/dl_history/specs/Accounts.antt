@@ -19,7 +19,7 @@ pub record Account : Type 0 where
   pub progress : Progress  -- of nothing, until the download is opened
   pub standing : List Claim  -- the claims that stand, the newest first
   pub closed : List ℕ  -- for each piece: in claims of lower numbers its blocks are closed, since it was cleared
-  pub next : ℕ  -- the number after that of the newest claim
+  pub next : ℕ  -- the number after that of the newest claim of blocks
   pub settled : List Bool  -- the pieces settled since their last landing
   pub listing : Listing  -- what the last save lists, or the opening
   pub saved : Option Moment  -- and when that was
@@ -55,11 +55,12 @@ at_opening total len k verified blocks now =
     }
 
 abbrev pub with_claim : Account → Claim → Account
-with_claim k claim = record k { standing = claim ∷ k.standing; next = claim.id + 1 }
+with_claim k claim =
+    record k { standing = claim ∷ k.standing; next = if is_probe claim then k.next else claim.id + 1 }
 
 -- without the claims that have no open block
-abbrev pub swept : Account → Account
-swept k = record k { standing = filter (is_busy k) k.standing }
+abbrev pub without_finished : Account → Account
+without_finished k = record k { standing = filter (is_busy k) k.standing }
 
 -- no piece with a block of the run was settled since
 abbrev pub unsettled_by : ℕ → Run → List Bool → List Bool
@@ -68,7 +69,7 @@ unsettled_by len run row =
 
 abbrev pub after_landing : Account → ℕ → Run → Account
 after_landing k mirror run =
-    swept (record k {
+    without_finished (record k {
       progress = landed_by k.progress run mirror;
       settled = unsettled_by k.progress.piece_len run k.settled;
     })

@@ -7,7 +7,7 @@ use Rattle.piece_table.specs.Changes.{is_in, IsGiver}
 use Rattle.piece_table.specs.Progress.{IsStart, piece_part}
 use Rattle.piece_table.specs.declared.giver.Giver.{Giver}
 use Rattle.dl_history.specs.OwnEvents.{OwnEvent, Opens, Grants, Lands, Settles, Clears, Loses, Sizes, Saves, Checks, Halts}
-use Rattle.dl_history.specs.StandingClaims.{standing_claims, granted_claims, is_open_in, first_open_in, is_probe, piece_of_first}
+use Rattle.dl_history.specs.StandingClaims.{standing_claims, granted_claims, is_open_since, first_open_since, is_probe, piece_of_first}
 use Rattle.dl_history.specs.PayloadParts.{is_opened, is_sole_in, is_landed_in, is_verified_in, is_settled_in, sources_in, is_ended, told_total, last_check}
 use Rattle.dl_history.specs.Listings.{ListsNone, last_listing}
 
@@ -35,7 +35,7 @@ pub record IsSoleRun (total len : ℕ) (own : List OwnEvent) (run : Run) : Type 
   pub piece : ℕ
   pub sole : is_sole_in own piece ≡ true
   pub exact : (b : ℕ) → b < blocks_of total len → (is_in b run ≡ true) ↔ (piece_of len b ≡ piece)
-  pub free : (b : ℕ) → is_in b run ≡ true → All (λ claim. is_open_in own claim b ≡ false) (standing_claims own)
+  pub free : (b : ℕ) → is_in b run ≡ true → All (λ claim. is_open_since own claim b ≡ false) (standing_claims own)
 
 -- a claim of unlanded blocks: of a whole sole piece, or of none that is sole
 pub record MayClaim (total len : ℕ) (own : List OwnEvent) (claim : Claim) : Type 0 where
@@ -54,7 +54,7 @@ pub record MayLand (own : List OwnEvent) (id mirror : ℕ) (run : Run) : Type 0 
   pub id_is : claim.id ≡ id
   pub mirror_is : claim.mirror ≡ mirror
   pub some : 1 ≤ run.count
-  pub open_in : (b : ℕ) → is_in b run ≡ true → is_open_in own claim b ≡ true
+  pub open_in : (b : ℕ) → is_in b run ≡ true → is_open_since own claim b ≡ true
 
 -- a full piece that isn't verified and wasn't settled since its last landing, and those who gave it
 pub record MaySettle (total len : ℕ) (own : List OwnEvent) (piece : ℕ) (giver : Giver) : Type 0 where
@@ -66,12 +66,12 @@ pub record MaySettle (total len : ℕ) (own : List OwnEvent) (piece : ℕ) (give
   pub givers : IsGiver (piece_part total len (sources_in total len own) piece) giver
 
 -- a claim that stands, and the piece of its first open block
-pub record MayLose (len : ℕ) (own : List OwnEvent) (id mirror piece : ℕ) : Type 0 where
+pub record MayBeLost (len : ℕ) (own : List OwnEvent) (id mirror piece : ℕ) : Type 0 where
   pub claim : Claim
   pub stands : Contains (standing_claims own) claim
   pub id_is : claim.id ≡ id
   pub mirror_is : claim.mirror ≡ mirror
-  pub piece_is : piece_of_first len (first_open_in own claim) ≡ piece
+  pub piece_is : piece_of_first len (first_open_since own claim) ≡ piece
 
 -- a probe that stands
 pub record MaySize (own : List OwnEvent) (id : ℕ) : Type 0 where
@@ -119,7 +119,7 @@ MayHappen total len own (Grants claim) = MayProbe own claim ⊎ MayClaim total l
 MayHappen total len own (Lands id mirror run) = MayLand own id mirror run
 MayHappen total len own (Settles piece right giver) = MaySettle total len own piece giver
 MayHappen total len own (Clears piece) = MayClear total len own piece
-MayHappen total len own (Loses id mirror piece mark) = MayLose len own id mirror piece
+MayHappen total len own (Loses id mirror piece mark) = MayBeLost len own id mirror piece
 MayHappen total len own (Sizes id told) = MaySize own id
 MayHappen total len own (Saves now) = MaySave own
 MayHappen total len own (Checks right) = MayCheck total len own

@@ -54,18 +54,18 @@ abbrev pub blocks_in : Run → List ℕ
 blocks_in run = range_with_len run.first run.count
 
 -- the block is in the claim's run, and hasn't come since the grant
-abbrev pub is_open_in : List OwnEvent → Claim → ℕ → Bool
-is_open_in own claim b = is_in b claim.run && not (list_any (lands_block b) (since (grants_claim claim.id) own))
+abbrev pub is_open_since : List OwnEvent → Claim → ℕ → Bool
+is_open_since own claim b = is_in b claim.run && not (list_any (lands_block b) (since (grants_claim claim.id) own))
 
 -- the first block of the claim that is open
-abbrev pub first_open_in : List OwnEvent → Claim → Option ℕ
-first_open_in own claim = find (is_open_in own claim) (blocks_in claim.run)
+abbrev pub first_open_since : List OwnEvent → Claim → Option ℕ
+first_open_since own claim = find (is_open_since own claim) (blocks_in claim.run)
 
 -- a claim stands: it hasn't ended since its grant, and has an open block or is a probe
 abbrev pub is_standing : List OwnEvent → Claim → Bool
 is_standing own claim =
     not (list_any (ends_claim claim.id) (since (grants_claim claim.id) own))
-    && (is_probe claim || is_some (first_open_in own claim))
+    && (is_probe claim || is_some (first_open_since own claim))
 
 -- the claims that stand, the newest first
 abbrev pub standing_claims : List OwnEvent → List Claim
