@@ -5,3 +5,4 @@ pub mod Listings
 pub mod OwnLegal
 pub mod Accounts
 pub mod AccountLaws
+pub mod Worked

@@ -1,5 +1,6 @@
 // What is kept of a download, over every legal history.
 ghost use Rattle.dl_history.specs.AccountLaws.{AccountsMatchEvents};
+ghost use Rattle.dl_history.specs.Worked.{WorkedHistories};
 
 use dl_kinds::plan_laws;
 use piece_table::kept_is_afresh;
@@ -11,3 +12,8 @@ pub fn accounts_match_events()
     plan_laws();
     kept_is_afresh();
 }
+
+/// What the definitions say of the worked histories.
+pub fn worked_histories_are_told()
+    ensures { WorkedHistories }
+{}
