@@ -45,7 +45,8 @@ stood_before_landing own c m run g h =
     and_both (not (has_ended own g)) (has_more own g)
     (and_left (not (has_ended own g)) (has_more (Lands c m run ∷ own) g) h)
     (or_more (is_probe g) (is_some (first_open_since (Lands c m run ∷ own) g)) (is_some (first_open_since own g))
-    (find_more (is_open_since (Lands c m run ∷ own) g) (is_open_since own g) (blocks_in g.run) (open_before own c m run g))
+    (find_more (is_open_since (Lands c m run ∷ own) g) (is_open_since own g) (blocks_in g.run)
+    (open_before own c m run g))
     (and_right (not (has_ended own g)) (has_more (Lands c m run ∷ own) g) h))
 
 stood_before_end : (own : List OwnEvent) (g : Claim) (t : Bool)

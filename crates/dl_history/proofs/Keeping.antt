@@ -163,9 +163,11 @@ gone_within : (laws : Below) (total len : ℕ) (own : List OwnEvent) → IsPlan 
 gone_within laws total len own plan f [] sub xs rest = rest
 gone_within laws total len own plan f (g ∷ gs) sub xs rest =
     let more = gone_within laws total len own plan f gs (λ x h. sub x (inr h)) xs rest in
-    gone_at_within laws total len own plan f g (sub g (inl refl)) (first_open_since own g) refl (gone len own gs xs) more
+    gone_at_within laws total len own plan f g (sub g (inl refl)) (first_open_since own g) refl (gone len own gs xs)
+    more
 
-run_within : (total len : ℕ) (own : List OwnEvent) → Facts total len own → (g : Claim) → Has (granted_claims own) g
+pub run_within : (total len : ℕ) (own : List OwnEvent) → Facts total len own → (g : Claim)
+    → Has (granted_claims own) g
     → (run : Run) → 1 ≤ run.count → ((b : ℕ) → is_in b run ≡ true → is_open_since own g b ≡ true)
     → run.first + run.count ≤ blocks_of total len
 run_within total len own f g hg run some each =

@@ -18,3 +18,6 @@ pub mod Settled
 pub mod Listed
 pub mod Unopened
 pub mod Matches
+pub mod Givers
+pub mod Lasting
+pub mod Sound

@@ -53,7 +53,7 @@ wrong_found len p (Saves now ∷ own) w none = wrong_found len p own w none
 wrong_found len p (Checks right ∷ own) w none = wrong_found len p own w none
 wrong_found len p (Halts ends ∷ own) w none = wrong_found len p own w none
 
-loss_sole : (p : ℕ) (own : List OwnEvent) → IsLossOf p own → is_sole_in own p ≡ true
+pub loss_sole : (p : ℕ) (own : List OwnEvent) → IsLossOf p own → is_sole_in own p ≡ true
 loss_sole p [] w = absurd w
 loss_sole p (Opens verified blocks now ∷ own) w = absurd w
 loss_sole p (Grants cl ∷ own) w = absurd w

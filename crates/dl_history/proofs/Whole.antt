@@ -248,7 +248,8 @@ solely total len (Lands c m run ∷ own) legal g b x hg sg h inside =
     (and_left (c == g.id) (is_in b run)
     (and_left (c == g.id && is_in b run) (is_sole_in own (piece_of len b)) now)) in
     let same : may.claim ≡ g = apart total len own legal.0 may.claim g there.0 hg (may.id_is ∙ who) in
-    let og : is_open_since own g b ≡ true = subst (λ (y : Claim). is_open_since own y b ≡ true) same (may.open_in b inb) in
+    let og : is_open_since own g b ≡ true = subst (λ (y : Claim). is_open_since own y b ≡ true) same
+    (may.open_in b inb) in
     f.only g b x hg sg' og is inside)
     (λ old. solely total len own legal.0 g b x hg sg' old inside)
 solely total len (Settles p right giver ∷ own) legal g b x hg sg h inside =

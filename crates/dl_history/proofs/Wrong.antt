@@ -46,7 +46,7 @@ loss_shut total len own c m p mark legal may g b hg sg is here og =
     (subst (λ (q : ℕ). is_sole_in own q ≡ true) (sym lb.piece_is) is) (lb.piece_is ∙ sym here) in
     lost_not_standing own c m p mark g (sym may.id_is ∙ who) sg
 
-halts_wrong : (total len : ℕ) (own : List OwnEvent) (ends : Bool) (p : ℕ) → LegalOwn total len own → (b : ℕ)
+pub halts_wrong : (total len : ℕ) (own : List OwnEvent) (ends : Bool) (p : ℕ) → LegalOwn total len own → (b : ℕ)
     → b < blocks_of total len → piece_of len b ≡ p
     → ((x : ℕ) → x < blocks_of total len → piece_of len x ≡ p → is_landed_in len own x ≡ true)
     → Gone len own b (standing_claims own) → is_landed_in len (Halts ends ∷ own) b ≡ true

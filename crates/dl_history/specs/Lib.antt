@@ -6,3 +6,4 @@ pub mod OwnLegal
 pub mod Accounts
 pub mod AccountLaws
 pub mod Worked
+pub mod HistoryLaws

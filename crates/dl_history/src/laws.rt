@@ -1,5 +1,6 @@
 // What is kept of a download, over every legal history.
 ghost use Rattle.dl_history.specs.AccountLaws.{AccountsMatchEvents};
+ghost use Rattle.dl_history.specs.HistoryLaws.{HistoriesAreSound};
 ghost use Rattle.dl_history.specs.Worked.{WorkedHistories};
 
 use dl_kinds::plan_laws;
@@ -17,3 +18,11 @@ pub fn accounts_match_events()
 pub fn worked_histories_are_told()
     ensures { WorkedHistories }
 {}
+
+/// What holds in every legal history of a download: of its claims, its blocks, and its pieces.
+pub fn histories_are_sound()
+    ensures { HistoriesAreSound }
+{
+    plan_laws();
+    kept_is_afresh();
+}
