@@ -14,7 +14,8 @@ use Rattle.dl_history.proofs.Keeping.{run_within}
 use Rattle.dl_history.proofs.Lasting.{full_stays, listed_stays, sole_unlisted}
 use Rattle.dl_history.proofs.Members.{Has, has_filter, has_from}
 use Rattle.dl_history.proofs.Sole.{apart, real_claim}
-use Rattle.dl_history.proofs.Unopened.{cleared_opened, landed_opened}
+use Rattle.dl_history.proofs.Table.{sized_early}
+use Rattle.dl_history.proofs.Unopened.{any_lengths, cleared_opened, landed_opened}
 use Rattle.dl_history.proofs.Wrong.{clear_unverified, verified_full}
 use Rattle.dl_history.specs.HistoryLaws.{HistoriesAreSound, OpenBlocksAreUnlanded}
 use Rattle.dl_history.specs.OwnEvents.{OwnEvent}
@@ -76,4 +77,6 @@ sound laws =
       full = full_stays;
       listed = listed_stays laws;
       sole = sole_unlisted laws;
+      sized = sized_early;
+      unopened = any_lengths;
     }

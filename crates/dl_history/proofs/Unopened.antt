@@ -1,5 +1,8 @@
 -- What is kept of a download before its opening, and that what it begins with doesn't matter once it is opened.
-use Rattle.std.proofs.Common.{◌+◌, ◌≡◌, ◌≢◌, ℕ, Bool, true, false, cond, eqb, Option, Some, None, List, [], ◌∷◌, get_or, refl, sym, ap, ◌∙◌, ⊎_elim}
+use Rattle.std.specs.Prelude.{find}
+use Rattle.std.specs.List.{range_with_len}
+use Rattle.std.proofs.lemmas.Bool.{eqb-true}
+use Rattle.std.proofs.Common.{inl, ◌+◌, ◌≡◌, ◌≢◌, ℕ, Bool, true, false, cond, eqb, Option, Some, None, List, [], ◌∷◌, get_or, refl, sym, ap, ◌∙◌, ⊎_elim}
 use Rattle.std.specs.Prelude.{◌||◌, not}
 use Rattle.std.specs.List.{filter_map}
 use Rattle.std.proofs.lemmas.Bool.{eq-eqb}
@@ -19,9 +22,9 @@ use Rattle.dl_history.proofs.Members.{has_filter, has_from}
 use Rattle.dl_history.specs.Accounts.{Account, account_of, after_finding, after_halt, after_landing, after_loss, after_save, after_sizing, at_opening, first_still_open, no_progress, with_claim, without_claim, without_piece, without_sole, without_sole_at, without_soles}
 use Rattle.dl_history.specs.Listings.{no_listing}
 use Rattle.dl_history.specs.OwnEvents.{Checks, Clears, Grants, Halts, Lands, Loses, Opens, OwnEvent, Saves, Settles, Sizes}
-use Rattle.dl_history.specs.OwnLegal.{IsLossOf, IsWrongLast, LegalOwn, MayClear, MayLand}
+use Rattle.dl_history.specs.OwnLegal.{IsLossOf, IsWrongLast, LegalOwn, MayClaim, MayClear, MayLand, MayProbe}
 use Rattle.dl_history.specs.PayloadParts.{finding_on, is_opened, is_sole_in}
-use Rattle.dl_history.specs.StandingClaims.{granted_claims, is_probe, is_standing, standing_claims}
+use Rattle.dl_history.specs.StandingClaims.{first_open_since, granted_claims, is_open_since, is_probe, is_standing, piece_of_first, standing_claims}
 
 -- ---- a clearing comes after the opening
 
@@ -232,3 +235,46 @@ as_from_start total len (Checks right ∷ own) legal opened =
     ap (λ (k : Account). record k { checked = Some right }) (as_from_start total len own legal.0 opened)
 as_from_start total len (Halts ends ∷ own) legal opened =
     ap (λ (k : Account). after_halt k ends) (as_from_start total len own legal.0 opened)
+
+-- ---- any lengths
+
+probe_first : (len len' : ℕ) (own : List OwnEvent) (g : Claim) → is_probe g ≡ true
+    → piece_of_first len (first_open_since own g) ≡ piece_of_first len' (first_open_since own g)
+probe_first len len' own g is =
+    let none : first_open_since own g ≡ None =
+    ap (λ (n : ℕ). find (is_open_since own g) (range_with_len g.run.first n)) (eqb-true g.run.count 0 is) in
+    ap (piece_of_first len) none ∙ sym (ap (piece_of_first len') none)
+
+pub any_lengths : (total len total' len' : ℕ) (own : List OwnEvent) → LegalOwn total len own → is_opened own ≡ false
+    → LegalOwn total' len' own
+any_lengths total len total' len' [] legal un = tt
+any_lengths total len total' len' (Opens verified blocks now ∷ own) legal un = absurd cc
+any_lengths total len total' len' (Grants cl ∷ own) legal un = (
+  any_lengths total len total' len' own legal.0 un,
+  ⊎_elim
+      (λ (may : MayProbe own cl). inl may)
+      (λ (may : MayClaim total len own cl). true_not_false (is_opened own) may.opened un)
+      legal.1,
+)
+any_lengths total len total' len' (Lands c m run ∷ own) legal un =
+    true_not_false (is_opened own) (landed_opened total len own c m run legal.0 legal.1) un
+any_lengths total len total' len' (Settles p right giver ∷ own) legal un = true_not_false (is_opened own) legal.1.opened un
+any_lengths total len total' len' (Clears p ∷ own) legal un =
+    true_not_false (is_opened own) (cleared_opened total len own p legal.0 legal.1) un
+any_lengths total len total' len' (Loses c m p mark ∷ own) legal un =
+    let may = legal.1 in
+    let there = has_filter (is_standing own) (granted_claims own) may.claim
+    (has_from (standing_claims own) may.claim may.stands.0 may.stands.1 may.stands.2) in (
+      any_lengths total len total' len' own legal.0 un,
+      record {
+        claim = may.claim;
+        stands = may.stands;
+        id_is = may.id_is;
+        mirror_is = may.mirror_is;
+        piece_is = probe_first len' len own may.claim ((early total len own legal.0 un).probes may.claim there.0) ∙ may.piece_is;
+      },
+    )
+any_lengths total len total' len' (Sizes c told ∷ own) legal un = (any_lengths total len total' len' own legal.0 un, legal.1)
+any_lengths total len total' len' (Saves now ∷ own) legal un = true_not_false (is_opened own) legal.1.opened un
+any_lengths total len total' len' (Checks right ∷ own) legal un = true_not_false (is_opened own) legal.1.opened un
+any_lengths total len total' len' (Halts ends ∷ own) legal un = (any_lengths total len total' len' own legal.0 un, legal.1)

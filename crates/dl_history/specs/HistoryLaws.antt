@@ -8,7 +8,7 @@ use Rattle.dl_history.specs.OwnEvents.{OwnEvent, Clears, Settles}
 use Rattle.dl_history.specs.StandingClaims.{standing_claims, granted_claims, is_open_since, is_probe}
 use Rattle.dl_history.specs.PayloadParts.{is_opened, is_sole_in, is_landed_in, is_verified_in, source_in}
 use Rattle.dl_history.specs.Listings.{ListsNone, last_listing, is_block_listed}
-use Rattle.dl_history.specs.OwnLegal.{LegalOwn, MayLand, MayClear}
+use Rattle.dl_history.specs.OwnLegal.{LegalOwn, MayLand, MayClear, MaySize}
 
 -- all blocks of the piece are landed
 abbrev pub IsFullIn : ℕ → ℕ → List OwnEvent → ℕ → Type 0
@@ -104,6 +104,17 @@ SolePiecesAreUnlisted =
     → b < blocks_of total len → piece_of len b ≡ piece → is_landed_in len own b ≡ false
     → ListsNone total len (last_listing total len own) piece
 
+-- a download whose length a probe tells isn't opened
+abbrev pub SizedAreUnopened : Type 0
+SizedAreUnopened =
+    (total len : ℕ) (own : List OwnEvent) (id : ℕ) → LegalOwn total len own → MaySize own id → is_opened own ≡ false
+
+-- before the opening no length matters
+abbrev pub UnopenedFitAnyLengths : Type 0
+UnopenedFitAnyLengths =
+    (total len other_total other_len : ℕ) (own : List OwnEvent)
+    → LegalOwn total len own → is_opened own ≡ false → LegalOwn other_total other_len own
+
 pub record HistoriesAreSound : Type 0 where
   pub open_blocks : OpenBlocksAreUnlanded
   pub verified : VerifiedAreFull
@@ -115,3 +126,5 @@ pub record HistoriesAreSound : Type 0 where
   pub full : FullPiecesStay
   pub listed : ListedBlocksStay
   pub sole : SolePiecesAreUnlisted
+  pub sized : SizedAreUnopened
+  pub unopened : UnopenedFitAnyLengths
