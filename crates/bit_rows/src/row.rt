@@ -155,6 +155,26 @@ impl BitRow {
         }
     }
 
+    /// The first place from `from` to before `to` with this value, or `to` where there is none.
+    pub fn next_within(&self, from: u32, to: u32, wanted: bool) -> u32
+        requires { to ≤ length self.now }
+        ensures within { result ≤ to }
+        ensures found { result < to → slice_get self.now result ≡ Some wanted }
+        ensures later { result < to → from ≤ result }
+        ensures passed { (place : ℕ) → from ≤ place → place < result
+            → slice_get self.now place ≢ Some wanted }
+    {
+        let mut at = from as u64;
+        while at < to as u64 {
+            let others = self.others(at as u32, wanted);
+            if others == 0 {
+                return at as u32;
+            }
+            at += others as u64;
+        }
+        to
+    }
+
     // The first place from `from` on with this value, or the row's length where there is none.
     fn next(&self, from: u32, wanted: bool) -> u32
         ensures within { result ≤ length self.now }
@@ -163,16 +183,7 @@ impl BitRow {
         ensures passed { (place : ℕ) → from ≤ place → place < result
             → slice_get self.now place ≢ Some wanted }
     {
-        let len = self.len();
-        let mut at = from as u64;
-        while at < len as u64 {
-            let others = self.others(at as u32, wanted);
-            if others == 0 {
-                return at as u32;
-            }
-            at += others as u64;
-        }
-        len
+        self.next_within(from, self.len(), wanted)
     }
 
     /// The first place, from `from` on, and the length of the first maximal run of false that holds `from` or follows

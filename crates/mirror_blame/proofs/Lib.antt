@@ -4,6 +4,7 @@ mod Dead
 mod KeptLemmas
 mod ListLemmas
 mod Newest
+mod NextMarked
 mod PlaceLemmas
 mod Runs
 mod Sums

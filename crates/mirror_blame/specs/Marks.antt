@@ -1,5 +1,5 @@
 -- What is held against mirrors for pieces, over the list of their marks with the newest first.
-use Rattle.std.specs.Prelude.{ℕ, ◌==◌, ◌&&◌, ◌<◌, ◌≤◌, min, nat_lt, if◌then◌else◌, List, [], ◌∷◌, Bool, Option, count_by, find}
+use Rattle.std.specs.Prelude.{◌≡◌, ℕ, ◌==◌, ◌&&◌, ◌<◌, ◌≤◌, min, nat_lt, if◌then◌else◌, List, [], ◌∷◌, Bool, Option, count_by, find}
 use Rattle.std.specs.Option.{option_map}
 use Rattle.dl_kinds.specs.declared.marks.Mark.{Mark}
 use Rattle.mirror_blame.specs.declared.blame.Blame.{Blame}
@@ -24,6 +24,20 @@ IsEligibleForAll max_tries marks mirror first last =
 -- no mirror has a try left for the piece. The mirrors are numbered from 0
 abbrev pub IsDead : ℕ → ℕ → List Blame → ℕ → Type 0
 IsDead mirrors max_tries marks piece = (mirror : ℕ) → mirror < mirrors → IsEligible max_tries marks mirror piece → ⊥
+
+-- no mirror has used a try for the piece
+abbrev pub IsUnmarked : ℕ → List Blame → ℕ → Type 0
+IsUnmarked max_tries marks piece = (mirror : ℕ) → tries_of max_tries marks mirror piece ≡ 0
+
+-- some mirror has
+abbrev pub IsMarked : ℕ → List Blame → ℕ → Type 0
+IsMarked max_tries marks piece = (mirror : ℕ) × (1 ≤ tries_of max_tries marks mirror piece)
+
+-- the first piece from `from` on for which a mirror has used a try
+pub record IsNextMarked (max_tries : ℕ) (marks : List Blame) (from piece : ℕ) : Type 0 where
+  pub later : from ≤ piece
+  pub marked : IsMarked max_tries marks piece
+  pub first : (other : ℕ) → from ≤ other → other < piece → IsUnmarked max_tries marks other
 
 -- the marks that count: those that came while their mirror had a try left for their piece
 abbrev pub counted : ℕ → List Blame → List Blame

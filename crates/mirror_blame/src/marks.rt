@@ -1,10 +1,10 @@
 // The marks of mirrors.
-ghost use Rattle.std.specs.Prelude.{◌≡◌, ◌↔◌, ℕ, ◌+◌, ◌-◌, ◌<◌, ◌≤◌, [], ◌∷◌, length, slice_index, Some, IsTrue, IsNone, IfSome, MatchOption, OnOk};
-ghost use Rattle.mirror_blame.specs.Marks.{tries_of, IsEligible, IsEligibleForAll, IsDead, last_mark_of, total_marks};
+ghost use Rattle.std.specs.Prelude.{◌≡◌, ◌↔◌, ℕ, ◌+◌, ◌-◌, ◌<◌, ◌≤◌, [], ◌∷◌, length, slice_index, Some, IsTrue, IsNone, IfNone, IfSome, MatchOption, OnOk};
+ghost use Rattle.mirror_blame.specs.Marks.{tries_of, IsEligible, IsEligibleForAll, IsDead, IsNextMarked, IsUnmarked, last_mark_of, total_marks};
 ghost use Rattle.mirror_blame.specs.Choice.{GoesBefore, IsCandidate, IsChoice};
 
 use crate::Blame;
-use crate::places::{Place, count_of, has_used, put, run_of};
+use crate::places::{Place, count_of, has_used, put, run_of, start_of};
 use dl_kinds::Mark;
 use std::alloc::{AllocError, Global};
 use std::marker::Model;
@@ -117,6 +117,20 @@ impl Marks {
     {
         let newest = run_of(&self.order, piece, piece).first()?;
         Some(self.log[newest.at].mark)
+    }
+
+    /// The first piece from `from` on for which a mirror has used a try.
+    pub fn next_marked(&self, from: u32) -> Option<u32>
+        ensures found { IfSome result (λ piece.
+            IsNextMarked self.now.max_tries self.now.marks from piece) }
+        ensures none { IfNone result ((piece : ℕ) → from ≤ piece
+            → IsUnmarked self.now.max_tries self.now.marks piece) }
+    {
+        let at = start_of(&self.order, from as u64);
+        if at == self.order.len() {
+            return None;
+        }
+        Some(self.order[at].piece)
     }
 
     /// How many marks a mirror has in all.

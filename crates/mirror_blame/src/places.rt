@@ -12,8 +12,8 @@ pub struct Place {
     pub at: usize,
 }
 
-// Where the places from this piece on begin.
-fn start_of(places: &[Place], piece: u64) -> usize
+/// Where the places from this piece on begin.
+pub fn start_of(places: &[Place], piece: u64) -> usize
     requires { IsNonDecreasingBy (λ place. place.piece) places.now }
     ensures bound { result ≤ length places.now }
     ensures before { AllWithin (λ place. place.piece < piece) places.now 0 result }

@@ -211,6 +211,13 @@ impl Table {
         &self.verified
     }
 
+    pub fn sole(&self) -> &BitRow
+        ensures row { result.now ≡ self.now.sole }
+        ensures valid { IsValid self.now }
+    {
+        &self.sole
+    }
+
     pub fn blocks(&self) -> &BitRow
         ensures row { result.now ≡ self.now.landed }
         ensures valid { IsValid self.now }

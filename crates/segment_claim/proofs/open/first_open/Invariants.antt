@@ -1,0 +1,11 @@
+use Rattle.std.proofs.Common.{◌≡◌, ◌+◌, ◌-◌}
+use Rattle.std.specs.Prelude.{find}
+use Rattle.std.specs.List.{range_with_len}
+use Rattle.segment_claim.specs.Open.{claimed_blocks, is_open_in}
+use Rattle.segment_claim.proofs.open.first_open.Given as goal
+
+abbrev pub invariant-loop-block : goal.invariant-loop-block
+invariant-loop-block l =
+    find (is_open_in l.plan.piece_len l.landed l.closed l.claim) (claimed_blocks l.claim)
+    ≡ find (is_open_in l.plan.piece_len l.landed l.closed l.claim)
+    (range_with_len l.block (l.claim.run.first + l.claim.run.count - l.block))

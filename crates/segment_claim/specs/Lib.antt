@@ -1,0 +1,9 @@
+pub mod Book
+pub mod Free
+pub mod Kept
+pub mod Open
+pub mod Rules
+pub mod Situation
+pub mod Sound
+pub mod Theft
+pub mod Views

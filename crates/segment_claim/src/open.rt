@@ -1,0 +1,59 @@
+// Which blocks are open in claims.
+ghost use Rattle.std.specs.Prelude.{◌≡◌, ◌+◌, ◌≤◌, All, filter, length, vec_capacity};
+ghost use Rattle.dl_kinds.specs.Plan.{blocks_of, pieces_of};
+ghost use Rattle.segment_claim.specs.Open.{first_open_in, is_open_in, is_unfinished};
+ghost use Rattle.segment_claim.specs.Sound.{IsWithinBlocks};
+
+use bit_rows::BitRow;
+use dl_kinds::{Claim, Plan};
+
+/// Whether a block is open in a claim.
+pub fn is_open(plan: &Plan, landed: &BitRow, closed: &[u128], claim: &Claim, block: u32) -> bool
+    requires row { length landed.now ≡ blocks_of plan.now.total plan.now.piece_len }
+    requires pieces { length closed.now ≡ pieces_of plan.now.total plan.now.piece_len }
+    requires within { claim.now.run.first + claim.now.run.count
+        ≤ blocks_of plan.now.total plan.now.piece_len }
+    ensures { result ≡ is_open_in plan.now.piece_len landed.now closed.now claim.now block }
+{
+    claim.run.first <= block
+        && block < claim.run.first + claim.run.count
+        && !landed.get(block)
+        && closed[plan.piece_of(block) as usize] <= claim.id as u128
+}
+
+/// The first block that is open in a claim.
+pub fn first_open(plan: &Plan, landed: &BitRow, closed: &[u128], claim: &Claim) -> Option<u32>
+    requires row { length landed.now ≡ blocks_of plan.now.total plan.now.piece_len }
+    requires pieces { length closed.now ≡ pieces_of plan.now.total plan.now.piece_len }
+    requires within { claim.now.run.first + claim.now.run.count
+        ≤ blocks_of plan.now.total plan.now.piece_len }
+    ensures { result ≡ first_open_in plan.now.piece_len landed.now closed.now claim.now }
+{
+    for block in claim.run.first..claim.run.first + claim.run.count {
+        if is_open(plan, landed, closed, claim, block) {
+            return Some(block);
+        }
+    }
+    None
+}
+
+/// Takes out the claims in which no block is open.
+pub fn sweep(plan: &Plan, landed: &BitRow, closed: &[u128], standing: &mut Vec<Claim>)
+    requires row { length landed.now ≡ blocks_of plan.now.total plan.now.piece_len }
+    requires pieces { length closed.now ≡ pieces_of plan.now.total plan.now.piece_len }
+    requires within { All (IsWithinBlocks (blocks_of plan.now.total plan.now.piece_len))
+        standing.old.items }
+    ensures rest { standing.new.items
+        ≡ filter (is_unfinished plan.now.piece_len landed.now closed.now) standing.old.items }
+    ensures capacity { vec_capacity standing.new ≡ vec_capacity standing.old }
+{
+    let mut kept = 0;
+    for at in 0..standing.len() {
+        let claim = standing[at];
+        if first_open(plan, landed, closed, &claim).is_some() {
+            standing[kept] = claim;
+            kept += 1;
+        }
+    }
+    standing.truncate(kept);
+}
