@@ -4,4 +4,5 @@ pub mod OwnParts
 pub mod LawfulCalls
 pub mod FileNames
 pub mod Wanted
+pub mod Choices
 pub mod RunLegal
