@@ -1,5 +1,5 @@
 -- In every legal history what is kept of a download is what its events say.
-use Rattle.std.proofs.Common.{◌≡◌, ◌⊎◌, ℕ, ◌+◌, ◌*◌, ◌<◌, ◌≤◌, Bool, true, false, List, [], ◌∷◌, length, get_or, drop, refl, sym, ap, ◌∙◌, subst, inl, inr, ⊎_elim}
+use Rattle.std.proofs.Common.{◌≡◌, ◌⊎◌, ℕ, ◌+◌, ◌*◌, ◌<◌, ◌≤◌, Bool, true, false, List, [], ◌∷◌, length, get_or, drop, refl, sym, ap, ◌∙◌, subst, inl, inr, ⊎_elim, arith}
 use Rattle.std.specs.Prelude.{◌&&◌, ◌||◌, not, nat_le, All}
 use Rattle.std.specs.List.{range_with_len}
 use Rattle.std.proofs.lemmas.List.{length-map}
@@ -22,7 +22,7 @@ use Rattle.dl_history.proofs.Listed.{values}
 use Rattle.dl_history.proofs.Members.{Has, has_filter}
 use Rattle.dl_history.proofs.Settled.{settled_row}
 use Rattle.dl_history.proofs.TableChanges.{changes_of}
-use Rattle.dl_history.proofs.Unopened.{as_from_start, bare}
+use Rattle.dl_history.proofs.Unopened.{account_any, any_lengths, as_from_start, bare}
 use Rattle.dl_history.specs.AccountLaws.{AccountsMatchEvents, MatchesEvents}
 use Rattle.dl_history.specs.Accounts.{Account, account_of, is_still_open}
 use Rattle.dl_history.specs.OwnEvents.{OwnEvent}
@@ -123,16 +123,23 @@ probe_alike own k g is b =
     (nat_le (get_or k.closed (piece_of k.progress.piece_len b) 0) g.id)
     (not (has_come own g b)) (not_true (is_in b g.run) (λ inside. probe_shut g b is inside))
 
-matches_unopened : (laws : Below) (total len : ℕ) (own : List OwnEvent) → IsPlan total len → LegalOwn total len own
+-- a plan of nothing
+no_plan : IsPlan 0 1
+no_plan = record { some = omega arith; piece = omega arith; pieces = omega arith; blocks = omega arith }
+
+matches_unopened : (laws : Below) (total len : ℕ) (own : List OwnEvent) → LegalOwn total len own
     → is_opened own ≡ false
     → MatchesEvents total len own (account_of total len own)
-matches_unopened laws total len own plan legal un =
+matches_unopened laws total len own legal un =
     let k = account_of total len own in
     let e = early total len own legal un in
     let b = bare total len own legal un in
-    let f = follows laws total len own plan legal in
+    let other = any_lengths total len 0 1 own legal un in
+    let f = follows laws 0 1 own no_plan other in
+    let v = values laws 0 1 own no_plan other in
+    let n = bare 0 1 own other un in
+    let same = account_any total len 0 1 own legal un in
     let fs = facts total len own legal in
-    let v = values laws total len own plan legal in
     record {
       rows = λ opened. true_not_false (is_opened own) opened un;
       nothing = λ u. b.progress;
@@ -149,7 +156,7 @@ matches_unopened laws total len own plan legal un =
             (no_giver total len p own e);
       };
       claims = record {
-        standing = b.standing ∙ f.standing_are;
+        standing = ap (λ (a : Account). a.standing) same ∙ n.standing ∙ f.standing_are;
         open_blocks = all_from (λ (g : Claim). (x : ℕ) → is_still_open k g x ≡ is_open_since own g x)
             (standing_claims own)
             (λ g h. probe_alike own k g (e.probes g (has_filter (is_standing own) (granted_claims own) g h).0));
@@ -158,9 +165,9 @@ matches_unopened laws total len own plan legal un =
       };
       listing = b.listing ∙ sym (e.listing total);
       saved = b.saved ∙ sym e.saved;
-      told = b.told ∙ v.told;
-      checked = b.checked ∙ v.checked;
-      ended = b.ended ∙ v.ended;
+      told = ap (λ (a : Account). a.told) same ∙ n.told ∙ v.told;
+      checked = ap (λ (a : Account). a.checked) same ∙ n.checked ∙ v.checked;
+      ended = ap (λ (a : Account). a.ended) same ∙ n.ended ∙ v.ended;
     }
 
 pub matches : (laws : Below) → AccountsMatchEvents
@@ -168,6 +175,6 @@ matches laws total len own plan legal =
     ⊎_elim
     (λ (opened : is_opened own ≡ true).
     subst (λ (k : Account). MatchesEvents total len own k) (sym (as_from_start total len own legal opened))
-    (matches_opened laws total len own plan legal opened))
-    (λ (un : is_opened own ≡ false). matches_unopened laws total len own plan legal un)
+    (matches_opened laws total len own (plan opened) legal opened))
+    (λ (un : is_opened own ≡ false). matches_unopened laws total len own legal un)
     (either_way (is_opened own))

@@ -258,7 +258,8 @@ any_lengths total len total' len' (Grants cl ∷ own) legal un = (
 )
 any_lengths total len total' len' (Lands c m run ∷ own) legal un =
     true_not_false (is_opened own) (landed_opened total len own c m run legal.0 legal.1) un
-any_lengths total len total' len' (Settles p right giver ∷ own) legal un = true_not_false (is_opened own) legal.1.opened un
+any_lengths total len total' len' (Settles p right giver ∷ own) legal un =
+    true_not_false (is_opened own) legal.1.opened un
 any_lengths total len total' len' (Clears p ∷ own) legal un =
     true_not_false (is_opened own) (cleared_opened total len own p legal.0 legal.1) un
 any_lengths total len total' len' (Loses c m p mark ∷ own) legal un =
@@ -271,10 +272,35 @@ any_lengths total len total' len' (Loses c m p mark ∷ own) legal un =
         stands = may.stands;
         id_is = may.id_is;
         mirror_is = may.mirror_is;
-        piece_is = probe_first len' len own may.claim ((early total len own legal.0 un).probes may.claim there.0) ∙ may.piece_is;
+        piece_is = probe_first len' len own may.claim ((early total len own legal.0 un).probes may.claim there.0)
+            ∙ may.piece_is;
       },
     )
-any_lengths total len total' len' (Sizes c told ∷ own) legal un = (any_lengths total len total' len' own legal.0 un, legal.1)
+any_lengths total len total' len' (Sizes c told ∷ own) legal un =
+    (any_lengths total len total' len' own legal.0 un, legal.1)
 any_lengths total len total' len' (Saves now ∷ own) legal un = true_not_false (is_opened own) legal.1.opened un
 any_lengths total len total' len' (Checks right ∷ own) legal un = true_not_false (is_opened own) legal.1.opened un
-any_lengths total len total' len' (Halts ends ∷ own) legal un = (any_lengths total len total' len' own legal.0 un, legal.1)
+any_lengths total len total' len' (Halts ends ∷ own) legal un =
+    (any_lengths total len total' len' own legal.0 un, legal.1)
+
+-- what is kept before the opening doesn't go by lengths
+pub account_any : (total len total' len' : ℕ) (own : List OwnEvent) → LegalOwn total len own → is_opened own ≡ false
+    → account_of total len own ≡ account_of total' len' own
+account_any total len total' len' [] legal un = refl
+account_any total len total' len' (Opens verified blocks now ∷ own) legal un = absurd cc
+account_any total len total' len' (Grants cl ∷ own) legal un =
+    ap (λ (k : Account). with_claim k cl) (account_any total len total' len' own legal.0 un)
+account_any total len total' len' (Lands c m run ∷ own) legal un =
+    true_not_false (is_opened own) (landed_opened total len own c m run legal.0 legal.1) un
+account_any total len total' len' (Settles p right giver ∷ own) legal un =
+    true_not_false (is_opened own) legal.1.opened un
+account_any total len total' len' (Clears p ∷ own) legal un =
+    true_not_false (is_opened own) (cleared_opened total len own p legal.0 legal.1) un
+account_any total len total' len' (Loses c m p mark ∷ own) legal un =
+    ap (λ (k : Account). after_loss k c p) (account_any total len total' len' own legal.0 un)
+account_any total len total' len' (Sizes c told ∷ own) legal un =
+    ap (λ (k : Account). after_sizing k c told) (account_any total len total' len' own legal.0 un)
+account_any total len total' len' (Saves now ∷ own) legal un = true_not_false (is_opened own) legal.1.opened un
+account_any total len total' len' (Checks right ∷ own) legal un = true_not_false (is_opened own) legal.1.opened un
+account_any total len total' len' (Halts ends ∷ own) legal un =
+    ap (λ (k : Account). after_halt k ends) (account_any total len total' len' own legal.0 un)

@@ -48,8 +48,15 @@ pub record MatchesEvents (total len : ℕ) (own : List OwnEvent) (k : Account) :
   pub checked : k.checked ≡ last_check own
   pub ended : k.ended ≡ is_ended own
 
--- in every legal history
+-- in every legal history, whose lengths are a plan's once the download is opened
 abbrev pub AccountsMatchEvents : Type 0
 AccountsMatchEvents =
     (total len : ℕ) (own : List OwnEvent)
-    → IsPlan total len → LegalOwn total len own → MatchesEvents total len own (account_of total len own)
+    → (is_opened own ≡ true → IsPlan total len) → LegalOwn total len own
+    → MatchesEvents total len own (account_of total len own)
+
+-- before the opening what is kept doesn't go by the lengths
+abbrev pub UnopenedAccountsAreAlike : Type 0
+UnopenedAccountsAreAlike =
+    (total len other_total other_len : ℕ) (own : List OwnEvent)
+    → LegalOwn total len own → is_opened own ≡ false → account_of total len own ≡ account_of other_total other_len own

@@ -1,5 +1,5 @@
 // What is kept of a download, over every legal history.
-ghost use Rattle.dl_history.specs.AccountLaws.{AccountsMatchEvents};
+ghost use Rattle.dl_history.specs.AccountLaws.{AccountsMatchEvents, UnopenedAccountsAreAlike};
 ghost use Rattle.dl_history.specs.HistoryLaws.{HistoriesAreSound};
 ghost use Rattle.dl_history.specs.Worked.{WorkedHistories};
 
@@ -13,6 +13,11 @@ pub fn accounts_match_events()
     plan_laws();
     kept_is_afresh();
 }
+
+/// Before its opening, what is kept of a download doesn't go by the lengths of its payload and pieces.
+pub fn unopened_accounts_are_alike()
+    ensures { UnopenedAccountsAreAlike }
+{}
 
 /// What the definitions say of the worked histories.
 pub fn worked_histories_are_told()
