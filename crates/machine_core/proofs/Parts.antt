@@ -1,4 +1,4 @@
--- Each download's part of a legal history is legal.
+-- What each event of a run leaves of a download's part.
 use Rattle.std.proofs.Common.{◌≡◌, ◌⊎◌, ℕ, Bool, true, false, cond, Option, Some, None, List, [], ◌∷◌, ◌++◌, refl, sym, ap, ◌∙◌, subst, inl, inr}
 use Rattle.std.specs.Prelude.{find}
 use Rattle.std.specs.Option.{is_some, unwrap_or, option_and_then}
@@ -11,8 +11,8 @@ use Rattle.dl_history.specs.OwnLegal.{MayHappen, LegalOwn}
 use Rattle.dl_history.specs.PayloadParts.{is_opened, is_opening, told_total}
 use Rattle.machine_core.specs.Starts.{RunStart, Download, Subject, Listed, Unlisted}
 use Rattle.machine_core.specs.Replays.{Replay, replay_of, after_call, with_call_of, keyed_gid, download_of, is_download, is_same_gid}
-use Rattle.machine_core.specs.OwnParts.{PayloadLengths, own_of, with_own, halted_where, halts_by, lengths_by, told_lengths}
-use Rattle.machine_core.specs.RunLegal.{IsLegal, MayOwn, known_lengths, no_lengths, DownloadsAreLegal}
+use Rattle.machine_core.specs.OwnParts.{PayloadLengths, no_lengths, own_of, with_own, halted_where, halts_by, lengths_by, told_lengths}
+use Rattle.machine_core.specs.RunLegal.{IsLegal, MayOwn, known_lengths}
 use Rattle.machine_core.specs.declared.calls.Call.{Call}
 use Rattle.machine_core.specs.declared.calls.Call.TheVariants as call
 use Rattle.machine_core.specs.declared.events.Event.{Event}
@@ -87,7 +87,7 @@ lengths_in downloads gid own =
 abbrev pub FitsOwn : List Download → Gid → List OwnEvent → Type 0
 FitsOwn downloads gid own = LegalOwn (lengths_in downloads gid own).total (lengths_in downloads gid own).piece_len own
 
-lengths_told : (d : Download) (s : Subject) (own own' : List OwnEvent) → told_total own' ≡ told_total own
+pub lengths_told : (d : Download) (s : Subject) (own own' : List OwnEvent) → told_total own' ≡ told_total own
     → lengths_by d s own' ≡ lengths_by d s own
 lengths_told d (Listed meta uris) own own' same = refl
 lengths_told d (Unlisted uris) own own' same = ap (told_lengths _) same
@@ -106,7 +106,7 @@ lengths_same downloads gid own own' same = lengths_found (download_of downloads 
 
 -- ---- one event
 
-gid_is : (gid other : Gid) → is_same_gid gid other ≡ true → other ≡ gid
+pub gid_is : (gid other : Gid) → is_same_gid gid other ≡ true → other ≡ gid
 gid_is gid other is = ap (λ (n : ℕ). record { 0 = n }) (eqb-true other.0 gid.0 is)
 
 -- the event goes on from what was legal
@@ -125,7 +125,7 @@ fits_cases downloads gid own e true legal on = on refl
 fits_cases downloads gid own e false legal on = legal
 
 -- an event of one download
-event_fits : (start : RunStart) (past : List Event) (gid other : Gid) (e : OwnEvent)
+pub event_fits : (start : RunStart) (past : List Event) (gid other : Gid) (e : OwnEvent)
     → FitsOwn (replay_of start past).downloads gid (own_of start past gid)
     → told_total (e ∷ own_of start past gid) ≡ told_total (own_of start past gid) → MayOwn start past other e
     → FitsOwn (replay_of start past).downloads gid (with_own other gid e (own_of start past gid))
@@ -139,7 +139,7 @@ event_fits start past gid other e legal told may =
 
 -- ---- a download is added before it is opened
 
-opened_where : (t : Bool) (own : List OwnEvent) (e : OwnEvent) → is_opening e ≡ false
+pub opened_where : (t : Bool) (own : List OwnEvent) (e : OwnEvent) → is_opening e ≡ false
     → is_opened (cond t (e ∷ own) own) ≡ true → is_opened own ≡ true
 opened_where true own e never h = rw never at h
 opened_where false own e never h = h
@@ -148,7 +148,7 @@ opened_halted : (t : Bool) (own : List OwnEvent) → is_opened (halted_where t o
 opened_halted true own h = h
 opened_halted false own h = h
 
-opened_cases : {P : Type 0} (t : Bool) (own : List OwnEvent) (e : OwnEvent) → (t ≡ true → P)
+pub opened_cases : {P : Type 0} (t : Bool) (own : List OwnEvent) (e : OwnEvent) → (t ≡ true → P)
     → (is_opened own ≡ true → P) → is_opened (cond t (e ∷ own) own) ≡ true → P
 opened_cases true own e new old h = new refl
 opened_cases false own e new old h = old h
@@ -203,12 +203,12 @@ opened_added start (Stopped ∷ past) gid legal h = opened_added start past gid 
 
 -- ---- calls
 
-halted_fits : (t : Bool) (downloads : List Download) (gid : Gid) (own : List OwnEvent) → FitsOwn downloads gid own
+pub halted_fits : (t : Bool) (downloads : List Download) (gid : Gid) (own : List OwnEvent) → FitsOwn downloads gid own
     → FitsOwn downloads gid (halted_where t own)
 halted_fits true downloads gid own legal = goes_on downloads gid own (Halts false) legal refl (λ h. absurd cc)
 halted_fits false downloads gid own legal = legal
 
-more_downloads : (laws : HistoriesAreSound) (old new : List Download) (gid : Gid) (own : List OwnEvent) (t : Bool)
+pub more_downloads : (laws : HistoriesAreSound) (old new : List Download) (gid : Gid) (own : List OwnEvent) (t : Bool)
     → is_opened own ≡ t → Adds old new
     → (is_opened own ≡ true → is_some (download_of old gid) ≡ true) → FitsOwn old gid own → FitsOwn new gid own
 more_downloads laws old new gid own true opened adds there legal =
@@ -219,61 +219,3 @@ more_downloads laws old new gid own true opened adds there legal =
 more_downloads laws old new gid own false un adds there legal =
     laws.unopened (lengths_in old gid own).total (lengths_in old gid own).piece_len (lengths_in new gid own).total
     (lengths_in new gid own).piece_len own legal un
-
--- ---- every event
-
-sized_fits : (laws : HistoriesAreSound) (start : RunStart) (past : List Event) (gid other : Gid) (id total : ℕ)
-    → FitsOwn (replay_of start past).downloads gid (own_of start past gid) → MayOwn start past other (Sizes id total)
-    → FitsOwn (replay_of start past).downloads gid (with_own other gid (Sizes id total) (own_of start past gid))
-sized_fits laws start past gid other id total legal may =
-    let ds = (replay_of start past).downloads in
-    let own = own_of start past gid in
-    fits_cases ds gid own (Sizes id total) (is_same_gid gid other) legal
-    (λ same.
-    let mine : MayHappen (lengths_in ds gid own).total (lengths_in ds gid own).piece_len own (Sizes id total) =
-    subst (λ (g : Gid). MayHappen (known_lengths start past g).total (known_lengths start past g).piece_len
-    (own_of start past g) (Sizes id total))
-    (gid_is gid other same) may.may in
-    let un = laws.sized (lengths_in ds gid own).total (lengths_in ds gid own).piece_len own id legal mine in (
-      laws.unopened (lengths_in ds gid own).total (lengths_in ds gid own).piece_len
-          (lengths_in ds gid (Sizes id total ∷ own)).total
-          (lengths_in ds gid (Sizes id total ∷ own)).piece_len own legal un,
-      mine,
-    ))
-
-pub legal_parts : HistoriesAreSound → DownloadsAreLegal
-legal_parts laws start [] gid legal = tt
-legal_parts laws start (Called session asked now ∷ past) gid legal =
-    let new = (replay_of start (Called session asked now ∷ past)).downloads in
-    let own = own_of start past gid in
-    halted_fits (halts_by start past (Called session asked now) asked gid) new gid own
-    (more_downloads laws (replay_of start past).downloads new gid own (is_opened own) refl
-    (call_adds start (replay_of start past) asked)
-    (opened_added start past gid legal.0) (legal_parts laws start past gid legal.0))
-legal_parts laws start (Opened other verified blocks now ∷ past) gid legal =
-    event_fits start past gid other (Opens verified blocks now) (legal_parts laws start past gid legal.0) refl
-    legal.1.own
-legal_parts laws start (Sized other id total ∷ past) gid legal =
-    sized_fits laws start past gid other id total (legal_parts laws start past gid legal.0) legal.1
-legal_parts laws start (Claimed other claim ∷ past) gid legal =
-    event_fits start past gid other (Grants claim) (legal_parts laws start past gid legal.0) refl legal.1.own
-legal_parts laws start (Landed other id mirror run now ∷ past) gid legal =
-    event_fits start past gid other (Lands id mirror run) (legal_parts laws start past gid legal.0) refl legal.1.0
-legal_parts laws start (Settled other piece right giver ∷ past) gid legal =
-    event_fits start past gid other (Settles piece right giver) (legal_parts laws start past gid legal.0) refl
-    legal.1.own
-legal_parts laws start (Cleared other piece ∷ past) gid legal =
-    event_fits start past gid other (Clears piece) (legal_parts laws start past gid legal.0) refl legal.1.own
-legal_parts laws start (Lost other id mirror piece mark ∷ past) gid legal =
-    event_fits start past gid other (Loses id mirror piece mark) (legal_parts laws start past gid legal.0) refl
-    legal.1
-legal_parts laws start (Checked other right ∷ past) gid legal =
-    event_fits start past gid other (Checks right) (legal_parts laws start past gid legal.0) refl legal.1.own
-legal_parts laws start (Saved other now ∷ past) gid legal =
-    event_fits start past gid other (Saves now) (legal_parts laws start past gid legal.0) refl legal.1.0
-legal_parts laws start (Ended other how ∷ past) gid legal =
-    event_fits start past gid other (Halts true) (legal_parts laws start past gid legal.0) refl legal.1.own
-legal_parts laws start (Left ∷ past) gid legal = legal_parts laws start past gid legal.0
-legal_parts laws start (Stopped ∷ past) gid legal =
-    goes_on (replay_of start past).downloads gid (own_of start past gid) (Halts false)
-    (legal_parts laws start past gid legal.0) refl (λ h. absurd cc)

@@ -20,7 +20,7 @@ use Rattle.url.specs.Parts.{Parts}
 use Rattle.dl_history.specs.Accounts.{Account, account_of}
 use Rattle.dl_history.specs.OwnEvents.{OwnEvent}
 use Rattle.dl_history.specs.PayloadParts.{is_opened, blames_in}
-use Rattle.machine_core.specs.OwnParts.{PayloadLengths, own_of, payload_lengths_of}
+use Rattle.machine_core.specs.OwnParts.{PayloadLengths, no_lengths, own_of, payload_lengths_of}
 use Rattle.machine_core.specs.Replays.{queue_in, keyed_gid, is_same_gid, with_settings}
 use Rattle.machine_core.specs.Starts.{RunStart, Download, Subject, Listed, Unlisted}
 use Rattle.machine_core.specs.Wanted.{wanted_pieces}
@@ -94,9 +94,9 @@ situation_by k lengths download own options =
       min_blocks = div_ceil (number_value options num.MinSplitSize) BLOCK_LEN;
     }
 
-abbrev pub situation_in : RunStart → List Event → Download → PayloadLengths → Situation
-situation_in start past download lengths =
-    let own = own_of start past download.gid in
+abbrev pub situation_in : RunStart → List Event → Gid → Download → PayloadLengths → Situation
+situation_in start past gid download lengths =
+    let own = own_of start past gid in
     situation_by (account_of lengths.total lengths.piece_len own) lengths download own
     (options_now start past download)
 
@@ -120,13 +120,14 @@ pub record IsBlockGrant (s : Situation) (claim : Claim) : Type 0 where
   pub grant : IsFreeGrant s claim.id claim.worker claim.since.0 claim ⊎ IsTheftGrant s claim
 
 -- by whether the length is known: a probe, or blocks once the download is opened
-abbrev pub IsGrantBy : RunStart → List Event → Download → Option PayloadLengths → Claim → Type 0
-IsGrantBy start past download None claim =
-    IsProbeGrant (situation_in start past download (record { total = 0; piece_len = 0 })) claim
-IsGrantBy start past download (Some lengths) claim =
-    (is_opened (own_of start past download.gid) ≡ true)
-    × IsBlockGrant (situation_in start past download lengths) claim
+abbrev pub IsGrantBy : RunStart → List Event → Gid → Download → Option PayloadLengths → Claim → Type 0
+IsGrantBy start past gid download None claim =
+    IsProbeGrant (situation_in start past gid download no_lengths) claim
+IsGrantBy start past gid download (Some lengths) claim =
+    (is_opened (own_of start past gid) ≡ true)
+    × IsBlockGrant (situation_in start past gid download lengths) claim
 
 -- the claim is the download's choice
-abbrev pub IsGranted : RunStart → List Event → Download → Claim → Type 0
-IsGranted start past download claim = IsGrantBy start past download (payload_lengths_of start past download.gid) claim
+abbrev pub IsGranted : RunStart → List Event → Gid → Download → Claim → Type 0
+IsGranted start past gid download claim =
+    IsGrantBy start past gid download (payload_lengths_of start past gid) claim

@@ -57,6 +57,9 @@ pub record PayloadLengths : Type 0 where
   pub total : ℕ
   pub piece_len : ℕ
 
+abbrev pub no_lengths : PayloadLengths
+no_lengths = record { total = 0; piece_len = 0 }
+
 abbrev pub told_lengths : ℕ → Option ℕ → Option PayloadLengths
 told_lengths piece_len None = None
 told_lengths piece_len (Some total) = Some (record { total = total; piece_len = piece_len })

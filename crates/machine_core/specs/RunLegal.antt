@@ -13,14 +13,15 @@ use Rattle.mirror_blame.specs.Marks.{IsDead, last_mark_of}
 use Rattle.option_set.specs.Values.{number_value, text_of_word}
 use Rattle.option_set.specs.declared.kinds.Num.TheVariants as num
 use Rattle.option_set.specs.declared.kinds.Word.TheVariants as word
-use Rattle.dl_history.specs.OwnEvents.{OwnEvent, Opens, Grants, Lands, Settles, Clears, Loses, Sizes, Saves, Checks, Halts}
+use Rattle.dl_history.specs.OwnEvents.{OwnEvent, Opens, Lands, Settles, Clears, Loses, Sizes, Saves, Checks, Halts}
 use Rattle.dl_history.specs.OwnLegal.{MayHappen, IsCompleteIn, IsLossOf, LegalOwn}
 use Rattle.dl_history.specs.PayloadParts.{is_opened, blames_in, told_total, last_check}
 use Rattle.machine_core.specs.Starts.{RunStart, Download, Subject, Listed, Unlisted}
 use Rattle.machine_core.specs.Replays.{replay_of, queue_in, download_of, is_active_in, is_same_gid}
+use Rattle.machine_core.specs.Choices.{IsGranted}
 use Rattle.machine_core.specs.FileNames.{ShareName}
 use Rattle.machine_core.specs.Wanted.{wanted_pieces}
-use Rattle.machine_core.specs.OwnParts.{PayloadLengths, own_of, payload_lengths_of}
+use Rattle.machine_core.specs.OwnParts.{PayloadLengths, no_lengths, own_of, payload_lengths_of}
 use Rattle.machine_core.specs.LawfulCalls.{IsLawful}
 use Rattle.machine_core.specs.declared.ends.End.{End}
 use Rattle.machine_core.specs.declared.ends.End.TheVariants as end
@@ -64,9 +65,6 @@ doors_left start past = start.doors - count_by is_left past
 
 -- ---- one download
 
-abbrev pub no_lengths : PayloadLengths
-no_lengths = record { total = 0; piece_len = 0 }
-
 -- its lengths, and 0 while they aren't known
 abbrev pub known_lengths : RunStart → List Event → Gid → PayloadLengths
 known_lengths start past gid = unwrap_or (payload_lengths_of start past gid) no_lengths
@@ -85,12 +83,14 @@ abbrev pub is_listed : Subject → Bool
 is_listed (Listed meta uris) = true
 is_listed (Unlisted uris) = false
 
--- it is opened while it is active, once its length is known
+-- it is opened while it is active, once its length is known, by a plan
 pub record MayBeOpened (start : RunStart) (past : List Event) (gid : Gid) (verified blocks : List Bool)
     (now : Moment) : Type 0 where
   pub own : MayOwn start past gid (Opens verified blocks now)
   pub active : is_active_in start past gid ≡ true
-  pub known : is_some (payload_lengths_of start past gid) ≡ true
+  pub lengths : PayloadLengths
+  pub known : payload_lengths_of start past gid ≡ Some lengths
+  pub plan : IsPlan lengths.total lengths.piece_len
   pub later : IsLaterThan past now
 
 -- the payload of a download without a metainfo file counts as right once it is full
@@ -206,10 +206,12 @@ pub record MayBeEnded (start : RunStart) (past : List Event) (gid : Gid) (how : 
 
 -- ---- any event
 
+-- the claim is the choice of its active download, under a new number
 pub record MayBeClaimed (start : RunStart) (past : List Event) (gid : Gid) (claim : Claim) : Type 0 where
-  pub own : MayOwn start past gid (Grants claim)
+  pub download : Download
+  pub added : download_in start past gid ≡ Some download
   pub active : is_active_in start past gid ≡ true
-  pub mirror : claim.mirror < mirrors_by own.download.subject
+  pub granted : IsGranted start past gid download claim
   pub fresh : IsNewNumber past claim.id
   pub later : IsLaterThan past claim.since
 

@@ -1,11 +1,15 @@
 // What holds of every legal history of a run.
 ghost use Rattle.machine_core.specs.RunLegal.{DownloadsAreLegal};
 
-use dl_history::histories_are_sound;
+use dl_history::{accounts_match_events, histories_are_sound};
+use dl_kinds::plan_laws;
 
-/// Each download's part of a legal history is a legal history of that download.
+/// Each download's part of a legal history is a legal history of that download; so the claim that is chosen is one that
+/// may be granted.
 pub fn downloads_are_legal()
     ensures { DownloadsAreLegal }
 {
+    plan_laws();
     histories_are_sound();
+    accounts_match_events();
 }
