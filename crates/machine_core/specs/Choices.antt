@@ -60,18 +60,19 @@ url_host url = host_by (parse_url None url)
 
 -- the hosts, each once, in the order of their first mirrors
 abbrev pub with_host : List (List ℕ) → List ℕ → List (List ℕ)
-with_host hosts host = if list_any (bytes_eq host) hosts then hosts else hosts ++ host ∷ []
+with_host known host = if list_any (bytes_eq host) known then known else known ++ host ∷ []
 
-abbrev pub hosts_from : List (List ℕ) → List (List ℕ) → List (List ℕ)
-hosts_from hosts [] = hosts
-hosts_from hosts (url ∷ urls) = hosts_from (with_host hosts (url_host url)) urls
+abbrev pub distinct_hosts : List (List ℕ) → List (List ℕ) → List (List ℕ)
+distinct_hosts known [] = known
+distinct_hosts known (host ∷ hosts) = distinct_hosts (with_host known host) hosts
 
-abbrev pub host_number : List (List ℕ) → List ℕ → ℕ
-host_number hosts url = position_or_len (bytes_eq (url_host url)) hosts
+-- the number of each
+abbrev pub numbers_of_hosts : List (List ℕ) → List ℕ
+numbers_of_hosts hosts = map (λ host. position_or_len (bytes_eq host) (distinct_hosts [] hosts)) hosts
 
 -- the number of each mirror's host
 abbrev pub host_numbers : List (List ℕ) → List ℕ
-host_numbers urls = map (host_number (hosts_from [] urls)) urls
+host_numbers urls = numbers_of_hosts (map url_host urls)
 
 -- ---- the choice
 

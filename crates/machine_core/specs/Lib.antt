@@ -6,3 +6,4 @@ pub mod FileNames
 pub mod Wanted
 pub mod Choices
 pub mod RunLegal
+pub mod WorkedRuns

@@ -1,5 +1,6 @@
 // What holds of every legal history of a run.
 ghost use Rattle.machine_core.specs.RunLegal.{DownloadsAreLegal};
+ghost use Rattle.machine_core.specs.WorkedRuns.{WorkedRuns};
 
 use dl_history::{accounts_match_events, histories_are_sound};
 use dl_kinds::plan_laws;
@@ -13,3 +14,8 @@ pub fn downloads_are_legal()
     histories_are_sound();
     accounts_match_events();
 }
+
+/// What the definitions say of the worked runs.
+pub fn worked_runs_are_told()
+    ensures { WorkedRuns }
+{}
