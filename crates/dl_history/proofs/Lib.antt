@@ -20,4 +20,5 @@ pub mod Unopened
 pub mod Matches
 pub mod Givers
 pub mod Lasting
+pub mod Idle
 pub mod Sound

@@ -10,6 +10,7 @@ use Rattle.dl_history.proofs.Early.{below_end, early}
 use Rattle.dl_history.proofs.Ends.{has_come}
 use Rattle.dl_history.proofs.Facts.{facts}
 use Rattle.dl_history.proofs.Givers.{from_granted}
+use Rattle.dl_history.proofs.Idle.{told_idle}
 use Rattle.dl_history.proofs.Keeping.{run_within}
 use Rattle.dl_history.proofs.Lasting.{full_stays, listed_stays, sole_unlisted}
 use Rattle.dl_history.proofs.Members.{Has, has_filter, has_from}
@@ -78,5 +79,6 @@ sound laws =
       listed = listed_stays laws;
       sole = sole_unlisted laws;
       sized = sized_early;
+      told = told_idle;
       unopened = any_lengths;
     }

@@ -1,12 +1,12 @@
 -- What holds in every legal history of a download.
-use Rattle.std.specs.Prelude.{◌≡◌, ◌≢◌, ℕ, ◌+◌, ◌<◌, ◌≤◌, true, false, List, ◌∷◌, Contains}
+use Rattle.std.specs.Prelude.{Some, ◌≡◌, ◌≢◌, ℕ, ◌+◌, ◌<◌, ◌≤◌, true, false, List, [], ◌∷◌, Contains}
 use Rattle.dl_kinds.specs.Plan.{piece_of, pieces_of, blocks_of, IsPlan}
 use Rattle.dl_kinds.specs.declared.claims.Claim.{Claim}
 use Rattle.dl_kinds.specs.declared.runs.Run.{Run}
 use Rattle.piece_table.specs.Changes.{From}
 use Rattle.dl_history.specs.OwnEvents.{OwnEvent, Clears, Settles}
 use Rattle.dl_history.specs.StandingClaims.{standing_claims, granted_claims, is_open_since, is_probe}
-use Rattle.dl_history.specs.PayloadParts.{is_opened, is_sole_in, is_landed_in, is_verified_in, source_in}
+use Rattle.dl_history.specs.PayloadParts.{is_opened, is_sole_in, is_landed_in, is_verified_in, source_in, told_total}
 use Rattle.dl_history.specs.Listings.{ListsNone, last_listing, is_block_listed}
 use Rattle.dl_history.specs.OwnLegal.{LegalOwn, MayLand, MayClear, MaySize}
 
@@ -109,6 +109,12 @@ abbrev pub SizedAreUnopened : Type 0
 SizedAreUnopened =
     (total len : ℕ) (own : List OwnEvent) (id : ℕ) → LegalOwn total len own → MaySize own id → is_opened own ≡ false
 
+-- once a probe told the length, none of its claims stands until the download is opened
+abbrev pub ToldAreIdle : Type 0
+ToldAreIdle =
+    (total len : ℕ) (own : List OwnEvent) (told : ℕ)
+    → LegalOwn total len own → is_opened own ≡ false → told_total own ≡ Some told → standing_claims own ≡ []
+
 -- before the opening no length matters
 abbrev pub UnopenedFitAnyLengths : Type 0
 UnopenedFitAnyLengths =
@@ -127,4 +133,5 @@ pub record HistoriesAreSound : Type 0 where
   pub listed : ListedBlocksStay
   pub sole : SolePiecesAreUnlisted
   pub sized : SizedAreUnopened
+  pub told : ToldAreIdle
   pub unopened : UnopenedFitAnyLengths
