@@ -1,0 +1,21 @@
+// What holds of every legal history of a run.
+ghost use Rattle.machine_core.specs.RunLegal.{DownloadsAreLegal};
+ghost use Rattle.machine_core.specs.WorkedRuns.{WorkedRuns};
+
+use dl_history::{accounts_match_events, histories_are_sound};
+use dl_kinds::plan_laws;
+
+/// Each download's part of a legal history is a legal history of that download; so the claim that is chosen is one that
+/// may be granted.
+pub fn downloads_are_legal()
+    ensures { DownloadsAreLegal }
+{
+    plan_laws();
+    histories_are_sound();
+    accounts_match_events();
+}
+
+/// What the definitions say of the worked runs.
+pub fn worked_runs_are_told()
+    ensures { WorkedRuns }
+{}
