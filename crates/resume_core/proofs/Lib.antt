@@ -1,8 +1,15 @@
 pub mod Apart
 pub mod Ends
 pub mod Filed
+pub mod Fitted
+pub mod FlyingRows
 pub mod Listings
+pub mod Moved
+pub mod OpenedRows
+pub mod Openings
+pub mod Opens
 pub mod Partial
+pub mod Past
 pub mod PieceBytes
 pub mod Places
 pub mod Puts
@@ -12,8 +19,10 @@ pub mod Same
 pub mod Saved
 pub mod Saving
 pub mod Savings
+pub mod Standing
 pub mod Stretched
 pub mod Stretching
+pub mod Surveys
 pub mod TableRows
 pub mod TableSaves
 pub mod Tearing

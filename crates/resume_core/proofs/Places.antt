@@ -11,7 +11,7 @@ use Rattle.piece_table.proofs.Parts.{length-part, get_or-part}
 abbrev pub RowTo : List Bool → ℕ → (ℕ → Type 0) → Type 0
 RowTo row n P = (k : ℕ) → (slice_get row k ≡ Some true) ↔ ((k < n) × P k)
 
-never : (n k : ℕ) → slice_get (replicate n false) k ≡ Some true → ⊥
+pub never : (n k : ℕ) → slice_get (replicate n false) k ≡ Some true → ⊥
 never n k is =
     let below : k < n = omega (arith, slice_get_within (replicate n false) k true is, length-replicate {A = Bool} n false) in
     false≢true (sym (get_or-replicate n k false false below) ∙ get_or_from_slice_get (replicate n false) k true false is)

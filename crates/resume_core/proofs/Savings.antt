@@ -31,7 +31,7 @@ module _ (want : Want) (bytes : List ℕ) where
 
   -- the control file was put, or kept
   module _ (is : IsWant want) where
-    files_put : (x y : Files) → PutsOrKeeps (temporary_name want) (control_name want) bytes x y
+    pub files_put : (x y : Files) → PutsOrKeeps (temporary_name want) (control_name want) bytes x y
         → files_in want y ≡ files_in want x
     files_put x y puts = files_same want y x
         (λ k d within. puts.others (name_of want.dir (get_or want.layout k d).path) (temporary_other want is k d within)

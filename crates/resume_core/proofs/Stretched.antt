@@ -15,7 +15,7 @@ use Rattle.resume_core.proofs.Apart.{control_other}
 use Rattle.resume_core.proofs.Stretching.{kept, reach_kept, bytes_kept}
 
 -- a block that is given lies within the files
-block_reached : (want : Want) (f : Found) (contents : List (Option (List ℕ))) (block : ℕ)
+pub block_reached : (want : Want) (f : Found) (contents : List (Option (List ℕ))) (block : ℕ)
     → BlockResumed want f contents block
     → ReachesBlock want contents block
 block_reached want f contents block gives i below = ⊎_elim

@@ -1,8 +1,12 @@
 pub mod Causes
 pub mod Found
 pub mod Laws
+pub mod Lens
 pub mod Listing
+pub mod Openings
+pub mod Refusals
 pub mod Resume
+pub mod Rows
 pub mod RunLaws
 pub mod Runs
 pub mod SaveLaws

@@ -4,11 +4,20 @@
 mod control_files;
 mod fault;
 mod finishing;
+mod holding;
 mod laws;
+mod lens;
 mod listing;
+mod matching;
 mod names;
+mod opened;
+mod opening;
 mod progress;
+mod refusing;
+mod resuming;
+mod rows;
 mod runs;
+mod surveying;
 mod whole_files;
 
 pub use fault::StoreErr;
@@ -19,4 +28,6 @@ pub use laws::{
     torn_files_keep_what_is_given,
 };
 pub use progress::save;
+pub use refusing::OpenErr;
+pub use resuming::resume;
 pub use runs::{read_piece, write_run};

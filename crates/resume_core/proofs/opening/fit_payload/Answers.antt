@@ -1,0 +1,29 @@
+use Rattle.std.proofs.Common.{◌≡◌, ◌∙◌, ⊎_elim, sym, List, Option, ℕ, subst}
+use Rattle.std.proofs.lemmas.Bool.{false≢true}
+use Rattle.resume_core.specs.Lens.{AreWhole, lens_in}
+use Rattle.resume_core.proofs.Fitted.{whole_files, fits_as_is}
+use Rattle.resume_core.proofs.Openings.{sound_none, given_none}
+use Rattle.resume_core.proofs.opening.fit_payload.Goals as goal
+
+pub returns-then-are_whole-clause-files : goal.returns-then-are_whole-clause-files
+returns-then-are_whole-clause-files g c told =
+    whole_files c.args.want.now (g.D.Disk.state c.args.disk.now).seen
+    (sym (c.requires.survey told).lens ∙ sym c.deref.ensures.value ∙ c.are_whole.ensures.0 c.if-are_whole.true)
+
+pub returns-then-are_whole-clause-kept : goal.returns-then-are_whole-clause-kept
+returns-then-are_whole-clause-kept g c told =
+    fits_as_is c.args.want.now (g.D.Disk.state c.args.disk.now).seen
+    (whole_files c.args.want.now (g.D.Disk.state c.args.disk.now).seen
+    (sym (c.requires.survey told).lens ∙ sym c.deref.ensures.value ∙ c.are_whole.ensures.0 c.if-are_whole.true))
+
+pub returns-then-are_whole-clause-sound : goal.returns-then-are_whole-clause-sound
+returns-then-are_whole-clause-sound g c told = sound_none c.args.want.now (g.D.Disk.state c.args.disk.now)
+
+pub returns-then-are_whole-clause-gives : goal.returns-then-are_whole-clause-gives
+returns-then-are_whole-clause-gives g c told either = given_none c.args.want.now (g.D.Disk.state c.args.disk.now)
+
+pub returns-clause-gives : goal.returns-clause-gives
+returns-clause-gives g c told either = ⊎_elim
+    (λ stood. c.hold_and_fit.ensures.gives told (c.is_some.ensures ∙ stood))
+    (λ whole. absurd (false≢true (sym c.if-are_whole.false ∙ c.are_whole.ensures.1 (c.deref.ensures.value ∙ whole))))
+    either
