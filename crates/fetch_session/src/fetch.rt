@@ -1,7 +1,6 @@
 // A fetch of a run of blocks.
 ghost use Rattle.std.specs.Prelude.{◌≡◌, ◌↔◌, ◌<◌, ◌≤◌, ℕ, ◌+◌, ◌++◌, [], List, length, vec_len, vec_capacity, Some, None, Err, min, IsTrue, IsSome, IfSome, IfOk, IfErr, OnErr, MatchResult};
 ghost use Rattle.std.specs.Option.{ForSome, ForNone};
-ghost use Rattle.dl_words.specs.Counts.{Rose};
 ghost use Rattle.dl_kinds.specs.Plan.{blocks_of};
 ghost use Rattle.reply_reader.specs.Losses.{IsKnown};
 ghost use Rattle.fetch_session.specs.Blocks.{AreReady};
@@ -50,9 +49,8 @@ pub struct Fetch {
 
 impl Fetch {
     ghost use Rattle.link_source.specs.Streams.{Stream};
-    ghost use Rattle.reply_reader.specs.declared.loss.Loss.TheVariants.{Link};
     ghost use Rattle.request_chain.specs.Chains.{Gains};
-    ghost use Rattle.request_chain.specs.Links.{IsHonestSince, StaysHonest};
+    ghost use Rattle.request_chain.specs.Links.{CountsLinkLoss, IsHonestSince, StaysHonest};
     ghost use Rattle.span_map.specs.declared.jobs.Job.{Job};
     ghost use Rattle.fetch_session.specs.Blocks.{cut};
     ghost use Rattle.span_map.specs.Jobs.{IsJob, run_end, run_start};
@@ -114,8 +112,8 @@ impl Fetch {
         ensures reads { IsTrue L.tells → (job : Job) (before used : List Stream) (handed : List ℕ)
             → IsFetch job used handed self.old → Gains before (L.state link.old).streams used
             → MatchResult result
-            (λ got. FetchSteps job before used handed (L.state link.new).streams (L.faults link.new) allow self.old got self.new)
-            (λ loss. Fails job before handed (L.state link.new).streams (L.faults link.new) self.old loss self.new) }
+            (λ got. FetchSteps job before used handed (L.state link.new).streams allow got self.new)
+            (λ loss. Fails job before used handed (L.state link.new).streams allow loss self.new) }
         ensures plan { fetch_plan self.new ≡ fetch_plan self.old }
         ensures rest { rest_of self.new ≡ rest_of self.old }
 
@@ -123,6 +121,7 @@ impl Fetch {
         ensures ready { IfOk result (λ got. got.ready ≡ ready_of self.new) }
         ensures within { (ready_of self.new).count ≤ (rest_of self.new).count }
         ensures few { (ready_of self.new).count ≤ 64 }
+        ensures allowed { IfOk result (λ got. got.taken ≤ allow) }
         ensures done { IfOk result (λ got. IsTrue got.done ↔ (got.ready.count ≡ (rest_of self.new).count)) }
 
         // A loss that it held back is told, and nothing else is done.
@@ -138,8 +137,8 @@ impl Fetch {
             → IsHonestSince before (L.state link.old)
             → StaysHonest before (L.state link.old) (L.state link.new) }
         ensures none_ready { OnErr result ((ready_of self.new).count ≡ 0) }
-        ensures cause { lost_of self.old ≡ None → (count : ℕ) → lost_of self.new ≡ Some (Link count)
-            → Rose (L.faults link.old) (L.faults link.new) }
+        ensures cause { lost_of self.old ≡ None
+            → IfSome (lost_of self.new) (CountsLinkLoss (L.faults link.old) (L.faults link.new)) }
         ensures later { L.faults link.old ≤ L.faults link.new }
     {
         fetched_bytes_fit_their_parts();
@@ -189,13 +188,14 @@ impl Fetch {
         ensures reads { IsTrue L.tells → (job : Job) (before used : List Stream) (handed : List ℕ)
             → IsFetch job used handed self.old → Gains before (L.state link.old).streams used
             → MatchResult result
-            (λ got. FetchSteps job before used handed (L.state link.new).streams (L.faults link.new) allow self.old got self.new)
-            (λ loss. Fails job before handed (L.state link.new).streams (L.faults link.new) self.old loss self.new) }
+            (λ got. FetchSteps job before used handed (L.state link.new).streams allow got self.new)
+            (λ loss. Fails job before used handed (L.state link.new).streams allow loss self.new) }
         ensures plan { fetch_plan self.new ≡ fetch_plan self.old }
         ensures rest { rest_of self.new ≡ rest_of self.old }
         ensures ready { IfOk result (λ got. got.ready ≡ ready_of self.new) }
         ensures within { (ready_of self.new).count ≤ (rest_of self.new).count }
         ensures few { (ready_of self.new).count ≤ 64 }
+        ensures allowed { IfOk result (λ got. got.taken ≤ allow) }
         ensures done { IfOk result (λ got. IsTrue got.done ↔ (got.ready.count ≡ (rest_of self.new).count)) }
         ensures lost { IfErr result (λ loss. lost_of self.new ≡ Some loss) }
         ensures known { IfErr result IsKnown }
@@ -207,7 +207,7 @@ impl Fetch {
             → IsHonestSince before (L.state link.old)
             → StaysHonest before (L.state link.old) (L.state link.new) }
         ensures none_ready { OnErr result ((ready_of self.new).count ≡ 0) }
-        ensures cause { (count : ℕ) → lost_of self.new ≡ Some (Link count) → Rose (L.faults link.old) (L.faults link.new) }
+        ensures cause { IfSome (lost_of self.new) (CountsLinkLoss (L.faults link.old) (L.faults link.new)) }
         ensures later { L.faults link.old ≤ L.faults link.new }
     {
         fetched_bytes_fit_their_parts();

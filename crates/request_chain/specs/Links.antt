@@ -7,9 +7,9 @@ use Rattle.reply_reader.specs.declared.loss.Loss.{Loss}
 use Rattle.reply_reader.specs.declared.loss.Loss.TheVariants.{Link}
 use Rattle.request_chain.specs.Honest.{AreHonest}
 
--- a loss by a failed link comes only where the count of faults rose
+-- a loss by a failed link comes only where the count of faults rose, and has that count
 abbrev pub CountsLinkLoss : ℕ → ℕ → Loss → Type 0
-CountsLinkLoss before now loss = (count : ℕ) → loss ≡ Link count → Rose before now
+CountsLinkLoss before now loss = (count : ℕ) → loss ≡ Link count → Rose before now × (count ≡ now)
 
 -- what came since these streams is what the mirrors reply
 abbrev pub IsHonestSince : List Stream → LinkState → Type 0

@@ -63,7 +63,8 @@ fn end<L: Links>(link: &mut L, done: bool)
 impl Chain {
     pub fn new(parts: JobParts, room: ChainRoom) -> Self
         requires parts { All IsJobPart parts }
-        ensures { IsChain parts [] [] result }
+        ensures chain { IsChain parts [] [] result }
+        ensures brought { HasBrought parts [] [] [] }
     {
         let mut room = room;
         room.inbox.clear();

@@ -5,6 +5,7 @@ ghost use Rattle.link_source.specs.Streams.{Stream};
 ghost use Rattle.range_http.specs.Fields.{values_of, sole};
 ghost use Rattle.range_http.specs.Verdict.{verdict_of};
 ghost use Rattle.range_http.specs.declared.verdict.Verdict.TheVariants.{Moved as HasMoved};
+ghost use Rattle.reply_reader.specs.Losses.{IsKnown};
 ghost use Rattle.reply_reader.specs.Heads.{IsAtHead, IsHeadDue, HasNoFinalHead};
 ghost use Rattle.reply_reader.specs.declared.loss.Loss.TheVariants.{Link, NoMemory, BadReply};
 ghost use Rattle.request_chain.specs.Links.{CountsLinkLoss};
@@ -35,6 +36,7 @@ fn told_length(head: &Head) -> Result<Option<u64>, Loss>
     ensures length { IfOk result (λ told. IfSome told (λ total. probe_by head.now (verdict_of head.now probe_asked) ≡ Told total)) }
     ensures moved { result ≡ Ok None → verdict_of head.now probe_asked ≡ HasMoved }
     ensures lost { IfErr result (λ loss. IsOwn loss × (probe_by head.now (verdict_of head.now probe_asked) ≡ Lost loss)) }
+    ensures known { IfErr result IsKnown }
 {
     let asked = Asked {
         first: 0,
@@ -71,6 +73,7 @@ fn told_length(head: &Head) -> Result<Option<u64>, Loss>
 fn check(alloc: Global, reader: &HeadReader) -> Result<(), Loss>
     ensures due { OnOk result ((front : List ℕ) → IsAtHead front reader.now → IsHeadDue front) }
     ensures lost { IfErr result (λ loss. (loss ≡ NoMemory) ⊎ ((loss ≡ BadReply) × ((front : List ℕ) → IsAtHead front reader.now → HasNoFinalHead front))) }
+    ensures known { IfErr result IsKnown }
 {
     match reader.is_due(alloc) {
         Ok(true) => Ok(()),
@@ -94,6 +97,7 @@ fn receive<L: Links>(
         (HeadLost url before (L.state link.new).streams (L.faults link.new)) }
     ensures some { IfOk result (λ count. (0 < count) × (count ≤ most)) }
     ensures link { IfErr result (CountsLinkLoss (L.faults link.old) (L.faults link.new)) }
+    ensures known { IfErr result IsKnown }
     ensures later { L.faults link.old ≤ L.faults link.new }
 {
     match inbox.refill(link, most) {
@@ -116,6 +120,7 @@ fn receive_head<L: Links>(alloc: Global, link: &mut L, inbox: &mut Inbox) -> Res
         → MatchResult result (HasHead url before (L.state link.new).streams)
         (HeadLost url before (L.state link.new).streams (L.faults link.new)) }
     ensures link { IfErr result (CountsLinkLoss (L.faults link.old) (L.faults link.new)) }
+    ensures known { IfErr result IsKnown }
     ensures later { L.faults link.old ≤ L.faults link.new }
 {
     let mut reader = HeadReader::new(alloc);
@@ -141,6 +146,7 @@ fn ask<L: Links>(alloc: Global, link: &mut L, inbox: &mut Inbox, hop: &Moved) ->
         (λ loss. IsUnopened hop.now.url hop.now.status (L.state link.old).streams (L.state link.new).streams (L.faults link.new) loss
         ⊎ HeadLost hop.now.url (L.state link.old).streams (L.state link.new).streams (L.faults link.new) loss) }
     ensures link { IfErr result (CountsLinkLoss (L.faults link.old) (L.faults link.new)) }
+    ensures known { IfErr result IsKnown }
     ensures later { L.faults link.old ≤ L.faults link.new }
 {
     let asked = Asked {
@@ -158,6 +164,7 @@ fn next_hop(alloc: Global, url: &str, head: &Head) -> Result<Moved, Loss>
         (λ hop. (moved_to url.now text ≡ Some hop.url) × (hop.status ≡ head.now.status))
         (λ loss. (loss ≡ NoMemory) ⊎ ((loss ≡ unusable head.now.status) × (moved_to url.now text ≡ None))) }
     ensures own { IfErr result (λ loss. (count : ℕ) → loss ≡ Link count → ⊥) }
+    ensures known { IfErr result IsKnown }
 {
     match target(alloc, url, head) {
         Ok(Some(url)) => Ok(Moved {
@@ -184,6 +191,7 @@ pub fn probe<L: Links>(
         (λ total. Probed url.now used (Told total))
         (TellsProbeLoss url.now used (L.faults link.new)) }
     ensures link { IfErr result (CountsLinkLoss (L.faults link.old) (L.faults link.new)) }
+    ensures known { IfErr result IsKnown }
     ensures later { L.faults link.old ≤ L.faults link.new }
 {
     final_heads_are_one_and_stay();

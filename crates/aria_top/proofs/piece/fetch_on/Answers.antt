@@ -16,7 +16,7 @@ pub returns-in-Ok-clause-held : goal.returns-in-Ok-clause-held
 returns-in-Ok-clause-held g c =
     let none = none_held (lost_of c.args.fetch.now) c.step.result c.in_ok-got.got c.step.ensures.held c.in_ok-got.was in
     subst (λ (lost : Option Loss). IfSome lost (λ loss. IsLinkLoss loss → Rose (g.L.Links.faults c.args.link.now) (g.L.Links.faults c.step.new.link))) (sym c.in-Ok.ensures.lost)
-    (link_held (lost_of c.step.new.self) _ (λ count is. c.step.ensures.cause none count is))
+    (link_held (lost_of c.step.new.self) _ _ (c.step.ensures.cause none))
 
 pub returns-in-Err-clause-goes_on : goal.returns-in-Err-clause-goes_on
 returns-in-Err-clause-goes_on g c told job before was =

@@ -1,5 +1,6 @@
-use Rattle.std.proofs.Common.{◌≡◌, ◌++◌, length, take, refl, ap, ◌∙◌, arith}
+use Rattle.std.proofs.Common.{◌≡◌, ◌≤◌, ◌+◌, ◌++◌, length, take, refl, ap, ◌∙◌, arith}
 use Rattle.std.proofs.Math.Seq.{take-append_seam}
+use Rattle.request_chain.specs.Chains.{received_by}
 use Rattle.fetch_session.proofs.Stepping.{chain_is, steps_read, steps_lost, fails_lost, fails_memory}
 use Rattle.fetch_session.proofs.Taking.{room_few}
 use Rattle.fetch_session.proofs.fetch.Fetch.read_on.Goals as goal
@@ -13,7 +14,7 @@ returns-in-Ok-clause-reads g c = λ tells job before used handed is gains.
     let chain = chain_is fits follow job used handed self is room c.requires.some_room c.requires.room c.requires.none_lost in
     let read = c.in-Ok.ensures.reads tells job.parts before used (handed ++ self.held.items) chain gains in
     steps_read fits follow job used handed self is room c.requires.some_room c.requires.room _ refl refl c.whole_from-self.ensures.first
-    before _ _ c.args.allow read.0 c.got.result c.in-Ok.read c.requires.none_lost read.1 read.2 c.got.ensures.ready c.got.ensures.taken c.got.ensures.done
+    before _ 0 c.args.allow read.0 c.got.result c.in-Ok.read c.requires.none_lost read.1 read.2 c.got.ensures.ready c.got.ensures.taken c.got.ensures.done
 
 pub read-requires-clause-room : goal.read-requires-clause-room
 read-requires-clause-room g c =
@@ -33,7 +34,10 @@ returns-in-NoMemory-clause-reads g c = λ tells job before used handed is gains.
     c.truncate.ensures.items ∙ ap (λ n. take n c.read.new.out.items) (c.len-before.ensures ∙ self.held.ok.0)
     ∙ ap (take (length self.held.items)) read.1 ∙ take-append_seam self.held.items read.0 in
     fails_memory fits follow job used handed self is room c.requires.some_room c.requires.room _ refl refl refl
-    before _ _ c.args.allow read.0 c.in-Err.loss c.in-NoMemory.is read.2.later read.2.gains refl held c.requires.none_ready
+    before _ 0 c.args.allow read.0 c.in-Err.loss c.in-NoMemory.is read.2.later read.2.gains
+    (let few : c.read.new.self.taken ≤ c.args.allow = read.2.few in
+    let took : received_by read.2.later ≡ received_by used + c.read.new.self.taken = read.2.taken in
+    omega (arith, few, took)) refl held c.requires.none_ready
 
 pub returns-then-self-eq0-clause-reads : goal.returns-then-self-eq0-clause-reads
 returns-then-self-eq0-clause-reads g c = λ tells job before used handed is gains.
