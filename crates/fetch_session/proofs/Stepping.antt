@@ -261,7 +261,7 @@ module _ (fits : FetchedFits) (follow : BlocksFollow) (job : Job) (used : List S
       (cases_lt (length added) room) in
       let ends_done : got.done ≡ true → reads.brought.ending ≡ Done =
       (λ done. (whole_done fits job.parts is.is_job.parts reads.later (handed ++ new.held.items) reads.waiting reads.brought.ending fetched
-      (last_whole fits follow job used handed old is room some_room has_room reads.later new plan_is end_is first_is is_new (done_is.0 done))).0) in
+          (last_whole fits follow job used handed old is room some_room has_room reads.later new plan_is end_is first_is is_new (done_is.0 done))).0) in
       let wide = top_of fits follow job used handed old is room some_room has_room reads.later new plan_is end_is first_is is_new in
       let reach = reaches fits follow job reads.later handed new is_new in
       let far : (cut job.plan (min (new.ready.first + 64) new.end) ≤ cut job.plan new.ready.first + length new.held.items) → (got.done ≡ true) ⊎ (got.ready.count ≡ 64) =
@@ -332,7 +332,7 @@ module _ (fits : FetchedFits) (follow : BlocksFollow) (job : Job) (used : List S
           later = loses.later;
           gains = loses.gains;
           is_fetch = lost_fetch;
-          came = new.held.items;
+            came = new.held.items;
           ending = told.0;
           fetched = told.2;
           ready = ready_is ∙ lost_ready;
@@ -457,3 +457,10 @@ same_fetch job used handed old new same is =
       came = subst H (sym (ap (λ v. v.items) same.held)) (subst L (sym same.lost) (subst C (sym same.chain) is.came));
       all = λ none. is.all (omega (arith, none, first, same.end_is));
     }
+
+-- the streams are the same after the link was hung up
+pub steps_at : (job : Job) (before used : List Stream) (handed : List ℕ) (now new_now : List Stream) (allow : ℕ) (got : Got) (new : Fetch) → new_now ≡ now
+    → FetchSteps job before used handed now allow got new → FetchSteps job before used handed new_now allow got new
+steps_at job before used handed now new_now allow got new same steps =
+    let P : List Stream → Type 0 = λ streams. FetchSteps job before used handed streams allow got new in
+    subst P (sym same) steps

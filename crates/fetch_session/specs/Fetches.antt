@@ -2,6 +2,7 @@
 use Rattle.std.specs.Prelude.{◌≡◌, ◌≢◌, ◌⊎◌, ◌<◌, ◌≤◌, ℕ, ◌+◌, ◌-◌, List, [], ◌++◌, length, Option, Some, None, IsSome, true}
 use Rattle.dl_kinds.specs.declared.plan.Plan.{Plan}
 use Rattle.dl_kinds.specs.declared.runs.Run.{Run}
+use Rattle.link_source.specs.Link.{LinkState}
 use Rattle.link_source.specs.Streams.{Stream}
 use Rattle.span_map.specs.declared.jobs.Job.{Job}
 use Rattle.span_map.specs.declared.jobs.JobPart.{JobPart}
@@ -10,6 +11,7 @@ use Rattle.reply_reader.specs.declared.loss.Loss.TheVariants.{NoMemory}
 use Rattle.request_chain.specs.Chains.{IsChain, Gains, HasBrought, TellsLoss, received_by}
 use Rattle.request_chain.specs.Fetched.{Fetched}
 use Rattle.request_chain.specs.Plans.{Ending, Done, Lost}
+use Rattle.request_chain.specs.Turns.{MayGoOn}
 use Rattle.request_chain.specs.declared.chain.Chain.{Chain}
 use Rattle.fetch_session.specs.Blocks.{cut, ready_blocks}
 use Rattle.span_map.specs.Jobs.{IsJob, parts_len, run_start}
@@ -30,6 +32,11 @@ ready_of fetch = fetch.ready
 -- the loss that it holds back, or has told
 abbrev pub lost_of : Fetch → Option Loss
 lost_of fetch = fetch.lost
+
+-- where a step would go on with a reply, the link listens
+abbrev pub MayStep : Fetch → LinkState → Type 0
+MayStep fetch link =
+    lost_of fetch ≡ None → (ready_of fetch).count < (rest_of fetch).count → MayGoOn fetch.chain link
 
 -- the second buffer may have come in, and nothing else changed
 pub record SameButSpare (old new : Fetch) : Type 0 where
