@@ -5,6 +5,7 @@ use Rattle.link_source.specs.Streams.{Stream}
 use Rattle.reply_reader.specs.declared.loss.Loss.{Loss}
 use Rattle.reply_reader.specs.declared.loss.Loss.TheVariants as losses
 use Rattle.request_chain.specs.Chains.{TellsLoss}
+use Rattle.request_chain.specs.Links.{CountsLinkLoss}
 use Rattle.span_map.specs.declared.jobs.JobPart.{JobPart}
 use Rattle.aria_top.specs.Ends.{IsLinkLoss}
 use Rattle.aria_top.specs.Fetched.{EndsIn, ending_of}
@@ -15,16 +16,19 @@ none_held None result got held is = refl
 none_held (Some loss) result got held is = let both : Ok got ≡ Err loss = sym is ∙ held in cc
 
 -- a loss of the link has a cause
-pub link_held : (lost : Option Loss) (Cause : Type 0) → ((count : ℕ) → lost ≡ Some (losses.Link count) → Cause) → IfSome lost (λ loss. IsLinkLoss loss → Cause)
-link_held None Cause cause = tt
-link_held (Some (losses.Link count)) Cause cause = λ _. cause count refl
-link_held (Some losses.NotFound) Cause cause = λ no. absurd no
-link_held (Some (losses.Refused status code)) Cause cause = λ no. absurd no
-link_held (Some losses.BadReply) Cause cause = λ no. absurd no
-link_held (Some (losses.Length told want)) Cause cause = λ no. absurd no
-link_held (Some (losses.Short got)) Cause cause = λ no. absurd no
-link_held (Some losses.Redirects) Cause cause = λ no. absurd no
-link_held (Some losses.NoMemory) Cause cause = λ no. absurd no
+link_cause : (loss : Loss) (before now : ℕ) → CountsLinkLoss before now loss → IsLinkLoss loss → Rose before now
+link_cause (losses.Link count) before now counts is = (counts count refl).0
+link_cause losses.NotFound before now counts is = absurd is
+link_cause (losses.Refused status code) before now counts is = absurd is
+link_cause losses.BadReply before now counts is = absurd is
+link_cause (losses.Length told want) before now counts is = absurd is
+link_cause (losses.Short got) before now counts is = absurd is
+link_cause losses.Redirects before now counts is = absurd is
+link_cause losses.NoMemory before now counts is = absurd is
+
+pub link_held : (lost : Option Loss) (before now : ℕ) → IfSome lost (CountsLinkLoss before now) → IfSome lost (λ loss. IsLinkLoss loss → Rose before now)
+link_held None before now counts = tt
+link_held (Some loss) before now counts = link_cause loss before now counts
 
 -- what a loss tells is how it ended
 pub tells_ending : (parts : List JobPart) (used : List Stream) (bytes : List ℕ) (faults : ℕ) (loss : Loss) → TellsLoss parts used bytes faults loss → IfSome (ending_of loss) (EndsIn parts used)

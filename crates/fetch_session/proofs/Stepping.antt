@@ -1,8 +1,8 @@
 -- What a step gains.
-use Rattle.std.proofs.Common.{◌≡◌, ◌≢◌, ◌⊎◌, ℕ, ◌+◌, ◌-◌, ◌<◌, ◌≤◌, min, List, [], ◌++◌, length, Option, Some, None, All, refl, sym, ap, subst, ◌∙◌, inl, inr, arith, ⊎_elim, append_assoc}
+use Rattle.std.proofs.Common.{◌≡◌, ◌≢◌, ◌⊎◌, ℕ, ◌+◌, ◌-◌, ◌<◌, ◌≤◌, min, List, [], ◌++◌, length, Option, Some, None, All, true, false, refl, sym, ap, subst, ◌∙◌, inl, inr, arith, ⊎_elim, append_assoc}
 use Rattle.std.proofs.lemmas.Bool.{cases_lt}
 use Rattle.std.proofs.lemmas.List.{length-append, nil_from_length, append-nil}
-use Rattle.std.specs.Prelude.{◌↔◌, IsTrue, Result, Ok, Err, MatchResult}
+use Rattle.std.specs.Prelude.{◌↔◌, IsTrue, IsSome}
 use Rattle.std.specs.Vec.{vec_len}
 use Rattle.dl_kinds.specs.Plan.{blocks_of}
 use Rattle.dl_kinds.specs.PlanLaws.{BlocksFollow}
@@ -20,7 +20,7 @@ use Rattle.request_chain.specs.Plans.{Ending, Done, Open, Lost}
 use Rattle.request_chain.specs.declared.chain.Chain.{Chain}
 use Rattle.request_chain.specs.declared.chain.ChainRead.{ChainRead}
 use Rattle.fetch_session.specs.Blocks.{cut, ready_blocks, AreReady}
-use Rattle.fetch_session.specs.Fetches.{rest_of, IsShort, HasCome, IsFetch, SameButSpare, CountsNow, FetchSteps, Fails}
+use Rattle.fetch_session.specs.Fetches.{rest_of, IsShort, HasCome, IsFetch, SameButSpare, IsFrontOfFetched, IsStopped, FetchSteps, Fails}
 use Rattle.fetch_session.specs.Lengths.{Fits, FetchedFits}
 use Rattle.fetch_session.specs.declared.fetch.Fetch.{Fetch}
 use Rattle.fetch_session.specs.declared.fetch.Got.{Got}
@@ -35,25 +35,17 @@ job_end job follow is =
     let at : job.run.first + job.run.count - 1 + 1 ≡ job.run.first + job.run.count = omega arith in
     is.len ∙ cut_next job.plan (job.run.first + job.run.count - 1) follow (omega arith) ∙ ap (cut job.plan) at
 
--- what a loss tells is some ending, in which not all came
+-- what a loss tells is some ending, in which not all came, and no other loss
 tells_ending : (parts : List JobPart) (used : List Stream) (bytes : List ℕ) (faults : ℕ) (loss : Loss) → loss ≢ NoMemory → TellsLoss parts used bytes faults loss
-    → (ending : Ending) × (ending ≢ Done) × Fetched parts used bytes ending []
-tells_ending parts used bytes faults (Link count) not tells = (Open, λ e. cc, tells.0)
+    → (ending : Ending) × (ending ≢ Done) × Fetched parts used bytes ending [] × ((gone : Loss) → ending ≡ Lost gone → loss ≡ gone)
+tells_ending parts used bytes faults (Link count) not tells = (Open, λ e. cc, tells.0, λ gone is. cc)
 tells_ending parts used bytes faults NoMemory not tells = absurd (not refl)
-tells_ending parts used bytes faults NotFound not tells = (Lost NotFound, λ e. cc, tells)
-tells_ending parts used bytes faults (Refused status code) not tells = (Lost (Refused status code), λ e. cc, tells)
-tells_ending parts used bytes faults BadReply not tells = (Lost BadReply, λ e. cc, tells)
-tells_ending parts used bytes faults (Length told want) not tells = (Lost (Length told want), λ e. cc, tells)
-tells_ending parts used bytes faults (Short got) not tells = (Lost (Short got), λ e. cc, tells)
-tells_ending parts used bytes faults Redirects not tells = (Lost Redirects, λ e. cc, tells)
-
--- the count that a loss of the link has
-counted : (parts : List JobPart) (used : List Stream) (bytes : List ℕ) (faults : ℕ) (loss : Loss) → TellsLoss parts used bytes faults loss
-    → (lost : Option Loss) → lost ≡ Some loss → (count : ℕ) → lost ≡ Some (Link count) → count ≡ faults
-counted parts used bytes faults loss tells lost is count link =
-    let same : loss ≡ Link count = cc in
-    let P : Loss → Type 0 = TellsLoss parts used bytes faults in
-    (subst P same tells).1
+tells_ending parts used bytes faults NotFound not tells = (Lost NotFound, λ e. cc, tells, λ gone is. cc)
+tells_ending parts used bytes faults (Refused status code) not tells = (Lost (Refused status code), λ e. cc, tells, λ gone is. cc)
+tells_ending parts used bytes faults BadReply not tells = (Lost BadReply, λ e. cc, tells, λ gone is. cc)
+tells_ending parts used bytes faults (Length told want) not tells = (Lost (Length told want), λ e. cc, tells, λ gone is. cc)
+tells_ending parts used bytes faults (Short got) not tells = (Lost (Short got), λ e. cc, tells, λ gone is. cc)
+tells_ending parts used bytes faults Redirects not tells = (Lost Redirects, λ e. cc, tells, λ gone is. cc)
 
 -- the same list, grouped otherwise
 regroup : (a b c d : List ℕ) → ((a ++ b) ++ c) ++ d ≡ a ++ ((b ++ c) ++ d)
@@ -75,7 +67,27 @@ module _ (fits : FetchedFits) (parts : List JobPart) (are : All IsJobPart parts)
   -- all came, or the chain brings more
   decide_come : (chain : Chain) → (IsShort parts bytes → IsChain parts later bytes chain) → HasCome parts later bytes None chain
   decide_come chain more =
-      ⊎_elim (λ (short : length bytes < parts_len parts). inr (short, more short)) (λ (whole : parts_len parts ≤ length bytes). inl (whole_done whole).1) (cases_lt (length bytes) (parts_len parts))
+      ⊎_elim (λ (short : length bytes < parts_len parts). inr (record {
+        short = short;
+        chain_is = more short;
+        waiting = waiting;
+        brought = record { ending = ending; fetched = fetched };
+      })) (λ (whole : parts_len parts ≤ length bytes). inl (whole_done whole).1) (cases_lt (length bytes) (parts_len parts))
+
+-- bytes that came are at the front of what the streams tell
+come_front : (parts : List JobPart) (used : List Stream) (handed held : List ℕ) (lost : Option Loss) (chain : Chain)
+    → HasCome parts used (handed ++ held) lost chain → lost ≢ Some NoMemory → IsFrontOfFetched parts used handed
+come_front parts used handed held None chain (inl all) kept = record { behind = held; ending = Done; fetched = all }
+come_front parts used handed held None chain (inr more) kept = record {
+  behind = held ++ more.waiting;
+  ending = more.brought.ending;
+  fetched =
+      (let P : List ℕ → Type 0 = λ all. Fetched parts used all more.brought.ending [] in
+      subst P (append_assoc handed held more.waiting) more.brought.fetched);
+}
+come_front parts used handed held (Some loss) chain came kept =
+    let told = tells_ending parts used (handed ++ held) came.1.0 loss (λ memory. kept (ap Some memory)) came.1.1 in
+    record { behind = held; ending = told.0; fetched = told.2 }
 
 module _ (fits : FetchedFits) (follow : BlocksFollow) (job : Job) (used : List Stream) (handed : List ℕ) (old : Fetch) (is : IsFetch job used handed old) where
   -- how far what is held reaches
@@ -138,7 +150,7 @@ module _ (fits : FetchedFits) (follow : BlocksFollow) (job : Job) (used : List S
       let came : HasCome job.parts used (handed ++ old.held.items) None old.chain = subst P none is.came in
       elim came [
         | inl all ↦ absurd (let full = (fits job.parts used (handed ++ old.held.items) Done is.is_job.parts all).all refl in omega (arith, short, full))
-        | inr more ↦ more.1
+        | inr more ↦ more.chain_is
       ]
 
   -- What stands after the call: the run and the blocks that were handed out are the same.
@@ -177,19 +189,38 @@ module _ (fits : FetchedFits) (follow : BlocksFollow) (job : Job) (used : List S
         let end_within : new.end ≤ blocks_of job.plan.total job.plan.piece_len = (let w = plan_within fits follow job later handed new is_new in let e = is_new.end_is in omega (arith, e, w)) in
         (cuts_ordered job.plan (min (new.ready.first + 64) new.end) new.end follow (omega arith) end_within).0
 
-    -- where what is held reaches the end of the room, or of the run, blocks are ready
-    far_ready : (is_new : IsFetch job later handed new) → (cut job.plan (min (new.ready.first + 64) new.end) ≤ cut job.plan new.ready.first + length new.held.items) → 0 < new.ready.count
-    far_ready is_new far =
+    -- where what is held reaches the end of the room, or of the run, 64 blocks are ready, or the last ones
+    far_stops : (is_new : IsFetch job later handed new) (got : Got) → got.ready ≡ new.ready → (IsTrue got.done ↔ (new.ready.count ≡ (rest_of new).count))
+        → (cut job.plan (min (new.ready.first + 64) new.end) ≤ cut job.plan new.ready.first + length new.held.items)
+        → (got.done ≡ true) ⊎ (got.ready.count ≡ 64)
+    far_stops is_new got ready_is done_is far =
         let left = some_left in
         let ready = plan_ready fits follow job later handed new is_new in
+        let within : new.ready.first + new.ready.count ≤ new.end = ready.within in
+        let at_most : new.ready.count ≤ 64 = ready.few in
+        let same : got.ready.count ≡ new.ready.count = ap (λ (r : Run). r.count) ready_is in
         let end_within : new.end ≤ blocks_of job.plan.total job.plan.piece_len = (let w = plan_within fits follow job later handed new is_new in let e = is_new.end_is in omega (arith, e, w)) in
         ⊎_elim
-        (λ (none : new.ready.count < 1).
-        let next = (cuts_ordered job.plan (new.ready.first + new.ready.count + 1) (min (new.ready.first + 64) new.end) follow (omega (arith, none, left, end_is, first_is)) (omega (arith, end_within))).0 in
-        let short : cut job.plan new.ready.first + length new.held.items < cut job.plan (new.ready.first + new.ready.count + 1) = ready.most (omega (arith, none, left, end_is, first_is)) in
+        (λ (fewer : new.ready.count < min 64 (new.end - new.ready.first)).
+        let next = (cuts_ordered job.plan (new.ready.first + new.ready.count + 1) (min (new.ready.first + 64) new.end) follow (omega (arith, fewer, left, end_is, first_is)) (omega (arith, end_within))).0 in
+        let short : cut job.plan new.ready.first + length new.held.items < cut job.plan (new.ready.first + new.ready.count + 1) = ready.most fewer in
         absurd (omega (arith, next, short, far)))
-        (λ (some : 1 ≤ new.ready.count). omega (arith, some))
-        (cases_lt new.ready.count 1)
+        (λ (most : min 64 (new.end - new.ready.first) ≤ new.ready.count).
+        ⊎_elim
+        (λ (all : new.ready.count < 64). inl (done_is.1 (omega (arith, most, all, within))))
+        (λ (whole : 64 ≤ new.ready.count). inr (omega (arith, whole, at_most, same)))
+        (cases_lt new.ready.count 64))
+        (cases_lt new.ready.count (min 64 (new.end - new.ready.first)))
+
+-- nothing is no loss
+some_none : (lost : Option Loss) → lost ≡ None → IsSome lost → ⊥
+some_none None none some = let no : false ≡ true = some in cc
+some_none (Some loss) none some = let no : Some loss ≡ None = none in cc
+
+-- all blocks are ready, or 64 of them
+or_stopped : (allow : ℕ) (got : Got) (lost : Option Loss) → (got.done ≡ true) ⊎ (got.ready.count ≡ 64) → (got.done ≡ true) ⊎ IsStopped allow got lost
+or_stopped allow got lost (inl done) = inl done
+or_stopped allow got lost (inr most) = inr (inl most)
 
 module _ (fits : FetchedFits) (follow : BlocksFollow) (job : Job) (used : List Stream) (handed : List ℕ) (old : Fetch) (is : IsFetch job used handed old)
     (room : ℕ) (some_room : 0 < room) (has_room : cut old.plan old.ready.first + vec_len old.held + room ≡ cut old.plan (min (old.ready.first + 64) old.end))
@@ -199,7 +230,7 @@ module _ (fits : FetchedFits) (follow : BlocksFollow) (job : Job) (used : List S
   pub steps_read : (got : Got) (read : ChainRead) → new.lost ≡ None → new.held.items ≡ old.held.items ++ added
       → ReadsChain job.parts before used (handed ++ old.held.items) now added room allow read new.chain
       → got.ready ≡ new.ready → got.taken ≡ read.taken → (IsTrue got.done ↔ (new.ready.count ≡ (rest_of new).count))
-      → FetchSteps job before used handed now faults allow old got new
+      → FetchSteps job before used handed now allow got new
   steps_read got read none held_is reads ready_is taken_is done_is =
       let parts : List JobPart = job.parts in
       let bytes : List ℕ = handed ++ new.held.items in
@@ -228,31 +259,42 @@ module _ (fits : FetchedFits) (follow : BlocksFollow) (job : Job) (used : List S
       (λ (less : length added < room). inl (ap (λ w. length (new.held.items ++ w)) (reads.none_waits less) ∙ ap length (append-nil new.held.items)))
       (λ (all : room ≤ length added). inr (omega (arith, all, bounded, same_end, same_first, grown, fit_room)))
       (cases_lt (length added) room) in
+      let ends_done : got.done ≡ true → reads.brought.ending ≡ Done =
+      (λ done. (whole_done fits job.parts is.is_job.parts reads.later (handed ++ new.held.items) reads.waiting reads.brought.ending fetched
+          (last_whole fits follow job used handed old is room some_room has_room reads.later new plan_is end_is first_is is_new (done_is.0 done))).0) in
+      let wide = top_of fits follow job used handed old is room some_room has_room reads.later new plan_is end_is first_is is_new in
+      let reach = reaches fits follow job reads.later handed new is_new in
+      let far : (cut job.plan (min (new.ready.first + 64) new.end) ≤ cut job.plan new.ready.first + length new.held.items) → (got.done ≡ true) ⊎ (got.ready.count ≡ 64) =
+      (λ reached. far_stops fits follow job used handed old is room some_room has_room reads.later new plan_is end_is first_is is_new got ready_is done_is reached) in
+      let stopped_read : (got.done ≡ true) ⊎ IsStopped allow got new.lost =
+      (elim reads.full [
+        | inl done ↦ or_stopped allow got new.lost (far (let full = (fits job.parts reads.later ((handed ++ old.held.items) ++ added) Done is.is_job.parts (reads.done done)).all refl in omega (arith, full, wide, reach.0, reach.1, ap length join)))
+        | inr (inl all) ↦ or_stopped allow got new.lost (far (omega (arith, all, bounded, same_end, same_first, grown, fit_room)))
+        | inr (inr took) ↦ inr (inr (inl (taken_is ∙ took)))
+      ]) in
       record {
         later = reads.later;
         gains = reads.gains;
         is_fetch = is_new;
-        counts = λ _ count link. cc;
         came = new.held.items ++ reads.waiting;
         ending = reads.brought.ending;
         fetched = (let Q : List ℕ → Type 0 = λ all. Fetched job.parts reads.later all reads.brought.ending [] in subst Q (append_assoc handed new.held.items reads.waiting) fetched);
         ready = ready_is ∙ shown_ready fits follow job reads.later handed new is_new (new.held.items ++ reads.waiting) (omega (arith, length-append new.held.items reads.waiting)) waits;
-        done = λ done. (whole_done fits job.parts is.is_job.parts reads.later (handed ++ new.held.items) reads.waiting reads.brought.ending fetched
-            (last_whole fits follow job used handed old is room some_room has_room reads.later new plan_is end_is first_is is_new (done_is.0 done))).0;
+        done = ends_done;
         taken = reads.taken ∙ ap (λ n. received_by used + n) (sym taken_is);
         few = (let few : read.taken ≤ allow = reads.few in omega (arith, few, taken_is));
-        full =
-            (let wide : cut job.plan (min (new.ready.first + 64) new.end) ≤ cut job.plan new.end = top_of fits follow job used handed old is room some_room has_room reads.later new plan_is end_is first_is is_new in
-            let reach = reaches fits follow job reads.later handed new is_new in
-            let some : (cut job.plan (min (new.ready.first + 64) new.end) ≤ cut job.plan new.ready.first + length new.held.items) → 0 < got.ready.count =
-            (λ far. let r = far_ready fits follow job used handed old is room some_room has_room reads.later new plan_is end_is first_is is_new far in
-            let same : got.ready.count ≡ new.ready.count = ap (λ (r : Run). r.count) ready_is in omega (arith, r, same)) in
-            elim reads.full [
-              | inl done ↦ inr (inl (some (let full = (fits job.parts reads.later ((handed ++ old.held.items) ++ added) Done is.is_job.parts (reads.done done)).all refl in omega (arith, full, wide, reach.0, reach.1, ap length join))))
-              | inr (inl all) ↦ inr (inl (some (omega (arith, all, bounded, same_end, same_first, grown, fit_room))))
-              | inr (inr took) ↦ inr (inr (taken_is ∙ took))
-            ]);
+        full = stopped_read;
+        lost = λ gone is. elim stopped_read [
+          | inl whole ↦ absurd (let both : Done ≡ Lost gone = sym (ends_done whole) ∙ is in cc)
+          | inr (inl all) ↦ inr (inl all)
+          | inr (inr (inl took)) ↦ inr (inr took)
+          | inr (inr (inr held)) ↦ absurd (some_none new.lost none held)
+        ];
       }
+
+  -- no more came than was allowed
+  few_lost : (later : List Stream) (taken : ℕ) → received_by later ≡ received_by used + taken → taken ≤ allow → received_by later ≤ received_by used + allow
+  few_lost later taken took few = omega (arith, took, few)
 
   -- a read that lost the rest, but not for want of memory: what stands then
   module _ (loss : Loss) (not_memory : loss ≢ NoMemory) (lost_is : new.lost ≡ Some loss) (held_is : new.held.items ≡ old.held.items ++ added)
@@ -275,15 +317,12 @@ module _ (fits : FetchedFits) (follow : BlocksFollow) (job : Job) (used : List S
         let L : Option Loss → Type 0 = λ lost. HasCome job.parts loses.later (handed ++ new.held.items) lost new.chain in
         stands fits follow job used handed old is room some_room has_room loses.later new plan_is end_is first_is (subst L (sym lost_is) (lost_short, (faults, lost_tells)))
 
-    lost_counts : CountsNow old faults new
-    lost_counts _ count link = counted job.parts loses.later (handed ++ new.held.items) faults loss lost_tells new.lost lost_is count link
-
     lost_ready : new.ready ≡ ready_blocks job.plan job.run (length handed) (length handed + length new.held.items)
     lost_ready = shown_ready fits follow job loses.later handed new lost_fetch new.held.items (omega arith) (inl refl)
 
     -- blocks are ready
     pub steps_lost : (got : Got) → got.ready ≡ new.ready → got.taken ≡ new.chain.taken → (IsTrue got.done ↔ (new.ready.count ≡ (rest_of new).count)) → 0 < new.ready.count
-        → FetchSteps job before used handed now faults allow old got new
+        → FetchSteps job before used handed now allow got new
     steps_lost got ready_is taken_is done_is some =
         let told = tells_ending job.parts loses.later (handed ++ new.held.items) faults loss not_memory lost_tells in
         let short : length (handed ++ new.held.items) < parts_len job.parts = lost_short in
@@ -293,24 +332,24 @@ module _ (fits : FetchedFits) (follow : BlocksFollow) (job : Job) (used : List S
           later = loses.later;
           gains = loses.gains;
           is_fetch = lost_fetch;
-          counts = lost_counts;
-          came = new.held.items;
+            came = new.held.items;
           ending = told.0;
           fetched = told.2;
           ready = ready_is ∙ lost_ready;
           done = λ done. absurd (let whole = last_whole fits follow job used handed old is room some_room has_room loses.later new plan_is end_is first_is lost_fetch (done_is.0 done) in omega (arith, whole, short));
           taken = loses.taken ∙ ap (λ n. received_by used + n) (sym taken_is);
           few = omega (arith, few, taken_is);
-          full = inr (inl (omega (arith, some, same)));
+          full = inr (inr (inr (let P : Option Loss → Type 0 = IsSome in subst P (sym lost_is) refl)));
+          lost = λ gone is. inl (lost_is ∙ ap Some (told.3 gone is));
         }
 
     -- no block is ready
-    pub fails_lost : new.ready.count ≡ 0 → Fails job before handed now faults old loss new
+    pub fails_lost : new.ready.count ≡ 0 → Fails job before used handed now allow loss new
     fails_lost none = record {
       later = loses.later;
       gains = loses.gains;
       is_fetch = lost_fetch;
-      counts = lost_counts;
+      few = few_lost loses.later new.chain.taken loses.taken loses.few;
       came = new.held.items;
       none_whole = ap (λ (r : Run). r.count) (sym lost_ready) ∙ none;
       count = faults;
@@ -318,9 +357,10 @@ module _ (fits : FetchedFits) (follow : BlocksFollow) (job : Job) (used : List S
     }
 
   -- memory ran out: nothing of what came then is kept
-  pub fails_memory : (loss : Loss) → loss ≡ NoMemory → (later : List Stream) → Gains before now later → new.lost ≡ Some loss → new.held.items ≡ old.held.items → new.ready.count ≡ 0
-      → Fails job before handed now faults old loss new
-  fails_memory loss memory later gains lost_is held_is none =
+  pub fails_memory : (loss : Loss) → loss ≡ NoMemory → (later : List Stream) → Gains before now later
+      → received_by later ≤ received_by used + allow → new.lost ≡ Some loss → new.held.items ≡ old.held.items → new.ready.count ≡ 0
+      → Fails job before used handed now allow loss new
+  fails_memory loss memory later gains few lost_is held_is none =
       let L : Option Loss → Type 0 = λ lost. HasCome job.parts later (handed ++ new.held.items) lost new.chain in
       let S : List ℕ → Type 0 = λ items. IsShort job.parts (handed ++ items) in
       let T : Loss → Type 0 = λ loss. TellsLoss job.parts later (handed ++ new.held.items) 0 loss in
@@ -332,7 +372,7 @@ module _ (fits : FetchedFits) (follow : BlocksFollow) (job : Job) (used : List S
         later = later;
         gains = gains;
         is_fetch = is_new;
-        counts = λ _ count link. cc;
+        few = few;
         came = new.held.items;
         none_whole = ap (λ (r : Run). r.count) (sym ready) ∙ none;
         count = 0;
@@ -340,9 +380,9 @@ module _ (fits : FetchedFits) (follow : BlocksFollow) (job : Job) (used : List S
       }
 
 module _ (fits : FetchedFits) (follow : BlocksFollow) (job : Job) (used : List Stream) (handed : List ℕ) (old : Fetch) (is : IsFetch job used handed old)
-    (before now : List Stream) (gains : Gains before now used) (faults allow : ℕ) where
+    (before now : List Stream) (gains : Gains before now used) (allow : ℕ) where
   -- the loss that is held back
-  pub fails_held : (loss : Loss) → old.lost ≡ Some loss → old.ready.count ≡ 0 → Fails job before handed now faults old loss old
+  pub fails_held : (loss : Loss) → old.lost ≡ Some loss → old.ready.count ≡ 0 → Fails job before used handed now allow loss old
   fails_held loss lost_is none =
       let L : Option Loss → Type 0 = λ lost. HasCome job.parts used (handed ++ old.held.items) lost old.chain in
       let came : HasCome job.parts used (handed ++ old.held.items) (Some loss) old.chain = subst L lost_is is.came in
@@ -351,7 +391,7 @@ module _ (fits : FetchedFits) (follow : BlocksFollow) (job : Job) (used : List S
         later = used;
         gains = gains;
         is_fetch = is;
-        counts = λ no count link. cc;
+        few = omega arith;
         came = old.held.items;
         none_whole = ap (λ (r : Run). r.count) (sym ready) ∙ none;
         count = came.1.0;
@@ -359,9 +399,9 @@ module _ (fits : FetchedFits) (follow : BlocksFollow) (job : Job) (used : List S
       }
 
   -- nothing is left to read
-  pub steps_over : (prior : Fetch) (got : Got) → old.lost ≡ None → old.ready.count ≡ 0 → cut old.plan old.ready.first + vec_len old.held + 0 ≡ cut old.plan (min (old.ready.first + 64) old.end)
-      → got.ready ≡ old.ready → got.taken ≡ 0 → (IsTrue got.done ↔ (old.ready.count ≡ (rest_of old).count)) → FetchSteps job before used handed now faults allow prior got old
-  steps_over prior got lost_is none no_room ready_is taken_is done_is =
+  pub steps_over : (got : Got) → old.lost ≡ None → old.ready.count ≡ 0 → cut old.plan old.ready.first + vec_len old.held + 0 ≡ cut old.plan (min (old.ready.first + 64) old.end)
+      → got.ready ≡ old.ready → got.taken ≡ 0 → (IsTrue got.done ↔ (old.ready.count ≡ (rest_of old).count)) → FetchSteps job before used handed now allow got old
+  steps_over got lost_is none no_room ready_is taken_is done_is =
       let ready = plan_ready fits follow job used handed old is in
       let len : vec_len old.held ≡ length old.held.items = old.held.ok.0 in
       let within : old.ready.first + old.ready.count ≤ old.end = old.holds.within in
@@ -384,7 +424,6 @@ module _ (fits : FetchedFits) (follow : BlocksFollow) (job : Job) (used : List S
         later = used;
         gains = gains;
         is_fetch = is;
-        counts = λ _ count link. cc;
         came = [];
         ending = Done;
         fetched = subst F (sym (append-nil handed)) (is.all rest);
@@ -393,7 +432,13 @@ module _ (fits : FetchedFits) (follow : BlocksFollow) (job : Job) (used : List S
         taken = omega (arith, taken_is);
         few = omega (arith, taken_is);
         full = inl (done_is.1 (none ∙ sym rest));
+        lost = λ loss is. let both : Done ≡ Lost loss = is in cc;
       }
+
+-- what was handed out is at the front of what the streams tell
+pub handed_front : (job : Job) (used : List Stream) (handed : List ℕ) (fetch : Fetch) → IsFetch job used handed fetch → fetch.lost ≢ Some NoMemory
+    → IsFrontOfFetched job.parts used handed
+handed_front job used handed fetch is kept = come_front job.parts used handed fetch.held.items fetch.lost fetch.chain is.came kept
 
 -- the second buffer came in
 pub same_fetch : (job : Job) (used : List Stream) (handed : List ℕ) (old new : Fetch) → SameButSpare old new → IsFetch job used handed old → IsFetch job used handed new
@@ -413,31 +458,9 @@ same_fetch job used handed old new same is =
       all = λ none. is.all (omega (arith, none, first, same.end_is));
     }
 
--- what a step gained from the fetch with its second buffer, it gained from the fetch before
-pub stepped : (job : Job) (before used : List Stream) (handed : List ℕ) (now : List Stream) (faults allow : ℕ) (old mid : Fetch) (result : Result Got Loss) (new : Fetch) → mid.lost ≡ old.lost
-    → MatchResult result (λ got. FetchSteps job before used handed now faults allow mid got new) (λ loss. Fails job before handed now faults mid loss new)
-    → MatchResult result (λ got. FetchSteps job before used handed now faults allow old got new) (λ loss. Fails job before handed now faults old loss new)
-stepped job before used handed now faults allow old mid (Ok got) new same steps = record {
-  later = steps.later;
-  gains = steps.gains;
-  is_fetch = steps.is_fetch;
-  counts = λ none. steps.counts (same ∙ none);
-  came = steps.came;
-  ending = steps.ending;
-  fetched = steps.fetched;
-  ready = steps.ready;
-  done = steps.done;
-  taken = steps.taken;
-  few = steps.few;
-  full = steps.full;
-}
-stepped job before used handed now faults allow old mid (Err loss) new same fails = record {
-  later = fails.later;
-  gains = fails.gains;
-  is_fetch = fails.is_fetch;
-  counts = λ none. fails.counts (same ∙ none);
-  came = fails.came;
-  none_whole = fails.none_whole;
-  count = fails.count;
-  tells = fails.tells;
-}
+-- the streams are the same after the link was hung up
+pub steps_at : (job : Job) (before used : List Stream) (handed : List ℕ) (now new_now : List Stream) (allow : ℕ) (got : Got) (new : Fetch) → new_now ≡ now
+    → FetchSteps job before used handed now allow got new → FetchSteps job before used handed new_now allow got new
+steps_at job before used handed now new_now allow got new same steps =
+    let P : List Stream → Type 0 = λ streams. FetchSteps job before used handed streams allow got new in
+    subst P (sym same) steps

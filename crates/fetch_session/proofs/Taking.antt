@@ -10,7 +10,7 @@ use Rattle.link_source.specs.Streams.{Stream}
 use Rattle.span_map.specs.declared.jobs.Job.{Job}
 use Rattle.span_map.specs.declared.jobs.JobPart.{JobPart}
 use Rattle.reply_reader.specs.declared.loss.Loss.{Loss}
-use Rattle.request_chain.specs.Chains.{IsChain}
+use Rattle.request_chain.specs.Chains.{IsChain, HasBrought}
 use Rattle.request_chain.specs.Fetched.{Fetched}
 use Rattle.request_chain.specs.Plans.{Done}
 use Rattle.request_chain.specs.declared.chain.Chain.{Chain}
@@ -54,8 +54,9 @@ run_cuts plan end run follow within some le =
     (sym (cut_inside plan run.first (omega arith)), cut_next plan (run.first + run.count - 1) follow (omega arith) ∙ ap (cut plan) at)
 
 pub begun_fetch : (job : Job) (new : Fetch) → BlocksFollow → IsJob job → new.plan ≡ job.plan → new.end ≡ job.run.first + job.run.count → new.ready.first ≡ job.run.first
-    → new.held.items ≡ [] → new.lost ≡ None → IsChain job.parts [] [] new.chain → IsFetch job [] [] new
-begun_fetch job new follow is plan_is end_is first_is none_held none_lost chain =
+    → new.held.items ≡ [] → new.lost ≡ None → IsChain job.parts [] [] new.chain
+    → HasBrought job.parts [] [] [] → IsFetch job [] [] new
+begun_fetch job new follow is plan_is end_is first_is none_held none_lost chain brought =
     let some : 0 < job.run.count = is.some in
     let within : job.run.first + job.run.count ≤ blocks_of job.plan.total job.plan.piece_len = is.within in
     let end = job_end job follow is in
@@ -72,14 +73,14 @@ begun_fetch job new follow is plan_is end_is first_is none_held none_lost chain 
       end_is = end_is;
       begun = omega (arith, first_is);
       handed_is = omega (arith, first, start);
-      came = subst H (sym none_held) (subst L (sym none_lost) (inr (short, chain)));
+      came = subst H (sym none_held) (subst L (sym none_lost) (inr (record { short = short; chain_is = chain; waiting = []; brought = brought })));
       all = λ none. absurd (omega (arith, none, end_is, first_is));
     }
 
 -- where as many bytes came as the parts have, all came
 whole_come : (parts : List JobPart) (used : List Stream) (bytes : List ℕ) (lost : Option Loss) (chain : Chain) → parts_len parts ≤ length bytes → HasCome parts used bytes lost chain
     → Fetched parts used bytes Done []
-whole_come parts used bytes None chain whole came = elim came [ inl all ↦ all | inr more ↦ absurd (let short : length bytes < parts_len parts = more.0 in omega arith) ]
+whole_come parts used bytes None chain whole came = elim came [ inl all ↦ all | inr more ↦ absurd (let short : length bytes < parts_len parts = more.short in omega arith) ]
 whole_come parts used bytes (Some loss) chain whole came = absurd (let short : length bytes < parts_len parts = came.0 in omega arith)
 
 pub taken_fetch : (job : Job) (used : List Stream) (handed : List ℕ) (old new : Fetch) (blocks : List ℕ) → BlocksFollow

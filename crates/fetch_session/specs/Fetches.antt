@@ -1,15 +1,17 @@
 -- What is fetched of a job.
-use Rattle.std.specs.Prelude.{◌≡◌, ◌⊎◌, ◌<◌, ◌≤◌, ℕ, ◌+◌, ◌-◌, List, [], ◌++◌, length, Option, Some, None, true}
+use Rattle.std.specs.Prelude.{◌≡◌, ◌≢◌, ◌⊎◌, ◌<◌, ◌≤◌, ℕ, ◌+◌, ◌-◌, List, [], ◌++◌, length, Option, Some, None, IsSome, true}
 use Rattle.dl_kinds.specs.declared.plan.Plan.{Plan}
 use Rattle.dl_kinds.specs.declared.runs.Run.{Run}
+use Rattle.link_source.specs.Link.{LinkState}
 use Rattle.link_source.specs.Streams.{Stream}
 use Rattle.span_map.specs.declared.jobs.Job.{Job}
 use Rattle.span_map.specs.declared.jobs.JobPart.{JobPart}
 use Rattle.reply_reader.specs.declared.loss.Loss.{Loss}
-use Rattle.reply_reader.specs.declared.loss.Loss.TheVariants.{Link}
-use Rattle.request_chain.specs.Chains.{IsChain, Gains, TellsLoss, received_by}
+use Rattle.reply_reader.specs.declared.loss.Loss.TheVariants.{NoMemory}
+use Rattle.request_chain.specs.Chains.{IsChain, Gains, HasBrought, TellsLoss, received_by}
 use Rattle.request_chain.specs.Fetched.{Fetched}
-use Rattle.request_chain.specs.Plans.{Ending, Done}
+use Rattle.request_chain.specs.Plans.{Ending, Done, Lost}
+use Rattle.request_chain.specs.Turns.{MayGoOn}
 use Rattle.request_chain.specs.declared.chain.Chain.{Chain}
 use Rattle.fetch_session.specs.Blocks.{cut, ready_blocks}
 use Rattle.span_map.specs.Jobs.{IsJob, parts_len, run_start}
@@ -31,6 +33,11 @@ ready_of fetch = fetch.ready
 abbrev pub lost_of : Fetch → Option Loss
 lost_of fetch = fetch.lost
 
+-- where a step would go on with a reply, the link listens
+abbrev pub MayStep : Fetch → LinkState → Type 0
+MayStep fetch link =
+    lost_of fetch ≡ None → (ready_of fetch).count < (rest_of fetch).count → MayGoOn fetch.chain link
+
 -- the second buffer may have come in, and nothing else changed
 pub record SameButSpare (old new : Fetch) : Type 0 where
   pub plan : new.plan ≡ old.plan
@@ -44,9 +51,16 @@ pub record SameButSpare (old new : Fetch) : Type 0 where
 abbrev pub IsShort : List JobPart → List ℕ → Type 0
 IsShort parts bytes = length bytes < parts_len parts
 
+-- The chain brings more behind these bytes, which the streams tell.
+pub record GoesOn (parts : List JobPart) (used : List Stream) (bytes : List ℕ) (chain : Chain) : Type 0 where
+  pub short : IsShort parts bytes
+  pub chain_is : IsChain parts used bytes chain
+  pub waiting : List ℕ
+  pub brought : HasBrought parts used bytes waiting
+
 -- these bytes came over these streams: all, or the chain brings more, or the rest is lost
 abbrev pub HasCome : List JobPart → List Stream → List ℕ → Option Loss → Chain → Type 0
-HasCome parts used bytes None chain = Fetched parts used bytes Done [] ⊎ (IsShort parts bytes × IsChain parts used bytes chain)
+HasCome parts used bytes None chain = Fetched parts used bytes Done [] ⊎ GoesOn parts used bytes chain
 HasCome parts used bytes (Some loss) chain = IsShort parts bytes × ((count : ℕ) × TellsLoss parts used bytes count loss)
 
 -- The fetch of the job used these streams, the oldest first, and handed out these bytes of it.
@@ -59,16 +73,26 @@ pub record IsFetch (job : Job) (used : List Stream) (handed : List ℕ) (fetch :
   pub came : HasCome job.parts used (handed ++ fetch.held.items) fetch.lost fetch.chain
   pub all : (rest_of fetch).count ≡ 0 → Fetched job.parts used handed Done []
 
--- a loss of the link that is told or held back from now on counts the link's faults now
-abbrev pub CountsNow : Fetch → ℕ → Fetch → Type 0
-CountsNow old faults new = lost_of old ≡ None → (count : ℕ) → lost_of new ≡ Some (Link count) → count ≡ faults
+-- the streams tell the bytes that were handed out, and more behind them
+pub record IsFrontOfFetched (parts : List JobPart) (used : List Stream) (handed : List ℕ) : Type 0 where
+  pub behind : List ℕ
+  pub ending : Ending
+  pub fetched : Fetched parts used (handed ++ behind) ending []
+
+-- what a fetch handed out is at the front of what its streams tell, unless memory ran out
+abbrev pub HandedIsFetched : Type 0
+HandedIsFetched = (job : Job) (used : List Stream) (handed : List ℕ) (fetch : Fetch)
+    → IsFetch job used handed fetch → lost_of fetch ≢ Some NoMemory → IsFrontOfFetched job.parts used handed
+
+-- A step ends where this many blocks are ready, where so many bytes came as are allowed, or where it holds back a loss.
+abbrev pub IsStopped : ℕ → Got → Option Loss → Type 0
+IsStopped allow got lost = (got.ready.count ≡ 64) ⊎ (got.taken ≡ allow) ⊎ IsSome lost
 
 -- What a step gained: came is what came and wasn't handed out.
-pub record FetchSteps (job : Job) (before used : List Stream) (handed : List ℕ) (now : List Stream) (faults allow : ℕ) (old : Fetch) (got : Got) (new : Fetch) : Type 0 where
+pub record FetchSteps (job : Job) (before used : List Stream) (handed : List ℕ) (now : List Stream) (allow : ℕ) (got : Got) (new : Fetch) : Type 0 where
   pub later : List Stream
   pub gains : Gains before now later
   pub is_fetch : IsFetch job later handed new
-  pub counts : CountsNow old faults new
   pub came : List ℕ
   pub ending : Ending
   pub fetched : Fetched job.parts later (handed ++ came) ending []
@@ -76,14 +100,16 @@ pub record FetchSteps (job : Job) (before used : List Stream) (handed : List ℕ
   pub done : got.done ≡ true → ending ≡ Done
   pub taken : received_by later ≡ received_by used + got.taken
   pub few : got.taken ≤ allow
-  pub full : (got.done ≡ true) ⊎ (0 < got.ready.count) ⊎ (got.taken ≡ allow)
+  pub full : (got.done ≡ true) ⊎ IsStopped allow got (lost_of new)
+  -- a loss that the streams tell is held back, unless the step stopped before it
+  pub lost : (loss : Loss) → ending ≡ Lost loss → (lost_of new ≡ Some loss) ⊎ (got.ready.count ≡ 64) ⊎ (got.taken ≡ allow)
 
 -- What a step gained that lost the rest: no whole block came that wasn't handed out.
-pub record Fails (job : Job) (before : List Stream) (handed : List ℕ) (now : List Stream) (faults : ℕ) (old : Fetch) (loss : Loss) (new : Fetch) : Type 0 where
+pub record Fails (job : Job) (before used : List Stream) (handed : List ℕ) (now : List Stream) (allow : ℕ) (loss : Loss) (new : Fetch) : Type 0 where
   pub later : List Stream
   pub gains : Gains before now later
   pub is_fetch : IsFetch job later handed new
-  pub counts : CountsNow old faults new
+  pub few : received_by later ≤ received_by used + allow
   pub came : List ℕ
   pub none_whole : (ready_blocks job.plan job.run (length handed) (length handed + length came)).count ≡ 0
   pub count : ℕ

@@ -1,12 +1,15 @@
 // How long a resource is.
-ghost use Rattle.std.specs.Prelude.{◌≡◌, ◌⊎◌, ◌≤◌, ◌<◌, ◌+◌, ◌-◌, [], List, ℕ, Ok, Some, None, IsTrue, OnOk, IfOk, IfErr, IfSome, MatchResult, codes, length};
+ghost use Rattle.std.specs.Prelude.{◌≡◌, ◌≢◌, ◌⊎◌, ◌≤◌, ◌<◌, ◌+◌, ◌-◌, [], List, ℕ, true, false, Ok, Some, None, IsTrue, OnOk, IfOk, IfErr, IfSome, MatchResult, codes, length};
 ghost use Rattle.dl_words.specs.Counts.{Rose};
+ghost use Rattle.link_source.specs.Endpoint.{IsUsable};
 ghost use Rattle.link_source.specs.Streams.{Stream};
 ghost use Rattle.range_http.specs.Fields.{values_of, sole};
 ghost use Rattle.range_http.specs.Verdict.{verdict_of};
 ghost use Rattle.range_http.specs.declared.verdict.Verdict.TheVariants.{Moved as HasMoved};
+ghost use Rattle.reply_reader.specs.Losses.{IsKnown};
 ghost use Rattle.reply_reader.specs.Heads.{IsAtHead, IsHeadDue, HasNoFinalHead};
 ghost use Rattle.reply_reader.specs.declared.loss.Loss.TheVariants.{Link, NoMemory, BadReply};
+ghost use Rattle.request_chain.specs.Answered.{KeepsAnswers};
 ghost use Rattle.request_chain.specs.Links.{CountsLinkLoss};
 ghost use Rattle.request_chain.specs.Chains.{Gains};
 ghost use Rattle.request_chain.specs.Contents.{IsOwn};
@@ -35,6 +38,7 @@ fn told_length(head: &Head) -> Result<Option<u64>, Loss>
     ensures length { IfOk result (λ told. IfSome told (λ total. probe_by head.now (verdict_of head.now probe_asked) ≡ Told total)) }
     ensures moved { result ≡ Ok None → verdict_of head.now probe_asked ≡ HasMoved }
     ensures lost { IfErr result (λ loss. IsOwn loss × (probe_by head.now (verdict_of head.now probe_asked) ≡ Lost loss)) }
+    ensures known { IfErr result IsKnown }
 {
     let asked = Asked {
         first: 0,
@@ -71,6 +75,7 @@ fn told_length(head: &Head) -> Result<Option<u64>, Loss>
 fn check(alloc: Global, reader: &HeadReader) -> Result<(), Loss>
     ensures due { OnOk result ((front : List ℕ) → IsAtHead front reader.now → IsHeadDue front) }
     ensures lost { IfErr result (λ loss. (loss ≡ NoMemory) ⊎ ((loss ≡ BadReply) × ((front : List ℕ) → IsAtHead front reader.now → HasNoFinalHead front))) }
+    ensures known { IfErr result IsKnown }
 {
     match reader.is_due(alloc) {
         Ok(true) => Ok(()),
@@ -87,13 +92,18 @@ fn receive<L: Links>(
     reader: &HeadReader,
     most: u32,
 ) -> Result<u32, Loss>
-    requires { 0 < most }
+    requires some { 0 < most }
+    requires listens { IsTrue L.tells → (L.state link.old).listens ≡ true }
     ensures receives { IsTrue L.tells
         → (url : List ℕ) (before : List Stream) → Awaits url before (L.state link.old).streams most [] reader.now
         → MatchResult result (λ count. Awaits url before (L.state link.new).streams (most - count) inbox.new reader.now)
         (HeadLost url before (L.state link.new).streams (L.faults link.new)) }
     ensures some { IfOk result (λ count. (0 < count) × (count ≤ most)) }
+    ensures listens { IsTrue L.tells → (L.state link.new).listens ≡ true }
+    ensures answered { IsTrue L.tells → (before : List Stream) → (L.state link.old).streams ≢ before
+        → KeepsAnswers before (L.state link.old) (L.state link.new) }
     ensures link { IfErr result (CountsLinkLoss (L.faults link.old) (L.faults link.new)) }
+    ensures known { IfErr result IsKnown }
     ensures later { L.faults link.old ≤ L.faults link.new }
 {
     match inbox.refill(link, most) {
@@ -111,11 +121,16 @@ fn receive<L: Links>(
 
 // Receives the heads of a reply, and gives the final one.
 fn receive_head<L: Links>(alloc: Global, link: &mut L, inbox: &mut Inbox) -> Result<Head, Loss>
+    requires { IsTrue L.tells → (L.state link.old).listens ≡ true }
     ensures heads { IsTrue L.tells
         → (url : List ℕ) (before : List Stream) → IsOpened url probe_asked before (L.state link.old).streams
         → MatchResult result (HasHead url before (L.state link.new).streams)
         (HeadLost url before (L.state link.new).streams (L.faults link.new)) }
+    ensures answered { IsTrue L.tells → (url : List ℕ) (others before : List Stream)
+        → IsOpened url probe_asked others (L.state link.old).streams → length before ≤ length others
+        → KeepsAnswers before (L.state link.old) (L.state link.new) }
     ensures link { IfErr result (CountsLinkLoss (L.faults link.old) (L.faults link.new)) }
+    ensures known { IfErr result IsKnown }
     ensures later { L.faults link.old ≤ L.faults link.new }
 {
     let mut reader = HeadReader::new(alloc);
@@ -140,7 +155,12 @@ fn ask<L: Links>(alloc: Global, link: &mut L, inbox: &mut Inbox, hop: &Moved) ->
         → MatchResult result (HasHead hop.now.url (L.state link.old).streams (L.state link.new).streams)
         (λ loss. IsUnopened hop.now.url hop.now.status (L.state link.old).streams (L.state link.new).streams (L.faults link.new) loss
         ⊎ HeadLost hop.now.url (L.state link.old).streams (L.state link.new).streams (L.faults link.new) loss) }
+    ensures answered { IsTrue L.tells → (before : List Stream)
+        → KeepsAnswers before (L.state link.old) (L.state link.new) }
     ensures link { IfErr result (CountsLinkLoss (L.faults link.old) (L.faults link.new)) }
+    ensures known { IfErr result IsKnown }
+    ensures usable { OnOk result (IsUsable hop.now.url) }
+    ensures untouched { (IsUsable hop.now.url → ⊥) → link.new ≡ link.old }
     ensures later { L.faults link.old ≤ L.faults link.new }
 {
     let asked = Asked {
@@ -158,6 +178,7 @@ fn next_hop(alloc: Global, url: &str, head: &Head) -> Result<Moved, Loss>
         (λ hop. (moved_to url.now text ≡ Some hop.url) × (hop.status ≡ head.now.status))
         (λ loss. (loss ≡ NoMemory) ⊎ ((loss ≡ unusable head.now.status) × (moved_to url.now text ≡ None))) }
     ensures own { IfErr result (λ loss. (count : ℕ) → loss ≡ Link count → ⊥) }
+    ensures known { IfErr result IsKnown }
 {
     match target(alloc, url, head) {
         Ok(Some(url)) => Ok(Moved {
@@ -183,7 +204,13 @@ pub fn probe<L: Links>(
         → (used : List Stream) × Gains (L.state link.old).streams (L.state link.new).streams used × MatchResult result
         (λ total. Probed url.now used (Told total))
         (TellsProbeLoss url.now used (L.faults link.new)) }
+    ensures answered { IsTrue L.tells → (before : List Stream)
+        → KeepsAnswers before (L.state link.old) (L.state link.new) }
     ensures link { IfErr result (CountsLinkLoss (L.faults link.old) (L.faults link.new)) }
+    ensures known { IfErr result IsKnown }
+    ensures closed { OnOk result (IsTrue L.tells → (L.state link.new).listens ≡ false) }
+    // A URL that is no `http` URL is refused without a call of the link.
+    ensures untouched { (IsUsable url.now → ⊥) → link.new ≡ link.old }
     ensures later { L.faults link.old ≤ L.faults link.new }
 {
     final_heads_are_one_and_stay();
@@ -195,6 +222,7 @@ pub fn probe<L: Links>(
     'turns: loop {
         let head = ask(alloc, link, &mut room.inbox, &hop)?;
         if let Some(total) = told_length(&head)? {
+            link.hang_up();
             return Ok(total);
         }
         if redirects >= REDIRECT_LIMIT {

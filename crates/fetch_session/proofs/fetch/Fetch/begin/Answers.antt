@@ -12,7 +12,7 @@ invariant_of-result-clause-holds c =
     subst P (sym c.clear.ensures.len) (none_ready job.plan (job.run.first + job.run.count) job.run.first c.plan_laws.ensures.follow (let some = c.requires.some in omega (arith, some)) c.requires.within)
 
 pub returns-clause-fetch : goal.returns-clause-fetch
-returns-clause-fetch c = begun_fetch c.args.job _ c.plan_laws.ensures.follow c.requires refl refl refl c.clear.ensures.items refl c.new.ensures
+returns-clause-fetch c = begun_fetch c.args.job _ c.plan_laws.ensures.follow c.requires refl refl refl c.clear.ensures.items refl c.new.ensures.chain c.new.ensures.brought
 
 pub returns-clause-first : goal.returns-clause-first
 returns-clause-first c = cut_inside c.args.job.plan c.args.job.run.first (let some = c.requires.some in let within = c.requires.within in omega (arith, some, within))
@@ -24,3 +24,6 @@ returns-clause-end c =
     let within = c.requires.within in
     let next : run.first + run.count ≡ (run.first + run.count - 1) + 1 = omega (arith, some) in
     ap (cut c.args.job.plan) next ∙ sym (cut_next c.args.job.plan (run.first + run.count - 1) c.plan_laws.ensures.follow (omega (arith, some, within)))
+
+pub returns-clause-may : goal.returns-clause-may
+returns-clause-may c = λ link none more. c.new.ensures.may link
