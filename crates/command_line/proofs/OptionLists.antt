@@ -10,7 +10,7 @@ use Rattle.command_line.specs.Command.{is_word_option, option_rule, with_options
 use Rattle.option_set.specs.Values.{default_values}
 use Rattle.command_line.specs.declared.options.LineOptions.{LineOptions}
 use Rattle.command_line.specs.Found.{MakeOptions, TakesOption, TakesSetting}
-use Rattle.command_line.specs.Lines.{AreSettingsOf, AreSettingsIn, is_own, with_global}
+use Rattle.command_line.specs.Lines.{AreSettingsOf, AreSettingsIn, is_own_setting, with_global}
 
 pub with_options_on : (app : App) (xs ys : List Opt) → with_options app (xs ++ ys) ≡ with_options (with_options app xs) ys
 with_options_on app [] ys = refl
@@ -88,6 +88,6 @@ made_more options i d console text_of old new within made takes = record {
       takes.globals ∙ ap (λ values. fold with_global values takes.assigned) made.globals
       ∙ sym (fold-append with_global default_values made.assigned takes.assigned);
   settings =
-      takes.settings ∙ ap (λ l. l ++ filter (is_own console) takes.assigned) made.settings
-      ∙ sym (filter-append (is_own console) made.assigned takes.assigned);
+      takes.settings ∙ ap (λ l. l ++ filter (is_own_setting console) takes.assigned) made.settings
+      ∙ sym (filter-append (is_own_setting console) made.assigned takes.assigned);
 }

@@ -21,7 +21,7 @@ use Rattle.option_set.specs.declared.setting.Assigned.{Assigned}
 use Rattle.option_set.specs.Table.{table_row}
 use Rattle.command_line.specs.Command.{command_app, given_text, option_text, other_words, others_name, word_options}
 use Rattle.command_line.specs.Found.{IsFoundLine, found_console, found_others, found_text}
-use Rattle.command_line.specs.Lines.{AreSettingsIn, AreSettingsOf, IsLine, has_console, is_own}
+use Rattle.command_line.specs.Lines.{AreSettingsIn, AreSettingsOf, IsLine, has_console, is_own_setting}
 use Rattle.command_line.specs.Sources.{AreUris, IsFirst, IsSource, words_of}
 use Rattle.command_line.specs.declared.line.CommandLine.{CommandLine}
 
@@ -103,7 +103,7 @@ line_from m words line has free found = record {
   assigned = found.assigned;
   settings_are = settings_alike (found_text m) (option_text words) (text_is m words has) word_options found.assigned found.settings_are;
   globals = found.globals;
-  settings = subst (λ t. line.settings ≡ filter (is_own t) found.assigned) (console_is m words has) found.settings;
+  settings = subst (λ t. line.settings ≡ filter (is_own_setting t) found.assigned) (console_is m words has) found.settings;
   source =
       subst (λ t. IsSource t (other_words words) line.source) (console_is m words has)
       (subst (λ l. IsSource (found_console m) l line.source) (others_are m words has) found.source);
@@ -114,7 +114,7 @@ line_to m words line has is = record {
   assigned = is.assigned;
   settings_are = settings_alike (option_text words) (found_text m) (λ o. sym (text_is m words has o)) word_options is.assigned is.settings_are;
   globals = is.globals;
-  settings = subst (λ t. line.settings ≡ filter (is_own t) is.assigned) (sym (console_is m words has)) is.settings;
+  settings = subst (λ t. line.settings ≡ filter (is_own_setting t) is.assigned) (sym (console_is m words has)) is.settings;
   source =
       subst (λ t. IsSource t (found_others m) line.source) (sym (console_is m words has))
       (subst (λ l. IsSource (has_console words) l line.source) (sym (others_are m words has)) is.source);

@@ -24,14 +24,14 @@ abbrev pub is_flag : Opt → Bool
 is_flag (opt.Num num) = is_truth (row_of_number num).spelling
 is_flag (opt.Word word) = false
 
-abbrev pub is_present : WordUse → Bool
-is_present Absent = false
-is_present OwnCall = true
-is_present GlobalValue = true
+abbrev pub has_place_on_line : WordUse → Bool
+has_place_on_line Absent = false
+has_place_on_line OwnCall = true
+has_place_on_line GlobalValue = true
 
 -- an option that the command has
 abbrev pub is_word_option : Opt → Bool
-is_word_option option = is_present (table_row option).use_of
+is_word_option option = has_place_on_line (table_row option).use_of
 
 -- .. in the order of their names
 abbrev pub word_options : List Opt

@@ -12,7 +12,7 @@ use Rattle.option_set.specs.Values.{default_values}
 use Rattle.command_line.specs.declared.line.CommandLine.{CommandLine}
 use Rattle.command_line.specs.declared.options.LineOptions.{LineOptions}
 use Rattle.command_line.specs.Command.{given_text, is_word_option, others_name, word_options}
-use Rattle.command_line.specs.Lines.{AreSettingsIn, is_own, with_global}
+use Rattle.command_line.specs.Lines.{AreSettingsIn, is_own_setting, with_global}
 use Rattle.command_line.specs.Sources.{IsSource}
 
 abbrev pub found_text : ArgMatches → Opt → Option (List ℕ)
@@ -31,26 +31,26 @@ list_of (Some assigned) = assigned ∷ []
 -- one setting more
 pub record TakesSetting (console : Bool) (assigned : Assigned) (old new : LineOptions) : Type 0 where
   pub globals : new.globals ≡ with_global old.globals assigned
-  pub settings : new.settings ≡ old.settings ++ filter (is_own console) (assigned ∷ [])
+  pub settings : new.settings ≡ old.settings ++ filter (is_own_setting console) (assigned ∷ [])
 
 -- what the texts make of one option more
 pub record TakesOption (console : Bool) (text_of : Opt → Option (List ℕ)) (option : Opt) (old new : LineOptions) : Type 0 where
   pub assigned : List Assigned
   pub settings_are : AreSettingsIn text_of (filter is_word_option (option ∷ [])) assigned
   pub globals : new.globals ≡ fold with_global old.globals assigned
-  pub settings : new.settings ≡ old.settings ++ filter (is_own console) assigned
+  pub settings : new.settings ≡ old.settings ++ filter (is_own_setting console) assigned
 
 -- the values and settings that the texts of these options make
 pub record MakeOptions (options : List Opt) (console : Bool) (text_of : Opt → Option (List ℕ)) (line : LineOptions) : Type 0 where
   pub assigned : List Assigned
   pub settings_are : AreSettingsIn text_of options assigned
   pub globals : line.globals ≡ fold with_global default_values assigned
-  pub settings : line.settings ≡ filter (is_own console) assigned
+  pub settings : line.settings ≡ filter (is_own_setting console) assigned
 
 -- what a parse that succeeded means
 pub record IsFoundLine (matches : ArgMatches) (line : CommandLine) : Type 0 where
   pub assigned : List Assigned
   pub settings_are : AreSettingsIn (found_text matches) word_options assigned
   pub globals : line.globals ≡ fold with_global default_values assigned
-  pub settings : line.settings ≡ filter (is_own (found_console matches)) assigned
+  pub settings : line.settings ≡ filter (is_own_setting (found_console matches)) assigned
   pub source : IsSource (found_console matches) (found_others matches) line.source

@@ -41,8 +41,8 @@ is_pause option = false
 abbrev pub is_global : Assigned → Bool
 is_global assigned = is_global_use (table_row (option_of assigned)).use_of
 
-abbrev pub is_own : Bool → Assigned → Bool
-is_own console assigned = not (is_global assigned) && (console || not (is_pause (option_of assigned)))
+abbrev pub is_own_setting : Bool → Assigned → Bool
+is_own_setting console assigned = not (is_global assigned) && (console || not (is_pause (option_of assigned)))
 
 abbrev pub with_global : OptionValues → Assigned → OptionValues
 with_global values assigned = if is_global assigned then with_setting values assigned else values
@@ -57,5 +57,5 @@ pub record IsLine (words : List (List ℕ)) (line : CommandLine) : Type 0 where
   pub assigned : List Assigned
   pub settings_are : AreSettingsIn (option_text words) word_options assigned
   pub globals : line.globals ≡ fold with_global default_values assigned
-  pub settings : line.settings ≡ filter (is_own (has_console words)) assigned
+  pub settings : line.settings ≡ filter (is_own_setting (has_console words)) assigned
   pub source : IsSource (has_console words) (other_words words) line.source

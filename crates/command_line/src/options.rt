@@ -6,7 +6,7 @@ ghost use Rattle.option_set.specs.Table.{table_row};
 ghost use Rattle.option_set.specs.Values.{default_values};
 ghost use Rattle.command_line.specs.Command.{is_word_option};
 ghost use Rattle.command_line.specs.Found.{MakeOptions, TakesOption, TakesSetting, found_text, list_of};
-ghost use Rattle.command_line.specs.Lines.{AreSettingsIn, AreSettingsOf, is_global_use, is_own, is_pause, with_global};
+ghost use Rattle.command_line.specs.Lines.{AreSettingsIn, AreSettingsOf, is_global_use, is_own_setting, is_pause, with_global};
 
 use crate::command::{is_given, is_word_option};
 use clap::ArgMatches;
