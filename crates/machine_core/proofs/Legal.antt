@@ -38,7 +38,7 @@ pub record IsPlanned (downloads : List Download) (gid : Gid) (own : List OwnEven
   pub known : known_in downloads gid own ≡ Some lengths
   pub plan : IsPlan lengths.total lengths.piece_len
 
-known_found : (o : Option Download) (own own' : List OwnEvent) → told_total own' ≡ told_total own
+pub known_found : (o : Option Download) (own own' : List OwnEvent) → told_total own' ≡ told_total own
     → option_and_then (λ (d : Download). lengths_by d d.subject own') o ≡ option_and_then
     (λ (d : Download). lengths_by d d.subject own) o
 known_found None own own' same = refl
@@ -75,7 +75,7 @@ pub record Part (downloads : List Download) (gid : Gid) (own : List OwnEvent) : 
   pub planned : is_opened own ≡ true → IsPlanned downloads gid own
   pub bare : may_probe (download_of downloads gid) ≡ false → is_opened own ≡ false → granted_claims own ≡ []
 
-told_where : (t : Bool) (own : List OwnEvent) (e : OwnEvent) → told_total (e ∷ own) ≡ told_total own
+pub told_where : (t : Bool) (own : List OwnEvent) (e : OwnEvent) → told_total (e ∷ own) ≡ told_total own
     → told_total (cond t (e ∷ own) own) ≡ told_total own
 told_where true own e same = same
 told_where false own e same = refl

@@ -254,3 +254,16 @@ KnownAreIdle =
     → IsLegal start past → payload_lengths_of start past gid ≡ Some lengths
     → is_opened (own_of start past gid) ≡ false
     → standing_claims (own_of start past gid) ≡ []
+
+-- a download stays what it was added as ..
+abbrev pub DownloadsStay : Type 0
+DownloadsStay =
+    (start : RunStart) (past : List Event) (event : Event) (gid : Gid) (download : Download)
+    → download_in start past gid ≡ Some download → download_in start (event ∷ past) gid ≡ Some download
+
+-- .. and its lengths stay once they are known
+abbrev pub LengthsStay : Type 0
+LengthsStay =
+    (start : RunStart) (past : List Event) (event : Event) (gid : Gid) (lengths : PayloadLengths)
+    → IsLegal start (event ∷ past) → payload_lengths_of start past gid ≡ Some lengths
+    → payload_lengths_of start (event ∷ past) gid ≡ Some lengths
