@@ -1,27 +1,27 @@
 -- In a legal history each download's part is legal, and the choice of a claim is one that may come next.
 use Rattle.std.proofs.Common.{◌≡◌, ℕ, Bool, true, false, cond, Option, Some, None, List, [], ◌∷◌, refl, sym, ap, ◌∙◌, subst, inl, inr}
-use Rattle.std.specs.Prelude.{All, ◌<◌}
+use Rattle.std.specs.Prelude.{All, ◌<◌, not, filter}
 use Rattle.std.specs.List.{filter_map}
 use Rattle.std.proofs.lemmas.List.Elements.{All-nil, All-cons, All-head, All-tail}
 use Rattle.std.specs.Option.{is_some, unwrap_or, option_and_then}
 use Rattle.dl_kinds.specs.declared.gid.Gid.{Gid}
 use Rattle.dl_history.specs.HistoryLaws.{HistoriesAreSound}
 use Rattle.dl_history.specs.OwnEvents.{OwnEvent, Opens, Grants, Lands, Settles, Clears, Loses, Sizes, Saves, Checks, Halts}
-use Rattle.dl_history.specs.OwnLegal.{MayHappen, LegalOwn}
+use Rattle.dl_history.specs.OwnLegal.{MayHappen, MayOpen, LegalOwn}
 use Rattle.dl_history.specs.AccountLaws.{AccountsMatchEvents}
 use Rattle.dl_history.specs.Accounts.{account_of}
-use Rattle.dl_history.specs.StandingClaims.{granted_claims}
+use Rattle.dl_history.specs.StandingClaims.{granted_claims, standing_claims, is_standing}
 use Rattle.dl_kinds.specs.Plan.{IsPlan}
 use Rattle.dl_kinds.specs.declared.claims.Claim.{Claim}
 use Rattle.dl_kinds.specs.declared.runs.Moment.{Moment}
 use Rattle.machine_core.specs.Choices.{IsGrantBy, options_now}
 use Rattle.machine_core.proofs.Granting.{PlanLaws, block_grant}
-use Rattle.machine_core.proofs.Tests.{true_not_false}
+use Rattle.machine_core.proofs.Tests.{true_not_false, or_second}
 use Rattle.dl_history.specs.PayloadParts.{is_opened, is_opening, told_total}
 use Rattle.machine_core.specs.Starts.{RunStart, Download, Subject, Listed, Unlisted}
 use Rattle.machine_core.specs.Replays.{replay_of, download_of, is_same_gid}
 use Rattle.machine_core.specs.OwnParts.{PayloadLengths, no_lengths, own_of, with_own, halted_where, halts_by, lengths_by, payload_lengths_of, told_lengths}
-use Rattle.machine_core.specs.RunLegal.{IsLegal, IsNewNumber, MayBeClaimed, MayBeOpened, MayOwn, claim_of_event, known_lengths, DownloadsAreLegal}
+use Rattle.machine_core.specs.RunLegal.{IsLegal, IsNewNumber, MayBeClaimed, MayBeOpened, MayOwn, claim_of_event, is_listed, known_lengths, DownloadsAreLegal, KnownAreIdle}
 use Rattle.machine_core.specs.declared.events.Event.{Event}
 use Rattle.machine_core.specs.declared.events.Event.TheVariants.{Called, Opened, Sized, Claimed, Landed, Settled, Cleared, Lost, Checked, Saved, Ended, Left, Stopped}
 use Rattle.machine_core.proofs.Parts.{Adds, FitsOwn, call_adds, event_fits, gid_is, halted_fits, lengths_in, lengths_told, more_downloads, opened_added, opened_cases, opened_where, stays_added}
@@ -38,7 +38,7 @@ pub record IsPlanned (downloads : List Download) (gid : Gid) (own : List OwnEven
   pub known : known_in downloads gid own ≡ Some lengths
   pub plan : IsPlan lengths.total lengths.piece_len
 
-known_found : (o : Option Download) (own own' : List OwnEvent) → told_total own' ≡ told_total own
+pub known_found : (o : Option Download) (own own' : List OwnEvent) → told_total own' ≡ told_total own
     → option_and_then (λ (d : Download). lengths_by d d.subject own') o ≡ option_and_then
     (λ (d : Download). lengths_by d d.subject own) o
 known_found None own own' same = refl
@@ -55,11 +55,27 @@ planned_on downloads gid own own' same p =
       plan = p.plan;
     }
 
+-- a download without a metainfo file may have probes
+abbrev pub may_probe : Option Download → Bool
+may_probe None = false
+may_probe (Some d) = not (is_listed d.subject)
+
+granted_where : (t : Bool) (own : List OwnEvent) (e : OwnEvent) → granted_claims (e ∷ own) ≡ granted_claims own
+    → granted_claims (cond t (e ∷ own) own) ≡ granted_claims own
+granted_where true own e same = same
+granted_where false own e same = refl
+
+unopened_where : (t : Bool) (own : List OwnEvent) (e : OwnEvent) → is_opened (cond t (e ∷ own) own) ≡ false
+    → is_opened own ≡ false
+unopened_where true own e h = or_second (is_opening e) (is_opened own) h
+unopened_where false own e h = h
+
 pub record Part (downloads : List Download) (gid : Gid) (own : List OwnEvent) : Type 0 where
   pub legal : FitsOwn downloads gid own
   pub planned : is_opened own ≡ true → IsPlanned downloads gid own
+  pub bare : may_probe (download_of downloads gid) ≡ false → is_opened own ≡ false → granted_claims own ≡ []
 
-told_where : (t : Bool) (own : List OwnEvent) (e : OwnEvent) → told_total (e ∷ own) ≡ told_total own
+pub told_where : (t : Bool) (own : List OwnEvent) (e : OwnEvent) → told_total (e ∷ own) ≡ told_total own
     → told_total (cond t (e ∷ own) own) ≡ told_total own
 told_where true own e same = same
 told_where false own e same = refl
@@ -68,16 +84,19 @@ told_where false own e same = refl
 event_part : (start : RunStart) (past : List Event) (gid other : Gid) (e : OwnEvent)
     → Part (replay_of start past).downloads gid (own_of start past gid)
     → told_total (e ∷ own_of start past gid) ≡ told_total (own_of start past gid) → is_opening e ≡ false
-    → MayOwn start past other e
+    → granted_claims (e ∷ own_of start past gid) ≡ granted_claims (own_of start past gid) → MayOwn start past other e
     → Part (replay_of start past).downloads gid (with_own other gid e (own_of start past gid))
-event_part start past gid other e part told never may =
+event_part start past gid other e part told never same may =
+    let own = own_of start past gid in
     record {
       legal = event_fits start past gid other e part.legal told may;
       planned = λ h.
-          planned_on (replay_of start past).downloads gid (own_of start past gid)
-          (with_own other gid e (own_of start past gid))
-          (told_where (is_same_gid gid other) (own_of start past gid) e told)
-          (part.planned (opened_where (is_same_gid gid other) (own_of start past gid) e never h));
+          planned_on (replay_of start past).downloads gid own (with_own other gid e own)
+          (told_where (is_same_gid gid other) own e told)
+          (part.planned (opened_where (is_same_gid gid other) own e never h));
+      bare = λ none h.
+          granted_where (is_same_gid gid other) own e same
+          ∙ part.bare none (unopened_where (is_same_gid gid other) own e h);
     }
 
 halted_part : (t : Bool) (downloads : List Download) (gid : Gid) (own : List OwnEvent) → Part downloads gid own
@@ -86,6 +105,7 @@ halted_part true downloads gid own part =
     record {
       legal = halted_fits true downloads gid own part.legal;
       planned = λ h. planned_on downloads gid own (Halts false ∷ own) refl (part.planned h);
+      bare = part.bare;
     }
 halted_part false downloads gid own part = part
 
@@ -251,18 +271,84 @@ sized_part laws start past gid other id total part may true same =
         mine,
       );
       planned = λ opened. true_not_false (is_opened own) opened un;
+      bare = part.bare;
     }
 
-opened_part : (start : RunStart) (past : List Event) (gid other : Gid) (verified blocks : List Bool) (now : Moment)
+-- a download whose length is known and that isn't opened is idle
+listed_known : (d : Download) (s : Subject) (own : List OwnEvent) → not (is_listed s) ≡ false
+    → lengths_by d s own ≡ None → ⊥
+listed_known d (Listed meta uris) own never h = absurd cc
+listed_known d (Unlisted uris) own never h = absurd cc
+
+nothing_stands : (own : List OwnEvent) → granted_claims own ≡ [] → standing_claims own ≡ []
+nothing_stands own none = ap (λ (cs : List Claim). filter (is_standing own) cs) none
+
+some_told : (n : ℕ) (o : Option ℕ) (lengths : PayloadLengths) → told_lengths n o ≡ Some lengths → (t : ℕ)
+    × (o ≡ Some t)
+some_told n None lengths h = absurd cc
+some_told n (Some t) lengths h = (t, refl)
+
+idle_of : (laws : HistoriesAreSound) (downloads : List Download) (gid : Gid) (own : List OwnEvent)
+    → Part downloads gid own
+    → is_opened own ≡ false → (d : Download) (s : Subject) → d.subject ≡ s → download_of downloads gid ≡ Some d
+    → (lengths : PayloadLengths) → lengths_by d d.subject own ≡ Some lengths → standing_claims own ≡ []
+idle_of laws downloads gid own part un d (Listed meta uris) subject is lengths known =
+    nothing_stands own (part.bare (ap may_probe is ∙ ap (λ (x : Subject). not (is_listed x)) subject) un)
+idle_of laws downloads gid own part un d (Unlisted uris) subject is lengths known =
+    let t = some_told _ (told_total own) lengths (sym (ap (λ (x : Subject). lengths_by d x own) subject) ∙ known) in
+    laws.told (lengths_in downloads gid own).total (lengths_in downloads gid own).piece_len own t.0 part.legal un t.1
+
+idle_by : (laws : HistoriesAreSound) (downloads : List Download) (gid : Gid) (own : List OwnEvent)
+    → Part downloads gid own
+    → is_opened own ≡ false → (o : Option Download) → download_of downloads gid ≡ o → (lengths : PayloadLengths)
+    → option_and_then (λ (d : Download). lengths_by d d.subject own) o ≡ Some lengths → standing_claims own ≡ []
+idle_by laws downloads gid own part un None is lengths known = absurd cc
+idle_by laws downloads gid own part un (Some d) is lengths known =
+    idle_of laws downloads gid own part un d d.subject refl is lengths known
+
+pub idle : (laws : HistoriesAreSound) (start : RunStart) (past : List Event) (gid : Gid)
+    → Part (replay_of start past).downloads gid (own_of start past gid) → is_opened (own_of start past gid) ≡ false
+    → (lengths : PayloadLengths) → payload_lengths_of start past gid ≡ Some lengths
+    → standing_claims (own_of start past gid) ≡ []
+idle laws start past gid part un lengths known =
+    idle_by laws (replay_of start past).downloads gid (own_of start past gid) part un
+    (download_of (replay_of start past).downloads gid) refl
+    lengths known
+
+-- the opening is one that may come next
+may_open : (laws : HistoriesAreSound) (start : RunStart) (past : List Event) (gid : Gid) (verified blocks : List Bool)
+    (now : Moment)
     → Part (replay_of start past).downloads gid (own_of start past gid)
+    → MayBeOpened start past gid verified blocks now
+    → MayOwn start past gid (Opens verified blocks now)
+may_open laws start past gid verified blocks now part may =
+    record {
+      download = may.download;
+      added = may.added;
+      may = subst
+          (λ (o : Option PayloadLengths). MayOpen (unwrap_or o no_lengths).total (unwrap_or o no_lengths).piece_len
+          (own_of start past gid) verified blocks) (sym may.known)
+          (record {
+            start = may.rows;
+            first = may.first;
+            idle =
+                idle laws start past gid part may.first may.lengths may.known;
+          });
+    }
+
+opened_part : (laws : HistoriesAreSound) (start : RunStart) (past : List Event) (gid other : Gid)
+    (verified blocks : List Bool) (now : Moment)
+    → Part (replay_of start past).downloads gid (own_of start past gid)
+    → Part (replay_of start past).downloads other (own_of start past other)
     → MayBeOpened start past other verified blocks now
     → Part (replay_of start past).downloads gid
     (with_own other gid (Opens verified blocks now) (own_of start past gid))
-opened_part start past gid other verified blocks now part may =
+opened_part laws start past gid other verified blocks now part its may =
     let ds = (replay_of start past).downloads in
     let own = own_of start past gid in
     record {
-      legal = event_fits start past gid other (Opens verified blocks now) part.legal refl may.own;
+      legal = event_fits start past gid other (Opens verified blocks now) part.legal refl
+          (may_open laws start past other verified blocks now its may);
       planned = λ h.
           planned_on ds gid own (with_own other gid (Opens verified blocks now) own)
           (told_where (is_same_gid gid other) own (Opens verified blocks now) refl)
@@ -274,7 +360,64 @@ opened_part start past gid other verified blocks now part may =
             plan = may.plan;
           })
           part.planned h);
+      bare = λ none h.
+          granted_where (is_same_gid gid other) own (Opens verified blocks now) refl
+          ∙ part.bare none (unopened_where (is_same_gid gid other) own (Opens verified blocks now) h);
     }
+
+-- a claim of a download that isn't opened is a probe, of one without a metainfo file
+claim_bare : (start : RunStart) (past : List Event) (gid : Gid) (claim : Claim) (download : Download)
+    (o : Option PayloadLengths)
+    → payload_lengths_of start past gid ≡ o → download_of (replay_of start past).downloads gid ≡ Some download
+    → IsGrantBy start past gid download o claim → may_probe (download_of (replay_of start past).downloads gid) ≡ false
+    → is_opened (own_of start past gid) ≡ false → ⊥
+claim_bare start past gid claim download (Some lengths) is added g none un =
+    true_not_false (is_opened (own_of start past gid)) g.0 un
+claim_bare start past gid claim download None is added g none un =
+    listed_known download download.subject (own_of start past gid) (sym (ap may_probe added) ∙ none)
+    (sym (ap (option_and_then (λ (d : Download). lengths_by d d.subject (own_of start past gid))) added) ∙ is)
+
+claimed_bare : (start : RunStart) (past : List Event) (gid : Gid) (claim : Claim) (t : Bool)
+    → (t ≡ true → may_probe (download_of (replay_of start past).downloads gid) ≡ false
+    → is_opened (own_of start past gid) ≡ false → ⊥)
+    → Part (replay_of start past).downloads gid (own_of start past gid)
+    → may_probe (download_of (replay_of start past).downloads gid) ≡ false
+    → is_opened (cond t (Grants claim ∷ own_of start past gid) (own_of start past gid)) ≡ false
+    → granted_claims (cond t (Grants claim ∷ own_of start past gid) (own_of start past gid)) ≡ []
+claimed_bare start past gid claim true never part none un = absurd (never refl none un)
+claimed_bare start past gid claim false never part none un = part.bare none un
+
+claimed_part : (laws : Laws) (start : RunStart) (past : List Event) (gid other : Gid) (claim : Claim)
+    → Part (replay_of start past).downloads gid (own_of start past gid)
+    → Part (replay_of start past).downloads other (own_of start past other)
+    → MayBeClaimed start past other claim
+    → Part (replay_of start past).downloads gid (with_own other gid (Grants claim) (own_of start past gid))
+claimed_part laws start past gid other claim part its may =
+    let ds = (replay_of start past).downloads in
+    let own = own_of start past gid in
+    record {
+      legal = event_fits start past gid other (Grants claim) part.legal refl
+          (granted laws start past other claim its may);
+      planned = λ h.
+          planned_on ds gid own (with_own other gid (Grants claim) own)
+          (told_where (is_same_gid gid other) own (Grants claim) refl)
+          (part.planned (opened_where (is_same_gid gid other) own (Grants claim) refl h));
+      bare =
+          claimed_bare start past gid claim (is_same_gid gid other)
+          (λ same.
+          subst (λ (g : Gid). may_probe (download_of (replay_of start past).downloads g) ≡ false
+          → is_opened (own_of start past g) ≡ false → ⊥)
+          (gid_is gid other same)
+          (claim_bare start past other claim may.download (payload_lengths_of start past other) refl may.added
+          may.granted))
+          part;
+    }
+
+probes_before : (old new : List Download) (gid : Gid) → Adds old new → (o : Option Download) → download_of old gid ≡ o
+    → may_probe (download_of new gid) ≡ false → may_probe (download_of old gid) ≡ false
+probes_before old new gid adds None is none = ap may_probe is
+probes_before old new gid adds (Some d) is none =
+    ap may_probe (sym (stays_added gid old new adds (ap is_some is))) ∙ none
 
 called_part : (laws : HistoriesAreSound) (start : RunStart) (past : List Event) (gid : Gid) (old new : List Download)
     (own : List OwnEvent) → Adds old new
@@ -290,11 +433,12 @@ called_part laws start past gid old new own adds there part =
                 (stays_added gid old new adds (there opened)) ∙ p.known;
             plan = p.plan;
           };
+      bare = λ none un. part.bare (probes_before old new gid adds (download_of old gid) refl none) un;
     }
 
 pub parts : (laws : Laws) (start : RunStart) (past : List Event) (gid : Gid) → IsLegal start past
     → Part (replay_of start past).downloads gid (own_of start past gid)
-parts laws start [] gid legal = record { legal = tt; planned = λ h. absurd cc }
+parts laws start [] gid legal = record { legal = tt; planned = λ h. absurd cc; bare = λ none un. refl }
 parts laws start (Called session asked now ∷ past) gid legal =
     let new = (replay_of start (Called session asked now ∷ past)).downloads in
     let own = own_of start past gid in
@@ -303,31 +447,37 @@ parts laws start (Called session asked now ∷ past) gid legal =
     (call_adds start (replay_of start past) asked)
     (opened_added start past gid legal.0) (parts laws start past gid legal.0))
 parts laws start (Opened other verified blocks now ∷ past) gid legal =
-    opened_part start past gid other verified blocks now (parts laws start past gid legal.0) legal.1
+    opened_part laws.sound start past gid other verified blocks now (parts laws start past gid legal.0)
+    (parts laws start past other legal.0) legal.1
 parts laws start (Sized other id total ∷ past) gid legal =
     sized_part laws.sound start past gid other id total (parts laws start past gid legal.0) legal.1
     (is_same_gid gid other) refl
 parts laws start (Claimed other claim ∷ past) gid legal =
-    event_part start past gid other (Grants claim) (parts laws start past gid legal.0) refl refl
-    (granted laws start past other claim (parts laws start past other legal.0) legal.1)
+    claimed_part laws start past gid other claim (parts laws start past gid legal.0)
+    (parts laws start past other legal.0) legal.1
 parts laws start (Landed other id mirror run now ∷ past) gid legal =
-    event_part start past gid other (Lands id mirror run) (parts laws start past gid legal.0) refl refl legal.1.0
+    event_part start past gid other (Lands id mirror run) (parts laws start past gid legal.0) refl refl refl legal.1.0
 parts laws start (Settled other piece right giver ∷ past) gid legal =
-    event_part start past gid other (Settles piece right giver) (parts laws start past gid legal.0) refl refl
+    event_part start past gid other (Settles piece right giver) (parts laws start past gid legal.0) refl refl refl
     legal.1.own
 parts laws start (Cleared other piece ∷ past) gid legal =
-    event_part start past gid other (Clears piece) (parts laws start past gid legal.0) refl refl legal.1.own
+    event_part start past gid other (Clears piece) (parts laws start past gid legal.0) refl refl refl legal.1.own
 parts laws start (Lost other id mirror piece mark ∷ past) gid legal =
-    event_part start past gid other (Loses id mirror piece mark) (parts laws start past gid legal.0) refl refl legal.1
+    event_part start past gid other (Loses id mirror piece mark) (parts laws start past gid legal.0) refl refl refl
+    legal.1
 parts laws start (Checked other right ∷ past) gid legal =
-    event_part start past gid other (Checks right) (parts laws start past gid legal.0) refl refl legal.1.own
+    event_part start past gid other (Checks right) (parts laws start past gid legal.0) refl refl refl legal.1.own
 parts laws start (Saved other now ∷ past) gid legal =
-    event_part start past gid other (Saves now) (parts laws start past gid legal.0) refl refl legal.1.0
+    event_part start past gid other (Saves now) (parts laws start past gid legal.0) refl refl refl legal.1.0
 parts laws start (Ended other how ∷ past) gid legal =
-    event_part start past gid other (Halts true) (parts laws start past gid legal.0) refl refl legal.1.own
+    event_part start past gid other (Halts true) (parts laws start past gid legal.0) refl refl refl legal.1.own
 parts laws start (Left ∷ past) gid legal = parts laws start past gid legal.0
 parts laws start (Stopped ∷ past) gid legal =
     halted_part true (replay_of start past).downloads gid (own_of start past gid) (parts laws start past gid legal.0)
 
 pub legal_parts : Laws → DownloadsAreLegal
 legal_parts laws start past gid legal = (parts laws start past gid legal).legal
+
+pub known_idle : Laws → KnownAreIdle
+known_idle laws start past gid lengths legal known un =
+    idle laws.sound start past gid (parts laws start past gid legal) un lengths known

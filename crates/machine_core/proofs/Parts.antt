@@ -168,8 +168,8 @@ opened_added start (Called session asked now ∷ past) gid legal h =
 opened_added start (Opened other verified blocks now ∷ past) gid legal h =
     opened_cases (is_same_gid gid other) (own_of start past gid) (Opens verified blocks now)
     (λ same. ap is_some
-    (subst (λ (g : Gid). download_of (replay_of start past).downloads g ≡ Some legal.1.own.download)
-    (gid_is gid other same) legal.1.own.added))
+    (subst (λ (g : Gid). download_of (replay_of start past).downloads g ≡ Some legal.1.download)
+    (gid_is gid other same) legal.1.added))
     (opened_added start past gid legal.0) h
 opened_added start (Sized other id total ∷ past) gid legal h =
     opened_added start past gid legal.0

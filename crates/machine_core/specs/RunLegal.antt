@@ -13,7 +13,9 @@ use Rattle.mirror_blame.specs.Marks.{IsDead, last_mark_of}
 use Rattle.option_set.specs.Values.{number_value, text_of_word}
 use Rattle.option_set.specs.declared.kinds.Num.TheVariants as num
 use Rattle.option_set.specs.declared.kinds.Word.TheVariants as word
-use Rattle.dl_history.specs.OwnEvents.{OwnEvent, Opens, Lands, Settles, Clears, Loses, Sizes, Saves, Checks, Halts}
+use Rattle.piece_table.specs.Progress.{IsStart}
+use Rattle.dl_history.specs.StandingClaims.{standing_claims}
+use Rattle.dl_history.specs.OwnEvents.{OwnEvent, Lands, Settles, Clears, Loses, Sizes, Saves, Checks, Halts}
 use Rattle.dl_history.specs.OwnLegal.{MayHappen, IsCompleteIn, IsLossOf, LegalOwn}
 use Rattle.dl_history.specs.PayloadParts.{is_opened, blames_in, told_total, last_check}
 use Rattle.machine_core.specs.Starts.{RunStart, Download, Subject, Listed, Unlisted}
@@ -83,14 +85,17 @@ abbrev pub is_listed : Subject → Bool
 is_listed (Listed meta uris) = true
 is_listed (Unlisted uris) = false
 
--- it is opened while it is active, once its length is known, by a plan
-pub record MayBeOpened (start : RunStart) (past : List Event) (gid : Gid) (verified blocks : List Bool)
-    (now : Moment) : Type 0 where
-  pub own : MayOwn start past gid (Opens verified blocks now)
+-- it is opened once, while it is active and its length is known: with verified pieces and landed blocks of its plan
+pub record MayBeOpened (start : RunStart) (past : List Event) (gid : Gid) (verified blocks : List Bool) (now : Moment)
+    : Type 0 where
+  pub download : Download
+  pub added : download_in start past gid ≡ Some download
   pub active : is_active_in start past gid ≡ true
   pub lengths : PayloadLengths
   pub known : payload_lengths_of start past gid ≡ Some lengths
   pub plan : IsPlan lengths.total lengths.piece_len
+  pub rows : IsStart lengths.total lengths.piece_len verified blocks
+  pub first : is_opened (own_of start past gid) ≡ false
   pub later : IsLaterThan past now
 
 -- the payload of a download without a metainfo file counts as right once it is full
@@ -241,3 +246,24 @@ DownloadsAreLegal =
     (start : RunStart) (past : List Event) (gid : Gid)
     → IsLegal start past
     → LegalOwn (known_lengths start past gid).total (known_lengths start past gid).piece_len (own_of start past gid)
+
+-- a download whose length is known and that isn't opened has no claim that stands
+abbrev pub KnownAreIdle : Type 0
+KnownAreIdle =
+    (start : RunStart) (past : List Event) (gid : Gid) (lengths : PayloadLengths)
+    → IsLegal start past → payload_lengths_of start past gid ≡ Some lengths
+    → is_opened (own_of start past gid) ≡ false
+    → standing_claims (own_of start past gid) ≡ []
+
+-- a download stays what it was added as ..
+abbrev pub DownloadsStay : Type 0
+DownloadsStay =
+    (start : RunStart) (past : List Event) (event : Event) (gid : Gid) (download : Download)
+    → download_in start past gid ≡ Some download → download_in start (event ∷ past) gid ≡ Some download
+
+-- .. and its lengths stay once they are known
+abbrev pub LengthsStay : Type 0
+LengthsStay =
+    (start : RunStart) (past : List Event) (event : Event) (gid : Gid) (lengths : PayloadLengths)
+    → IsLegal start (event ∷ past) → payload_lengths_of start past gid ≡ Some lengths
+    → payload_lengths_of start (event ∷ past) gid ≡ Some lengths

@@ -1,5 +1,5 @@
 // What holds of every legal history of a run.
-ghost use Rattle.machine_core.specs.RunLegal.{DownloadsAreLegal};
+ghost use Rattle.machine_core.specs.RunLegal.{DownloadsAreLegal, DownloadsStay, KnownAreIdle, LengthsStay};
 ghost use Rattle.machine_core.specs.WorkedRuns.{WorkedRuns};
 
 use dl_history::{accounts_match_events, histories_are_sound};
@@ -9,6 +9,25 @@ use dl_kinds::plan_laws;
 /// may be granted.
 pub fn downloads_are_legal()
     ensures { DownloadsAreLegal }
+{
+    plan_laws();
+    histories_are_sound();
+    accounts_match_events();
+}
+
+/// A download whose length is known has no claim that stands until it is opened.
+pub fn known_downloads_are_idle()
+    ensures { KnownAreIdle }
+{
+    plan_laws();
+    histories_are_sound();
+    accounts_match_events();
+}
+
+/// A download stays what it was added as, and its lengths stay once they are known.
+pub fn downloads_stay()
+    ensures downloads { DownloadsStay }
+    ensures lengths { LengthsStay }
 {
     plan_laws();
     histories_are_sound();

@@ -9,4 +9,6 @@ mod laws;
 pub use calls::{Call, MAX_URIS};
 pub use ends::End;
 pub use events::Event;
-pub use laws::{downloads_are_legal, worked_runs_are_told};
+pub use laws::{
+    downloads_are_legal, downloads_stay, known_downloads_are_idle, worked_runs_are_told,
+};

@@ -1,0 +1,13 @@
+use Rattle.machine_core.proofs.Staying.{downloads_stay, lengths_stay}
+use Rattle.machine_core.proofs.laws.downloads_stay.Goals as goal
+
+pub returns-clause-downloads : goal.returns-clause-downloads
+returns-clause-downloads c = downloads_stay
+
+pub returns-clause-lengths : goal.returns-clause-lengths
+returns-clause-lengths c =
+    lengths_stay (record {
+      sound = c.histories_are_sound.ensures;
+      accounts = c.accounts_match_events.ensures;
+      plans = record { of_pieces = c.plan_laws.ensures.of_pieces; numbered = c.plan_laws.ensures.numbered };
+    })
