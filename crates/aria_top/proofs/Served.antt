@@ -1,17 +1,15 @@
 -- What is served comes, piece by piece.
-use Rattle.std.proofs.Common.{◌≡◌, ◌∙◌, ⊎_elim, ℕ, ◌<◌, ◌^◌, List, [], Result, Ok, Err, sym, subst}
-use Rattle.std.specs.Prelude.{All, IfSome, MatchResult}
+use Rattle.std.proofs.Common.{◌≡◌, ◌∙◌, ⊎_elim, ℕ, List, [], ◌++◌, append-nil, Result, Ok, Err, ap, sym, subst}
+use Rattle.std.specs.Prelude.{IfSome, MatchResult}
+use Rattle.link_source.specs.Link.{LinkState}
 use Rattle.link_source.specs.Mirrors.{Content}
 use Rattle.link_source.specs.Streams.{Stream}
 use Rattle.metainfo.specs.Info.{Info}
 use Rattle.reply_reader.specs.declared.loss.Loss.{Loss}
 use Rattle.reply_reader.specs.declared.loss.Loss.TheVariants as losses
-use Rattle.span_map.specs.Jobs.{IsJobPart}
 use Rattle.request_chain.specs.Fetched.{Fetched}
-use Rattle.request_chain.specs.Honest.{IsHonest, AreHonest}
 use Rattle.request_chain.specs.Plans.{Done, Open, Lost}
-use Rattle.memory_serving_laws.specs.Laws.{ServedComes}
-use Rattle.memory_serving_laws.specs.Serving.{GivesAll}
+use Rattle.memory_serving_laws.specs.Laws.{AreGiven, GainedAnswers, GoodMirrorsServe}
 use Rattle.span_map.specs.declared.jobs.JobPart.{JobPart}
 use Rattle.aria_top.specs.Fetched.{EndsIn, ending_of}
 use Rattle.aria_top.specs.Serving.{GivesPiece, KeepsContent, ServesFetch, IsFromOutside}
@@ -26,21 +24,12 @@ content_on a b c first then good =
     let same : b ≡ a = first good in
     then (subst (λ (content : Content). content.bad ≡ []) (sym same) good) ∙ same
 
--- and streams stay honest
-pub honest_on : (a b c : Content) (before middle now : List Stream) (was due : List ℕ) → a.bad ≡ []
-    → (b ≡ a) × AreHonest a before middle was
-    → (b.bad ≡ [] → AreHonest b before middle was → (c ≡ b) × AreHonest b before now due)
-    → (c ≡ a) × AreHonest a before now due
-honest_on a b c before middle now was due good (same, honest) then =
-    let next = then (subst (λ (content : Content). content.bad ≡ []) (sym same) good) (subst (λ (content : Content). AreHonest content before middle was) (sym same) honest) in
-    (next.0 ∙ same, subst (λ (content : Content). AreHonest content before now due) same next.1)
-
-module _ (law : ServedComes) (content : Content) (parts : List JobPart) (bytes : List ℕ) (good : content.bad ≡ []) (ranges : All IsJobPart parts) (bounded : All (λ part. part.total < 2 ^ 63) parts)
-    (gives : GivesAll content parts bytes) (gained : List Stream) (honest : All (IsHonest content) gained) where
+module _ (law : GoodMirrorsServe) (content : Content) (link : LinkState) (parts : List JobPart) (bytes : List ℕ) (good : content.bad ≡ []) (given : AreGiven content parts bytes)
+    (gained : List Stream) (has : GainedAnswers content link gained) where
   -- nothing that is served is lost
   none_lost : (loss : Loss) → EndsIn parts gained (Lost loss) → ⊥
   none_lost loss (came, fetched) = ⊎_elim (λ (e : Lost loss ≡ Open). cc) (λ (e, same). let both : Lost loss ≡ Done = e in cc)
-      (law content parts gained bytes came (Lost loss) good ranges bounded gives honest fetched)
+      (law content link gained parts bytes came (Lost loss) has given good fetched).on
 
   -- so a loss is one of the outside
   outside : (loss : Loss) → IfSome (ending_of loss) (EndsIn parts gained) → IsFromOutside loss
@@ -56,6 +45,9 @@ module _ (law : ServedComes) (content : Content) (parts : List JobPart) (bytes :
   -- and what came whole is what is served
   pub serves_fetch : {T : Type 0} (result : Result T Loss) (body : List ℕ)
       → MatchResult result (λ _. Fetched parts gained body Done []) (λ loss. IfSome (ending_of loss) (EndsIn parts gained)) → ServesFetch result body bytes
-  serves_fetch (Ok value) body fetched = ⊎_elim (λ (e : Done ≡ Open). cc) (λ (e, same). same)
-      (law content parts gained bytes body Done good ranges bounded gives honest fetched)
+  serves_fetch (Ok value) body fetched =
+      let right = law content link gained parts bytes body Done has given good fetched in
+      ⊎_elim (λ (e : Done ≡ Open). cc)
+      (λ (e, none). sym (right.front ∙ ap (λ b. body ++ b) none ∙ append-nil body))
+      right.on
   serves_fetch (Err loss) body ends = outside loss ends

@@ -10,19 +10,20 @@ ghost use Rattle.aria_top.specs.Askings.{asked_part, piece_parts, start_of, size
 ghost use Rattle.aria_top.specs.Ends.{loss_status, IsLossStatus, IsLinkLoss};
 ghost use Rattle.aria_top.specs.Fetched.{FetchEnds, IsFetching, IsLost};
 ghost use Rattle.fetch_session.specs.Blocks.{cut};
-ghost use Rattle.fetch_session.specs.Fetches.{fetch_plan, rest_of, ready_of, lost_of, IsFetch};
+ghost use Rattle.fetch_session.specs.Fetches.{fetch_plan, rest_of, ready_of, lost_of, IsFetch, MayStep};
+ghost use Rattle.link_source.specs.Link.{LinkState};
 ghost use Rattle.link_source.specs.Streams.{Stream};
 ghost use Rattle.span_map.specs.declared.jobs.Job.{Job};
 ghost use Rattle.aria_top.specs.Payload.{IsFetchable};
 ghost use Rattle.aria_top.specs.Serving.{KeepsContent, ServesFetch};
 ghost use Rattle.reply_reader.specs.Losses.{IsKnown as IsKnownLoss};
-ghost use Rattle.request_chain.specs.Honest.{AreHonest};
+ghost use Rattle.request_chain.specs.Answered.{IsAnswered, KeepsAnswers};
 ghost use Rattle.memory_serving_laws.specs.Serving.{GivesAll};
 
 use dl_kinds::{NoMemory, Run};
 use fetch_session::{Fetch, FetchRoom, Loss};
 use link_source::Links;
-use memory_serving_laws::{gains_are_honest, served_comes};
+use memory_serving_laws::{clean_mirrors_stay, good_mirrors_serve};
 use metainfo::Meta;
 use span_map::{Job, JobPart, JobParts, Part};
 use std::alloc::Global;
@@ -101,6 +102,7 @@ fn hand_on(fetch: &mut Fetch, piece: &mut Vec<u8>) -> Result<(), NoMemory>
     ensures count { (rest_of fetch.new).count + (ready_of fetch.old).count ≡ (rest_of fetch.old).count }
     ensures none_ready { (ready_of fetch.new).count ≡ 0 }
     ensures lost { lost_of fetch.new ≡ lost_of fetch.old }
+    ensures may { (link : LinkState) → MayStep fetch.old link → MayStep fetch.new link }
 {
     let blocks = fetch.take_blocks();
     let pushed = piece.extend_from_slice(blocks.bytes());
@@ -116,6 +118,7 @@ fn fetch_on<L: Links>(
     piece: &mut Vec<u8>,
 ) -> Result<bool, Loss>
     requires none_ready { (ready_of fetch.old).count ≡ 0 }
+    requires may { IsTrue L.tells → MayStep fetch.old (L.state link.old) }
     ensures goes_on { IsTrue L.tells → (job : Job) (before : List Stream) → IsFetching job before (L.state link.old).streams piece.old.items fetch.old
         → MatchResult result (λ _. IsFetching job before (L.state link.new).streams piece.new.items fetch.new) (IsLost job.parts before (L.state link.new).streams) }
     ensures all { result ≡ Ok true → (rest_of fetch.new).count ≡ 0 }
@@ -127,9 +130,10 @@ fn fetch_on<L: Links>(
     ensures held { OnOk result (IfSome (lost_of fetch.new) (λ loss. IsLinkLoss loss → Rose (L.faults link.old) (L.faults link.new))) }
     ensures link { IfErr result (λ loss. IsLinkLoss loss → (lost_of fetch.old ≡ Some loss) ⊎ Rose (L.faults link.old) (L.faults link.new)) }
     ensures known { IfErr result IsKnownLoss }
-    ensures honest { IsTrue L.tells → (L.state link.old).content.bad ≡ [] → (job : Job) (before : List Stream) → IsFetching job before (L.state link.old).streams piece.old.items fetch.old
-        → AreHonest (L.state link.old).content before (L.state link.old).streams (L.state link.old).due
-        → ((L.state link.new).content ≡ (L.state link.old).content) × AreHonest (L.state link.old).content before (L.state link.new).streams (L.state link.new).due }
+    ensures answered { IsTrue L.tells → (job : Job) (before : List Stream)
+        → IsFetching job before (L.state link.old).streams piece.old.items fetch.old
+        → KeepsAnswers before (L.state link.old) (L.state link.new) }
+    ensures may { OnOk result (IsTrue L.tells → MayStep fetch.new (L.state link.new)) }
     ensures later { L.faults link.old ≤ L.faults link.new }
 {
     let got = fetch.step(alloc, link, ALLOW)?;
@@ -152,13 +156,14 @@ fn fill<L: Links>(
     requires begun { piece.old.items ≡ [] }
     requires none_ready { (ready_of fetch.old).count ≡ 0 }
     requires none_lost { lost_of fetch.old ≡ None }
+    requires may { IsTrue L.tells → MayStep fetch.old (L.state link.old) }
     ensures ends { IsTrue L.tells → (job : Job) → IsFetch job [] [] fetch.old → FetchEnds job.parts (L.state link.old).streams (L.state link.new).streams result piece.new.items }
     ensures len { OnOk result (cut (fetch_plan fetch.old) (rest_of fetch.old).first + length piece.new.items
         ≡ cut (fetch_plan fetch.old) ((rest_of fetch.old).first + (rest_of fetch.old).count)) }
     ensures link { IfErr result (λ loss. IsLinkLoss loss → Rose (L.faults link.old) (L.faults link.new)) }
     ensures known { IfErr result IsKnownLoss }
-    ensures honest { IsTrue L.tells → (L.state link.old).content.bad ≡ [] → (job : Job) → IsFetch job [] [] fetch.old
-        → ((L.state link.new).content ≡ (L.state link.old).content) × AreHonest (L.state link.old).content (L.state link.old).streams (L.state link.new).streams (L.state link.new).due }
+    ensures answered { IsTrue L.tells → (job : Job) → IsFetch job [] [] fetch.old
+        → IsAnswered (L.state link.old).content (L.state link.old).streams (L.state link.new) }
     ensures later { L.faults link.old ≤ L.faults link.new }
 {
     'turns: for _ in 0..u64::MAX {
@@ -192,8 +197,8 @@ pub fn fetch_piece<L: Links>(
     ensures later { L.faults link.old ≤ L.faults link.new }
 {
     // Where the mirrors serve every part, its bytes arrive.
-    served_comes();
-    gains_are_honest();
+    good_mirrors_serve();
+    clean_mirrors_stay();
     piece.clear();
     let Ok(job) = piece_job(alloc, meta, number) else {
         return Err(Loss::NoMemory);

@@ -1,5 +1,5 @@
 // A fetch of a run of blocks.
-ghost use Rattle.std.specs.Prelude.{◌≡◌, ◌↔◌, ◌<◌, ◌≤◌, ℕ, ◌+◌, ◌++◌, [], List, length, vec_len, vec_capacity, Some, None, Err, min, IsTrue, IsSome, IfSome, IfOk, IfErr, OnErr, MatchResult};
+ghost use Rattle.std.specs.Prelude.{◌≡◌, ◌↔◌, ◌<◌, ◌≤◌, ℕ, ◌+◌, ◌++◌, [], List, length, vec_len, vec_capacity, Some, None, Err, false, min, IsTrue, IsFalse, IsSome, IfSome, IfOk, IfErr, OnErr, MatchResult};
 ghost use Rattle.std.specs.Option.{ForSome, ForNone};
 ghost use Rattle.dl_kinds.specs.Plan.{blocks_of};
 ghost use Rattle.reply_reader.specs.Losses.{IsKnown};
@@ -48,13 +48,15 @@ pub struct Fetch {
 }
 
 impl Fetch {
+    ghost use Rattle.link_source.specs.Link.{LinkState, closed};
     ghost use Rattle.link_source.specs.Streams.{Stream};
     ghost use Rattle.request_chain.specs.Chains.{Gains};
-    ghost use Rattle.request_chain.specs.Links.{CountsLinkLoss, IsHonestSince, StaysHonest};
+    ghost use Rattle.request_chain.specs.Answered.{KeepsAnswers};
+    ghost use Rattle.request_chain.specs.Links.{CountsLinkLoss};
     ghost use Rattle.span_map.specs.declared.jobs.Job.{Job};
     ghost use Rattle.fetch_session.specs.Blocks.{cut};
     ghost use Rattle.span_map.specs.Jobs.{IsJob, run_end, run_start};
-    ghost use Rattle.fetch_session.specs.Fetches.{fetch_plan, rest_of, ready_of, lost_of, IsFetch, SameButSpare, FetchSteps, Fails};
+    ghost use Rattle.fetch_session.specs.Fetches.{fetch_plan, rest_of, ready_of, lost_of, IsFetch, MayStep, SameButSpare, FetchSteps, Fails};
 
     /// Begins the fetch of a run, with the parts of resources that are its bytes.
     pub fn begin(job: Job, room: FetchRoom) -> Fetch
@@ -64,6 +66,7 @@ impl Fetch {
         ensures rest { rest_of result ≡ job.run }
         ensures none_ready { (ready_of result).count ≡ 0 }
         ensures none_lost { lost_of result ≡ None }
+        ensures may { (link : LinkState) → MayStep result link }
         ensures first { cut job.plan job.run.first ≡ run_start job.plan job.run }
         ensures end { cut job.plan (job.run.first + job.run.count) ≡ run_end job.plan job.run }
     {
@@ -102,6 +105,26 @@ impl Fetch {
         }
     }
 
+    /// What stands after a step that took so many bytes. The link is hung up where all came.
+    fn end_step<L: Links>(&self, link: &mut L, taken: u32) -> Got
+        ensures ready { result.ready ≡ ready_of self.now }
+        ensures taken { result.taken ≡ taken }
+        ensures done { IsTrue result.done ↔ ((ready_of self.now).count ≡ (rest_of self.now).count) }
+        ensures closed { IsTrue result.done → IsTrue L.tells
+            → L.state link.new ≡ closed (L.state link.old) }
+        ensures same { IsFalse result.done → link.new ≡ link.old }
+        ensures streams { IsTrue L.tells → (L.state link.new).streams ≡ (L.state link.old).streams }
+        ensures answered { IsTrue L.tells → (before : List Stream)
+            → KeepsAnswers before (L.state link.old) (L.state link.new) }
+        ensures faults { L.faults link.new ≡ L.faults link.old }
+    {
+        let got = self.got(taken);
+        if got.done {
+            link.hang_up();
+        }
+        got
+    }
+
     /// Reads on until `allow` bytes came from the link, heads and all, or 64 blocks are ready, or the last ones are.
     /// Where blocks are ready before a loss, the next step tells the loss, and each step behind it tells it again. Where
     /// memory runs out, what came in this step is given up. It takes memory as a chain of requests does, and for a
@@ -109,6 +132,7 @@ impl Fetch {
     pub fn step<L: Links>(&mut self, alloc: Global, link: &mut L, allow: u32) -> Result<Got, Loss>
         requires none_ready { (ready_of self.old).count ≡ 0 }
         requires some { 0 < allow }
+        requires may { IsTrue L.tells → MayStep self.old (L.state link.old) }
         ensures reads { IsTrue L.tells → (job : Job) (before used : List Stream) (handed : List ℕ)
             → IsFetch job used handed self.old → Gains before (L.state link.old).streams used
             → MatchResult result
@@ -122,7 +146,8 @@ impl Fetch {
         ensures within { (ready_of self.new).count ≤ (rest_of self.new).count }
         ensures few { (ready_of self.new).count ≤ 64 }
         ensures allowed { IfOk result (λ got. got.taken ≤ allow) }
-        ensures done { IfOk result (λ got. IsTrue got.done ↔ (got.ready.count ≡ (rest_of self.new).count)) }
+        ensures done { IfOk result (λ got. IsTrue got.done
+            ↔ (got.ready.count ≡ (rest_of self.new).count)) }
 
         // A loss that it held back is told, and nothing else is done.
         ensures held { IfSome (lost_of self.old) (λ loss. result ≡ Err loss) }
@@ -130,12 +155,13 @@ impl Fetch {
         ensures lost { IfErr result (λ loss. lost_of self.new ≡ Some loss) }
         ensures known { IfErr result IsKnown }
 
-        // Over mirrors in memory, without bad answers, its streams have given what the mirrors reply.
-        ensures honest { IsTrue L.tells → (L.state link.old).content.bad ≡ []
-            → (job : Job) (before used : List Stream) (handed : List ℕ)
+        // Over mirrors in memory each request had one answer: the true reply, or a bad answer that is used then.
+        ensures answered { IsTrue L.tells → (job : Job) (before used : List Stream) (handed : List ℕ)
             → IsFetch job used handed self.old → Gains before (L.state link.old).streams used
-            → IsHonestSince before (L.state link.old)
-            → StaysHonest before (L.state link.old) (L.state link.new) }
+            → KeepsAnswers before (L.state link.old) (L.state link.new) }
+        ensures may { IsTrue L.tells → MayStep self.new (L.state link.new) }
+        ensures closed { IfOk result (λ got. IsTrue got.done → 0 < got.ready.count
+            → IsTrue L.tells → (L.state link.new).listens ≡ false) }
         ensures none_ready { OnErr result ((ready_of self.new).count ≡ 0) }
         ensures cause { lost_of self.old ≡ None
             → IfSome (lost_of self.new) (CountsLinkLoss (L.faults link.old) (L.faults link.new)) }
@@ -162,6 +188,7 @@ impl Fetch {
         ensures fetch { (job : Job) (used : List Stream) (handed : List ℕ)
             → IsFetch job used handed self.old → IsFetch job used handed self.new }
         ensures shown { SameButSpare self.old self.new }
+        ensures may { (link : LinkState) → MayStep self.old link → MayStep self.new link }
         ensures spare { IfOk result (λ _. IsSome self.new.spare) }
     {
         if self.spare.is_none() {
@@ -183,6 +210,7 @@ impl Fetch {
         requires spare { IsSome self.old.spare }
         requires some { 0 < allow }
         requires some_room { 0 < room }
+        requires may { IsTrue L.tells → MayStep self.old (L.state link.old) }
         requires room { cut self.old.plan self.old.ready.first + vec_len self.old.held + room
             ≡ cut self.old.plan (min (self.old.ready.first + 64) self.old.end) }
         ensures reads { IsTrue L.tells → (job : Job) (before used : List Stream) (handed : List ℕ)
@@ -196,16 +224,17 @@ impl Fetch {
         ensures within { (ready_of self.new).count ≤ (rest_of self.new).count }
         ensures few { (ready_of self.new).count ≤ 64 }
         ensures allowed { IfOk result (λ got. got.taken ≤ allow) }
-        ensures done { IfOk result (λ got. IsTrue got.done ↔ (got.ready.count ≡ (rest_of self.new).count)) }
+        ensures done { IfOk result (λ got. IsTrue got.done
+            ↔ (got.ready.count ≡ (rest_of self.new).count)) }
         ensures lost { IfErr result (λ loss. lost_of self.new ≡ Some loss) }
         ensures known { IfErr result IsKnown }
 
-        // Over mirrors in memory, without bad answers, its streams have given what the mirrors reply.
-        ensures honest { IsTrue L.tells → (L.state link.old).content.bad ≡ []
-            → (job : Job) (before used : List Stream) (handed : List ℕ)
+        ensures answered { IsTrue L.tells → (job : Job) (before used : List Stream) (handed : List ℕ)
             → IsFetch job used handed self.old → Gains before (L.state link.old).streams used
-            → IsHonestSince before (L.state link.old)
-            → StaysHonest before (L.state link.old) (L.state link.new) }
+            → KeepsAnswers before (L.state link.old) (L.state link.new) }
+        ensures may { IsTrue L.tells → MayStep self.new (L.state link.new) }
+        ensures closed { IfOk result (λ got. IsTrue got.done → 0 < got.ready.count
+            → IsTrue L.tells → (L.state link.new).listens ≡ false) }
         ensures none_ready { OnErr result ((ready_of self.new).count ≡ 0) }
         ensures cause { IfSome (lost_of self.new) (CountsLinkLoss (L.faults link.old) (L.faults link.new)) }
         ensures later { L.faults link.old ≤ L.faults link.new }
@@ -216,7 +245,7 @@ impl Fetch {
         match self.chain.read(alloc, link, &mut self.held, room, allow) {
             Ok(read) => {
                 self.ready = whole_from(&self.plan, self.ready.first, self.end, self.held.len());
-                Ok(self.got(read.taken))
+                Ok(self.end_step(link, read.taken))
             }
             Err(loss) => match loss {
                 Loss::NoMemory => {
@@ -235,7 +264,7 @@ impl Fetch {
                     if self.ready.count == 0 {
                         return Err(loss);
                     }
-                    Ok(self.got(self.chain.taken()))
+                    Ok(self.end_step(link, self.chain.taken()))
                 }
             },
         }
@@ -246,13 +275,16 @@ impl Fetch {
         requires { 0 < (ready_of self.old).count }
         ensures takes { (job : Job) (used : List Stream) (handed : List ℕ)
             → IsFetch job used handed self.old → IsFetch job used (handed ++ result) self.new }
+        ensures may { (link : LinkState) → MayStep self.old link → MayStep self.new link }
         ensures len { run_start (fetch_plan self.old) (ready_of self.old) + length result
             ≡ run_end (fetch_plan self.old) (ready_of self.old) }
         ensures place { cut (fetch_plan self.old) (rest_of self.old).first + length result
             ≡ cut (fetch_plan self.new) (rest_of self.new).first }
         ensures plan { fetch_plan self.new ≡ fetch_plan self.old }
-        ensures rest_first { (rest_of self.new).first ≡ (rest_of self.old).first + (ready_of self.old).count }
-        ensures rest_count { (rest_of self.new).count + (ready_of self.old).count ≡ (rest_of self.old).count }
+        ensures rest_first { (rest_of self.new).first
+            ≡ (rest_of self.old).first + (ready_of self.old).count }
+        ensures rest_count { (rest_of self.new).count + (ready_of self.old).count
+            ≡ (rest_of self.old).count }
         ensures none_ready { (ready_of self.new).count ≡ 0 }
         ensures lost { lost_of self.new ≡ lost_of self.old }
     {
@@ -274,6 +306,7 @@ impl Fetch {
     pub fn give_back(&mut self, room: Blob)
         ensures fetch { (job : Job) (used : List Stream) (handed : List ℕ)
             → IsFetch job used handed self.old → IsFetch job used handed self.new }
+        ensures may { (link : LinkState) → MayStep self.old link → MayStep self.new link }
         ensures plan { fetch_plan self.new ≡ fetch_plan self.old }
         ensures rest { rest_of self.new ≡ rest_of self.old }
         ensures ready { ready_of self.new ≡ ready_of self.old }

@@ -1,7 +1,9 @@
 // How long a resource is.
-ghost use Rattle.std.specs.Prelude.{◌≡◌, ◌≤◌, List, ℕ, IsTrue, IfErr, MatchResult};
+ghost use Rattle.std.specs.Prelude.{◌≡◌, ◌≤◌, List, ℕ, false, IsTrue, OnOk, IfErr, MatchResult};
+ghost use Rattle.link_source.specs.Endpoint.{IsUsable};
 ghost use Rattle.link_source.specs.Streams.{Stream};
 ghost use Rattle.reply_reader.specs.Losses.{IsKnown};
+ghost use Rattle.request_chain.specs.Answered.{KeepsAnswers};
 ghost use Rattle.request_chain.specs.Links.{CountsLinkLoss};
 ghost use Rattle.request_chain.specs.Chains.{Gains};
 ghost use Rattle.request_chain.specs.Probes.{Told, Probed, TellsProbeLoss};
@@ -20,10 +22,16 @@ pub fn probe<L: Links>(
     room: &mut FetchRoom,
 ) -> Result<u64, Loss>
     ensures probes { IsTrue L.tells
-        → (used : List Stream) × Gains (L.state link.old).streams (L.state link.new).streams used × MatchResult result
+        → (used : List Stream) × Gains (L.state link.old).streams (L.state link.new).streams used
+        × MatchResult result
         (λ total. Probed url.now used (Told total))
         (TellsProbeLoss url.now used (L.faults link.new)) }
     ensures link { IfErr result (CountsLinkLoss (L.faults link.old) (L.faults link.new)) }
+    ensures answered { IsTrue L.tells → (before : List Stream)
+        → KeepsAnswers before (L.state link.old) (L.state link.new) }
+    ensures closed { OnOk result (IsTrue L.tells → (L.state link.new).listens ≡ false) }
+    // A URL that is no `http` URL is refused without a call of the link.
+    ensures untouched { (IsUsable url.now → ⊥) → link.new ≡ link.old }
     ensures known { IfErr result IsKnown }
     ensures later { L.faults link.old ≤ L.faults link.new }
 {

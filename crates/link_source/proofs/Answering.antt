@@ -1,15 +1,15 @@
 -- Mirrors in memory as they are found and as they answer.
-use Rattle.std.proofs.Common.{◌≡◌, ◌==◌, ◌&&◌, ◌∙◌, Bool, true, false, cond, not, ℕ, ◌+◌, List, [], ◌∷◌, Option, Some, None, MatchOption, length, ap, sym, refl, subst, map}
+use Rattle.std.proofs.Common.{◌≡◌, ◌⊎◌, inl, inr, ◌==◌, ◌&&◌, ◌∙◌, Bool, true, false, cond, not, ℕ, ◌+◌, List, [], ◌∷◌, Option, Some, None, MatchOption, length, ap, sym, refl, subst, map}
 use Rattle.std.proofs.lemmas.List.{length-map}
 use Rattle.std.proofs.lemmas.Option.{none-some}
 use Rattle.std.specs.List.{find, position, position_or_len, prefix_len}
 use Rattle.std.specs.Option.{option_map, option_map_or, option_and_then}
-use Rattle.std.specs.Prelude.{nat_lt}
+use Rattle.std.specs.Prelude.{◌↔◌, is_some, IsTrue, nat_lt}
 use Rattle.std.specs.Str.{bytes_eq}
 use Rattle.link_source.proofs.Reading.{asks_once}
 use Rattle.link_source.specs.BadAnswers.{IsUsed, next_bad}
-use Rattle.link_source.specs.Memory.{mirror_of, contents_of, UsesNext, GivesText}
-use Rattle.link_source.specs.Mirrors.{Mirror, bad_at, mirror_reply, reply_of}
+use Rattle.link_source.specs.Memory.{mirror_of, mirrors_of, contents_of, UsesNext, GivesText}
+use Rattle.link_source.specs.Mirrors.{Mirror, UsesBadAnswer, bad_at, mirror_at, mirror_reply, reply_of}
 use Rattle.link_source.specs.Replies.{bare_reply, text_under}
 use Rattle.link_source.specs.Requests.{Asks}
 use Rattle.link_source.specs.declared.bad_answers.Bad.{Bad}
@@ -31,6 +31,23 @@ position-map : {X Y : Type 0} (f : X → Y) (test : Y → Bool) (xs : List X) �
 position-map f test xs =
     ap (λ n. cond (nat_lt n (length (map f xs))) (Some n) None) (prefix_len-map f (λ y. not (test y)) xs)
     ∙ ap (λ n. cond (nat_lt (position_or_len (λ x. test (f x)) xs) n) (Some (position_or_len (λ x. test (f x)) xs)) None) (length-map xs f)
+
+pub some_map : {X Y : Type 0} (f : X → Y) (found : Option X) → is_some (option_map f found) ≡ is_some found
+some_map f None = refl
+some_map f (Some x) = refl
+
+-- a mirror is unknown by its value exactly where it isn't found
+pub unknown_by : (mirrors : List MemMirror) (host : List ℕ) (port : ℕ) (found : Option MemMirror) (none : Bool) → is_some found ≡ not none
+    → found ≡ find (λ mirror. (mirror.port == port) && bytes_eq mirror.host host) mirrors
+    → IsTrue none ↔ (mirror_at (mirrors_of mirrors) host port ≡ None)
+unknown_by mirrors host port found none test is = nowhere found none (mirror_at (mirrors_of mirrors) host port) test
+    (find-map mirror_of (λ (mirror : Mirror). (mirror.port == port) && bytes_eq mirror.host host) mirrors ∙ ap (option_map mirror_of) (sym is))
+  where
+    nowhere : (found : Option MemMirror) (none : Bool) (at : Option Mirror) → is_some found ≡ not none → at ≡ option_map mirror_of found → IsTrue none ↔ (at ≡ None)
+    nowhere None true at test same = (λ none. same, λ none. refl)
+    nowhere None false at test same = absurd cc
+    nowhere (Some mirror) true at test same = absurd cc
+    nowhere (Some mirror) false at test same = (λ none. cc, λ none. absurd (none-some (mirror_of mirror) (sym none ∙ same)))
 
 -- what stands at a host and a port replies
 pub replies : (mirrors : List MemMirror) (host : List ℕ) (port : ℕ) (found : Option MemMirror) (target : List ℕ) (first last : ℕ)
@@ -65,6 +82,17 @@ same_content : (mirrors : List MemMirror) (left used new_left new_used : List Ba
 same_content mirrors left used new_left new_used (lefts, useds) =
     ap (λ l. contents_of mirrors l new_used) lefts ∙ ap (contents_of mirrors left) useds
 
+-- the next bad answer of the mirror of this number is used, or there is none and nothing is
+effect_of : (mirrors : List MemMirror) (left used new_left new_used : List Bad) (host : List ℕ) (port : ℕ) (number : Option ℕ) (next : Option Bad)
+    → bad_at (contents_of mirrors left used) host port ≡ option_and_then (next_bad left) number → option_and_then (next_bad left) number ≡ next
+    → UsesNext number left used new_left new_used
+    → (contents_of mirrors new_left new_used ≡ contents_of mirrors left used)
+    ⊎ UsesBadAnswer (contents_of mirrors left used) host port (contents_of mirrors new_left new_used)
+effect_of mirrors left used new_left new_used host port number None there is uses =
+    inl (same_content mirrors left used new_left new_used (none_used number left used new_left new_used is uses))
+effect_of mirrors left used new_left new_used host port number (Some bad) there is uses =
+    inr (record { bad = bad; next = there ∙ is; used = one_used number left used new_left new_used bad is uses; mirrors_stay = refl })
+
 -- ---- the answers
 
 -- to a request
@@ -87,8 +115,7 @@ answered mirrors left used host port bytes target text first last number next as
           ∙ ap (λ l. text_under (bad_at old host port) (reply_of old host port other_target other_first l)) same.2;
       used = λ _ _ _ bad _ is. one_used number left used new_left new_used bad (sym there ∙ is) uses;
       other = λ never. absurd (never target first last asks);
-      stays = λ none. same_content mirrors left used new_left new_used (none_used number left used new_left new_used (sym there ∙ none) uses);
-      mirrors_stay = refl;
+      effect = effect_of mirrors left used new_left new_used host port number _ there refl uses;
     }
 
 -- and to anything else
@@ -98,6 +125,5 @@ unanswered mirrors left used host port bytes never new_left new_used uses = reco
   asked = λ target first last asks. absurd (never target first last asks);
   used = λ target first last _ asks _. absurd (never target first last asks);
   other = λ _. (refl, same_content mirrors left used new_left new_used uses);
-  stays = λ _. same_content mirrors left used new_left new_used uses;
-  mirrors_stay = refl;
+  effect = inl (same_content mirrors left used new_left new_used uses);
 }

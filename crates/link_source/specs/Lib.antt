@@ -1,7 +1,6 @@
 pub mod BadAnswers
 pub mod Chunks
 pub mod Endpoint
-pub mod Leads
 pub mod Link
 pub mod MemLinks
 pub mod Memory

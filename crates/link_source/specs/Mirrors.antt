@@ -1,5 +1,5 @@
 -- What mirrors in memory hold, and how they answer requests for a part of a resource.
-use Rattle.std.specs.Prelude.{◌≡◌, ◌==◌, ◌≤◌, ◌<◌, ◌^◌, ℕ, true, false, List, [], ◌∷◌, ◌++◌, Option, Some, None, find, position, option_map, option_and_then, ◌&&◌}
+use Rattle.std.specs.Prelude.{◌≡◌, ◌⊎◌, ◌==◌, ◌≤◌, ◌<◌, ◌^◌, ℕ, true, false, List, [], ◌∷◌, ◌++◌, Option, Some, None, find, position, option_map, option_and_then, ◌&&◌}
 use Rattle.std.specs.Option.{option_map_or}
 use Rattle.std.specs.Str.{bytes_eq}
 use Rattle.link_source.specs.BadAnswers.{IsUsed, next_bad}
@@ -67,6 +67,13 @@ reply_of content host port target first last =
 abbrev pub bad_at : Content → List ℕ → ℕ → Option Bad
 bad_at content host port = option_and_then (next_bad content.bad) (number_at content.mirrors host port)
 
+-- the next bad answer there was used, and the mirrors hold what they held
+pub record UsesBadAnswer (old : Content) (host : List ℕ) (port : ℕ) (new : Content) : Type 0 where
+  pub bad : Bad
+  pub next : bad_at old host port ≡ Some bad
+  pub used : IsUsed old.bad old.used bad new.bad new.used
+  pub mirrors_stay : new.mirrors ≡ old.mirrors
+
 -- The reply that a host and a port give to bytes, and what the mirrors hold then. A request gets the true reply, or the
 -- next bad answer in its place where one is left, which is used then. Other bytes get none.
 pub record HasReply (old : Content) (host : List ℕ) (port : ℕ) (bytes reply : List ℕ) (new : Content) : Type 0 where
@@ -75,8 +82,7 @@ pub record HasReply (old : Content) (host : List ℕ) (port : ℕ) (bytes reply 
   pub used : (target : List ℕ) (first last : ℕ) (bad : Bad) → Asks host port target first last bytes → bad_at old host port ≡ Some bad
       → IsUsed old.bad old.used bad new.bad new.used
   pub other : ((target : List ℕ) (first last : ℕ) → Asks host port target first last bytes → ⊥) → (reply ≡ []) × (new ≡ old)
-  pub stays : bad_at old host port ≡ None → new ≡ old
-  pub mirrors_stay : new.mirrors ≡ old.mirrors
+  pub effect : (new ≡ old) ⊎ UsesBadAnswer old host port new
 
 -- a request gets the reply to what it asks for, or the bad answer in its place
 abbrev pub AnswersRequests : Type 0

@@ -1,9 +1,10 @@
 //! Links to mirrors: where a URL leads, what a link gives, and mirrors in memory.
 #![tactic(auto)]
 
-ghost use Rattle.std.specs.Prelude.{◌≡◌, ◌<◌, ◌≤◌, Bool, ℕ, length, IsTrue, IfOk, OnOk, OnErr};
+ghost use Rattle.std.specs.Prelude.{◌≡◌, ◌<◌, ◌≤◌, Bool, ℕ, true, length, IsTrue, IfOk, OnOk, OnErr};
 ghost use Rattle.dl_kinds.specs.Causes.{HasCause};
-ghost use Rattle.link_source.specs.Link.{LinkState, Dials, Sends, Receives};
+ghost use Rattle.link_source.specs.Link.{LinkState, Dials, Sends, Receives, closed};
+ghost use Rattle.link_source.specs.declared.streams.TheConstants.{MOST_RECEIVED};
 
 use dl_kinds::IoErr;
 
@@ -21,9 +22,10 @@ mod streams;
 
 pub use bad_answers::{Bad, BadKind};
 pub use endpoint::{EndErr, Endpoint, is_usable};
-pub use laws::{leads_once, requests_are_read_once};
+pub use laws::requests_are_read_once;
 pub use memory::MemLinks;
 pub use mirrors::{Manner, MemFile, MemMirror};
+pub use streams::MOST_RECEIVED;
 
 /// One connection at a time to a mirror. A call that answers `NoMemory` was not made: it leaves everything as it was.
 pub trait Links {
@@ -49,6 +51,7 @@ pub trait Links {
 
     /// Sends all of the bytes on the newest stream, or none.
     fn send(&mut self, bytes: &[u8]) -> Result<(), IoErr>
+        requires listens { IsTrue tells → (state self.old).listens ≡ true }
         ensures sent { OnOk result (IsTrue tells
             → Sends bytes.now (state self.old) (state self.new)) }
         ensures failed { OnErr result (IsTrue tells → state self.new ≡ state self.old) }
@@ -56,7 +59,9 @@ pub trait Links {
 
     /// Receives some bytes of the newest stream, and none only at its end.
     fn recv(&mut self, into: &mut [u8]) -> Result<usize, IoErr>
-        requires { 0 < length into.old }
+        requires some { 0 < length into.old }
+        requires few { length into.old ≤ MOST_RECEIVED }
+        requires listens { IsTrue tells → (state self.old).listens ≡ true }
         ensures bound { IfOk result (λ count. count ≤ length into.new) }
         ensures received { IfOk result (λ count. IsTrue tells
             → Receives count into.new (state self.old) (state self.new)) }
@@ -65,6 +70,6 @@ pub trait Links {
 
     /// Closes the newest stream. What it had still to give stays due.
     fn hang_up(&mut self)
-        ensures same { IsTrue tells → state self.new ≡ state self.old }
+        ensures closed { IsTrue tells → state self.new ≡ closed (state self.old) }
         ensures faults { faults self.new ≡ faults self.old };
 }

@@ -1,18 +1,18 @@
 // Links to mirrors in memory.
-ghost use Rattle.std.specs.Prelude.{◌≡◌, ◌<◌, IfOk};
+ghost use Rattle.std.specs.Prelude.{◌≡◌, ◌≢◌, ◌<◌, [], true, IfOk};
 
 use crate::Links;
 use crate::bad_answers::{Bad, BadAnswers};
 use crate::calls::Calls;
 use crate::due::Due;
-use crate::mirrors::{MemMirror, answer, find_mirror};
+use crate::mirrors::{MemMirror, answer, is_unknown};
 use crate::streams::MemStreams;
 use dl_kinds::{IoErr, NoMemory};
 use std::alloc::Global;
 
-/// A link to mirrors in memory. A dial to a host and a port that no mirror has is a fault, and so are a `send` and a
-/// `recv` where no stream is open. Each `send` is one whole request, and other bytes get no reply. A bad answer stands in
-/// the place of one reply of its mirror: of those left the first is next.
+/// A link to mirrors in memory. A dial to a host and a port that no mirror has is a fault. Each `send` is one whole
+/// request, and other bytes get no reply. A bad answer stands in the place of one reply of its mirror: of those left the
+/// first is next.
 #[derive(Debug, Drop)]
 pub struct MemLinks {
     alloc: Global,
@@ -21,13 +21,15 @@ pub struct MemLinks {
     cut: u32,
     calls: Calls,
     streams: MemStreams,
-    open: bool,
+    listening: bool,
     due: Due,
     ghost cuts: { 0 < cut },
+    ghost dialled: { listening ≡ true → streams ≢ [] },
 }
 
 impl MemLinks {
-    ghost use Rattle.link_source.specs.MemLinks.{IsNewLink};
+    ghost use Rattle.std.specs.Prelude.{◌↔◌, ◌⊎◌, IsTrue};
+    ghost use Rattle.link_source.specs.MemLinks.{IsNewLink, IsNextToFail, IsUnknownHost, link_state};
 
     /// A link that gives at most `cut` bytes at once. The calls of the given numbers fail: `dial`, `send` and `recv`
     /// are numbered from 0, but for those that are answered with want of memory.
@@ -39,7 +41,7 @@ impl MemLinks {
         failing: Vec<u64>,
     ) -> Result<Self, NoMemory>
         requires { 0 < cut }
-        ensures { IfOk result (IsNewLink mirrors.items bad.items) }
+        ensures { IfOk result (IsNewLink mirrors.items bad.items cut failing.items) }
     {
         Ok(MemLinks {
             alloc,
@@ -48,15 +50,33 @@ impl MemLinks {
             cut,
             calls: Calls::new(failing),
             streams: MemStreams::new(alloc),
-            open: false,
+            listening: false,
             due: Due::new(alloc),
         })
+    }
+
+    // Whether a dial fails now.
+    fn fails_to_dial(&self, host: &str, port: u16) -> bool
+        ensures { IsTrue result ↔ (IsNextToFail self.now ⊎ IsUnknownHost self.now host.now port) }
+    {
+        self.calls.is_failing() || is_unknown(&self.mirrors, host, port)
+    }
+
+    /// Whether the newest stream may send and receive.
+    pub fn listens(&self) -> bool
+        ensures { result ≡ (link_state self.now).listens }
+    {
+        self.listening
     }
 }
 
 impl Links for MemLinks {
-    ghost use Rattle.std.specs.Prelude.{true, false};
-    ghost use Rattle.link_source.specs.MemLinks.{link_faults, link_state, is_open};
+    ghost use Rattle.std.specs.Prelude.{◌↔◌, ◌⊎◌, ◌≤◌, false, length, OnOk, OnErr, IsErrOf};
+    ghost use Rattle.dl_kinds.specs.Causes.{HasCause};
+    ghost use Rattle.dl_kinds.specs.declared.outside.IoErr.TheVariants.{Fault};
+    ghost use Rattle.link_source.specs.Link.{Dials, Sends, Receives, closed};
+    ghost use Rattle.link_source.specs.declared.streams.TheConstants.{MOST_RECEIVED};
+    ghost use Rattle.link_source.specs.MemLinks.{link_faults, link_state, cut_of, IsNextToFail, IsUnknownHost, IsNumberedCall};
 
     ghost tells = { true };
 
@@ -68,23 +88,37 @@ impl Links for MemLinks {
         self.calls.faults()
     }
 
-    fn dial(&mut self, host: &str, port: u16) -> Result<(), IoErr> {
-        if self.calls.is_failing() || find_mirror(&self.mirrors, host, port).is_none() {
+    fn dial(&mut self, host: &str, port: u16) -> Result<(), IoErr>
+        ensures dialled { OnOk result (Dials host.now port (link_state self.old) (link_state self.new)) }
+        ensures failed { OnErr result (link_state self.new ≡ link_state self.old) }
+        ensures cause { HasCause (link_faults self.old) (link_faults self.new) result }
+        ensures fault { IsErrOf result Fault ↔ (IsNextToFail self.old
+            ⊎ IsUnknownHost self.old host.now port) }
+        ensures numbered { IsNumberedCall self.old self.new result }
+    {
+        if self.fails_to_dial(host, port) {
             return Err(self.calls.fail());
         }
         self.streams.dial(self.alloc, host, port)?;
         self.due = Due::new(self.alloc);
-        self.open = true;
+        self.listening = true;
         self.calls.pass();
         Ok(())
     }
 
-    fn send(&mut self, bytes: &[u8]) -> Result<(), IoErr> {
-        if self.calls.is_failing() || !self.open {
+    fn send(&mut self, bytes: &[u8]) -> Result<(), IoErr>
+        requires listens { (link_state self.old).listens ≡ true }
+        ensures sent { OnOk result (Sends bytes.now (link_state self.old) (link_state self.new)) }
+        ensures failed { OnErr result (link_state self.new ≡ link_state self.old) }
+        ensures cause { HasCause (link_faults self.old) (link_faults self.new) result }
+        ensures fault { IsErrOf result Fault ↔ IsNextToFail self.old }
+        ensures numbered { IsNumberedCall self.old self.new result }
+    {
+        if self.calls.is_failing() {
             return Err(self.calls.fail());
         }
         let Some((host, port)) = self.streams.peer() else {
-            return Err(self.calls.fail());
+            unreachable!()
         };
         let answered = answer(self.alloc, &self.mirrors, &self.bad, host, port, bytes)?;
         let due = self.due.with(self.alloc, answered.text)?;
@@ -95,8 +129,20 @@ impl Links for MemLinks {
         Ok(())
     }
 
-    fn recv(&mut self, into: &mut [u8]) -> Result<usize, IoErr> {
-        if self.calls.is_failing() || !self.open {
+    fn recv(&mut self, into: &mut [u8]) -> Result<usize, IoErr>
+        requires some { 0 < length into.old }
+        requires few { length into.old ≤ MOST_RECEIVED }
+        requires listens { (link_state self.old).listens ≡ true }
+        ensures bound { IfOk result (λ count. count ≤ length into.new) }
+        ensures cut { IfOk result (λ count. count ≤ cut_of self.old) }
+        ensures received { IfOk result (λ count.
+            Receives count into.new (link_state self.old) (link_state self.new)) }
+        ensures failed { OnErr result (link_state self.new ≡ link_state self.old) }
+        ensures cause { HasCause (link_faults self.old) (link_faults self.new) result }
+        ensures fault { IsErrOf result Fault ↔ IsNextToFail self.old }
+        ensures numbered { IsNumberedCall self.old self.new result }
+    {
+        if self.calls.is_failing() {
             return Err(self.calls.fail());
         }
         let due = self.due.bytes();
@@ -109,10 +155,9 @@ impl Links for MemLinks {
     }
 
     fn hang_up(&mut self)
-        ensures same { link_state self.new ≡ link_state self.old }
+        ensures closed { link_state self.new ≡ closed (link_state self.old) }
         ensures faults { link_faults self.new ≡ link_faults self.old }
-        ensures closed { is_open self.new ≡ false }
     {
-        self.open = false;
+        self.listening = false;
     }
 }

@@ -1,8 +1,8 @@
 // Mirrors in memory, and what they answer.
-ghost use Rattle.std.specs.Prelude.{◌≡◌, ◌≤◌, find, position, IfOk, option_copied};
+ghost use Rattle.std.specs.Prelude.{◌≡◌, ◌≤◌, ◌↔◌, None, find, position, IsTrue, IfOk, option_copied};
 ghost use Rattle.std.specs.Str.{bytes_eq};
-ghost use Rattle.link_source.specs.Mirrors.{reply_of, file_at, mirror_reply, content_reply};
-ghost use Rattle.link_source.specs.Memory.{is_at, mirror_of, reply_seen, true_reply, GivesText};
+ghost use Rattle.link_source.specs.Mirrors.{reply_of, mirror_at, file_at, mirror_reply, content_reply};
+ghost use Rattle.link_source.specs.Memory.{is_at, mirror_of, mirrors_of, reply_seen, true_reply, GivesText};
 ghost use Rattle.link_source.specs.Replies.{text_under};
 
 use crate::bad_answers::{Bad, BadAnswers};
@@ -97,10 +97,17 @@ impl MemMirror {
 }
 
 // The first mirror of a host and a port.
-pub fn find_mirror<'a>(mirrors: &'a [MemMirror], host: &str, port: u16) -> Option<&'a MemMirror>
+fn find_mirror<'a>(mirrors: &'a [MemMirror], host: &str, port: u16) -> Option<&'a MemMirror>
     ensures { option_copied result ≡ find (is_at host.now port) mirrors.now }
 {
     mirrors.iter().find(|mirror| mirror.port == port && mirror.host.as_str() == host)
+}
+
+/// Whether no mirror has this host and port.
+pub fn is_unknown(mirrors: &[MemMirror], host: &str, port: u16) -> bool
+    ensures { IsTrue result ↔ (mirror_at (mirrors_of mirrors.now) host.now port ≡ None) }
+{
+    find_mirror(mirrors, host, port).is_none()
 }
 
 // Its number.

@@ -7,6 +7,9 @@ use dl_kinds::Text;
 use std::alloc::{AllocError, Global};
 use std::marker::Model;
 
+/// The most bytes that are asked of a link at once.
+pub const MOST_RECEIVED: usize = 65_536;
+
 /// What was sent, and how much had been received before.
 #[derive(Debug, Drop)]
 pub struct Sent {

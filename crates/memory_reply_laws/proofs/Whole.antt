@@ -10,7 +10,6 @@ use Rattle.std.specs.Fmt.{decimal}
 use Rattle.std.specs.Prelude.{All, IsTrue, Option, Some, None, is_none, codes, not, ◌||◌, ◌==◌}
 use Rattle.httparse.proofs.TrimLemmas.{AllPass-reverse}
 use Rattle.httparse.specs.Grammar.{AllPass, is_token_byte, is_value_byte}
-use Rattle.link_source.specs.Leads.{IsReadable}
 use Rattle.link_source.specs.Replies.{moved, not_found, not_satisfiable, whole_head, text_of, bare_reply}
 use Rattle.link_source.specs.Requests.{ended_line}
 use Rattle.range_http.specs.declared.asked.Asked.{Asked}
@@ -26,7 +25,7 @@ use Rattle.memory_reply_laws.proofs.Bodies.{length_body, stream_body}
 use Rattle.memory_reply_laws.proofs.Numbers.{is_number, is_bare, bare as bare_bytes, decimal_short, values_pass, value_behind}
 use Rattle.memory_reply_laws.proofs.Parts.{length_field_of, length_is_written}
 use Rattle.memory_reply_laws.proofs.Written.{field_text, head_text, IsValue, IsWritten, AreWritten, said, length_field, length_head, is_head, has_head, is_read}
-use Rattle.memory_reply_laws.specs.Reading.{IsKnownAs}
+use Rattle.memory_reply_laws.specs.Reading.{IsReadable, IsKnownAs}
 use Rattle.memory_reply_laws.specs.Replies.{WholeIsRead, StreamIsRead, MovedIsRead, NotFoundIsRead, EmptyIsRead}
 
 one-line : (start a end : List ℕ) → start ++ a ++ end ≡ start ++ (a ++ []) ++ end

@@ -1,7 +1,8 @@
 -- How a reply is read: its head, what that means for what was asked, and the body behind it; and so each front of it.
-use Rattle.std.specs.Prelude.{◌≡◌, ◌⊎◌, ℕ, List, [], ◌++◌, drop, Option, Some, None, ⊤}
+use Rattle.std.specs.Prelude.{◌≡◌, ◌⊎◌, ◌≤◌, ℕ, List, [], ◌++◌, length, drop, All, Option, Some, None, ⊤}
 use Rattle.body_frames.specs.Bodies.{Framing as BodyFraming, Length as BodyLength, Chunked as BodyChunked, ToEnd as BodyToEnd, IsWrong, body_of, content_of}
 use Rattle.body_frames.specs.Lines.{Whole}
+use Rattle.link_source.specs.Replies.{moved}
 use Rattle.range_http.specs.declared.asked.Asked.{Asked}
 use Rattle.range_http.specs.declared.framing.Framing.{Framing}
 use Rattle.range_http.specs.declared.framing.Framing.TheVariants.{Length, Chunked, ToEnd}
@@ -30,6 +31,11 @@ pub record ReadsAs (reply : List ℕ) (asked : Asked) (status : ℕ) (verdict : 
   pub used : ℕ
   pub head : BeginsWithHead reply asked status used verdict
   pub body : body_of (framing_seen framing) (drop used reply) ≡ record { content = content; rest = []; standing = Whole }
+
+-- a reader finds the whole location in the head: visible characters (RFC 3986 section 2), in a head of at most 65,536 bytes
+pub record IsReadable (location : List ℕ) : Type 0 where
+  pub visible : All (λ byte. (33 ≤ byte) × (byte ≤ 126)) location
+  pub short : length (moved location) ≤ 65536
 
 -- the reply tells that the resource is at this location
 pub record IsReadAsMoved (reply : List ℕ) (asked : Asked) (location : List ℕ) : Type 0 where

@@ -1,7 +1,6 @@
 -- How the replies of mirrors in memory are read (RFC 9110 sections 14.4, 15.3.1, 15.3.7, 15.4.3 and 15.5.5).
 use Rattle.std.specs.Prelude.{◌≡◌, ℕ, ◌+◌, ◌-◌, ◌^◌, ◌<◌, ◌≤◌, List, ◌++◌, length, drop, min, Some, None}
 use Rattle.dl_words.specs.Lists.{part_at}
-use Rattle.link_source.specs.Leads.{IsReadable}
 use Rattle.link_source.specs.Mirrors.{content_reply}
 use Rattle.link_source.specs.Replies.{bare_reply, moved, not_found, not_satisfiable, text_of}
 use Rattle.link_source.specs.declared.mirrors.Manner.TheVariants.{Ranges, Whole, Chunked, ToEnd}
@@ -10,7 +9,7 @@ use Rattle.range_http.specs.declared.framing.Framing.{Framing}
 use Rattle.range_http.specs.declared.framing.Framing.TheVariants.{Length, Chunked as InChunks, ToEnd as WithStream}
 use Rattle.range_http.specs.declared.verdict.Verdict.{Verdict}
 use Rattle.range_http.specs.declared.verdict.Verdict.TheVariants.{Part, Whole as WholeResource, Empty, NotFound}
-use Rattle.memory_reply_laws.specs.Reading.{BeginsWithHead, HeadComes, ReadsAs, IsReadAsMoved, ReplyComes, IsKnownAs}
+use Rattle.memory_reply_laws.specs.Reading.{BeginsWithHead, HeadComes, IsReadable, ReadsAs, IsReadAsMoved, ReplyComes, IsKnownAs}
 
 -- the last byte of a part: the last one asked for, or the resource's last one
 abbrev pub last_of : List ℕ → Asked → ℕ

@@ -1,18 +1,22 @@
 -- What a stream gave in answer to a request.
-use Rattle.std.proofs.Common.{◌≡◌, inl, inr, ℕ, ◌<◌, ◌≤◌, ◌^◌, true, List, [], ◌∷◌, ◌++◌, refl, ap, sym, subst, ◌∙◌}
-use Rattle.std.specs.Prelude.{Some}
-use Rattle.link_source.specs.Endpoint.{endpoint_of}
-use Rattle.link_source.specs.Leads.{StandsAt}
-use Rattle.link_source.specs.Mirrors.{Content, bad_at, reply_by}
+use Rattle.std.proofs.Common.{◌≡◌, inl, inr, ℕ, ◌+◌, ◌<◌, ◌≤◌, ◌^◌, Bool, true, arith, List, [], ◌∷◌, ◌++◌, refl, ap, sym, subst, ◌∙◌}
+use Rattle.std.proofs.lemmas.Bool.{cond-true}
+use Rattle.std.specs.Prelude.{Option, Some, None}
+use Rattle.link_source.specs.Endpoint.{endpoint_of, host_value}
+use Rattle.memory_serving_laws.specs.Leads.{StandsAt}
+use Rattle.link_source.specs.Mirrors.{Content, HasReply, bad_at, mirror_at, number_at, reply_by}
 use Rattle.link_source.specs.Replies.{text_of, text_under}
+use Rattle.link_source.specs.Requests.{Asks}
 use Rattle.link_source.specs.Streams.{Stream}
+use Rattle.link_source.specs.declared.bad_answers.Bad.{Bad}
 use Rattle.link_source.specs.declared.endpoint.Endpoint.{Endpoint}
 use Rattle.link_source.specs.declared.mirrors.Manner.{Manner}
 use Rattle.link_source.specs.declared.mirrors.MemFile.{MemFile}
 use Rattle.range_http.specs.declared.asked.Asked.{Asked}
-use Rattle.memory_reply_laws.specs.Answers.{Has, RequestsAreAnswered, NoneIsNext}
+use Rattle.memory_reply_laws.specs.Answers.{Has, RequestsAreAlike, RequestsAreAnswered}
 use Rattle.request_chain.specs.Exchanges.{IsExchange, LeadsTo, request_for}
-use Rattle.request_chain.specs.Honest.{GaveOf, IsHonest}
+use Rattle.memory_serving_laws.specs.Serving.{NamesMirror, used_among}
+use Rattle.memory_serving_laws.proofs.Counting.{GaveClean, counts, next_number, one_used}
 
 -- a URL leads to one endpoint
 one-endpoint : (url : List ℕ) (a b : Endpoint) → LeadsTo url a → LeadsTo url b → a ≡ b
@@ -36,33 +40,75 @@ pub record GaveReply (asked : Asked) (stream : Stream) (file : MemFile) : Type 0
   pub whole : text_of (reply_by manner (Some file) asked.first asked.last) ≡ stream.received ++ due
   pub last : stream.ended ≡ true → due ≡ []
 
-module _ (answered : RequestsAreAnswered) (none_next : NoneIsNext) (content : Content) (good : content.bad ≡ []) where
-  -- a request for what stands at a URL has its reply
-  gave-reply : (url : List ℕ) (asked : Asked) (stream : Stream) (file : MemFile) (due : List ℕ) → asked.first ≤ asked.last → asked.last < 2 ^ 64
-      → StandsAt content url file → IsExchange url asked stream → GaveOf content stream due → GaveReply asked stream file
-  gave-reply url asked stream file due ordered bounded stands exchange gave =
-      let at = exchange.endpoint in
-      let request : gave.request ≡ request_for asked at = one-first stream.sent (0, gave.request) (0, request_for asked at) gave.sent_is exchange.sent_is in
-      let manner = stands.mirror.manner in
-      let has : Has content at.host at.port at.target manner (Some file) =
-      subst (λ (e : Endpoint). Has content e.host e.port e.target manner (Some file)) (one-endpoint url stands.endpoint at stands.named exchange.leads)
-      (record { mirror = stands.mirror; mirror_is = stands.mirror_is; manner_is = refl; file_is = stands.file_is }) in
-      let reply : gave.reply ≡ text_under (bad_at content at.host at.port) (reply_by manner (Some file) asked.first asked.last) =
-      answered (stream ∷ []) [] gave.reply gave.request at.host at.target at.port asked content content manner (Some file) has
-      (record { newest = stream; older = []; streams_are = refl; host_is = exchange.host_is; port_is = exchange.port_is; nothing_due = refl; sent_is = request; ordered = ordered; bounded = bounded })
-      (gave.reply, gave.answers, refl) in
-      record {
-        manner = manner;
-        due = due;
-        whole =
-            sym (reply ∙ ap (λ bad. text_under bad (reply_by manner (Some file) asked.first asked.last)) (none_next content at.host at.port good)) ∙ sym gave.whole;
-        last = gave.last;
-      }
+module _ (alike : RequestsAreAlike) (answered : RequestsAreAnswered) (among : ℕ → Bool) (old : Content) where
+  -- the mirror of the endpoint, at the time of the request
+  has_there : (at : Content) (url : List ℕ) (endpoint : Endpoint) (file : MemFile) → at.mirrors ≡ old.mirrors → (stands : StandsAt old url file)
+      → LeadsTo url endpoint → Has at endpoint.host endpoint.port endpoint.target stands.mirror.manner (Some file)
+  has_there at url endpoint file mirrors stands leads =
+      let here : Has at stands.endpoint.host stands.endpoint.port stands.endpoint.target stands.mirror.manner (Some file) = record {
+        mirror = stands.mirror;
+        mirror_is = ap (λ mirrors. mirror_at mirrors stands.endpoint.host stands.endpoint.port) mirrors ∙ stands.mirror_is;
+        manner_is = refl;
+        file_is = stands.file_is;
+      } in
+      subst (λ (e : Endpoint). Has at e.host e.port e.target stands.mirror.manner (Some file)) (one-endpoint url stands.endpoint endpoint stands.named leads) here
 
-  -- so did each honest stream in which the request was sent
+  -- what was sent asks the mirror
+  asks_there : (asked : Asked) (stream : Stream) (endpoint : Endpoint) (request : List ℕ) → asked.first ≤ asked.last → asked.last < 2 ^ 64
+      → stream.host ≡ endpoint.host → stream.port ≡ endpoint.port → request ≡ request_for asked endpoint
+      → Asks stream.host stream.port endpoint.target asked.first asked.last request
+  asks_there asked stream endpoint request ordered bounded host port sent =
+      let here : Asks endpoint.host endpoint.port endpoint.target asked.first asked.last request = record {
+        text = sent ∙ alike (host_value endpoint.host endpoint.port) endpoint.target asked;
+        ordered = ordered;
+        bounded = bounded;
+      } in
+      let P : List ℕ → Type 0 = λ h. Asks h endpoint.port endpoint.target asked.first asked.last request in
+      let Q : ℕ → Type 0 = λ p. Asks stream.host p endpoint.target asked.first asked.last request in
+      subst Q (sym port) (subst P (sym host) here)
+
+  -- no bad answer is next where none of these mirrors' was used
+  none_there : (url : List ℕ) (asked : Asked) (stream : Stream) (at after : Content) (endpoint : Endpoint) (request reply : List ℕ) (next : Option Bad)
+      → HasReply at stream.host stream.port request reply after → Asks stream.host stream.port endpoint.target asked.first asked.last request
+      → stream.host ≡ endpoint.host → stream.port ≡ endpoint.port → at.mirrors ≡ old.mirrors → used_among among after ≡ used_among among at
+      → LeadsTo url endpoint → ((number : ℕ) → NamesMirror old url number → among number ≡ true)
+      → bad_at at stream.host stream.port ≡ next → bad_at at endpoint.host endpoint.port ≡ None
+  none_there url asked stream at after endpoint request reply None has asks host port mirrors unused leads is_among is =
+      ap (λ h. bad_at at h endpoint.port) (sym host) ∙ ap (bad_at at stream.host) (sym port) ∙ is
+  none_there url asked stream at after endpoint request reply (Some bad) has asks host port mirrors unused leads is_among is =
+      let used = one_used among at after bad (has.used endpoint.target asked.first asked.last bad asks is) in
+      let next = next_number at stream.host stream.port bad is in
+      let at_old : number_at old.mirrors endpoint.host endpoint.port ≡ Some next.number =
+      ap (λ h. number_at old.mirrors h endpoint.port) (sym host) ∙ ap (number_at old.mirrors stream.host) (sym port)
+      ∙ ap (λ mirrors. number_at mirrors stream.host stream.port) (sym mirrors) ∙ next.number_is in
+      let counted : among bad.mirror ≡ true =
+      ap among next.own ∙ is_among next.number (record { endpoint = endpoint; named = leads; number_is = at_old }) in
+      let one : counts among bad ≡ 1 = cond-true (among bad.mirror) 1 0 counted in
+      absurd (omega (arith, used, one, unused))
+
+  -- a request for what stands at a URL had its reply, where no bad answer of its mirror was used
   pub gave_reply : (url : List ℕ) (asked : Asked) (stream : Stream) (file : MemFile) → asked.first ≤ asked.last → asked.last < 2 ^ 64
-      → StandsAt content url file → IsExchange url asked stream → IsHonest content stream → GaveReply asked stream file
-  gave_reply url asked stream file ordered bounded stands exchange honest = elim honest.1 [
-    | inl nothing ↦ absurd (none-sent stream.sent _ nothing.0 exchange.sent_is)
-    | inr gave ↦ gave-reply url asked stream file honest.0 ordered bounded stands exchange gave
+      → StandsAt old url file → ((number : ℕ) → NamesMirror old url number → among number ≡ true)
+      → IsExchange url asked stream → GaveClean among old stream → GaveReply asked stream file
+  gave_reply url asked stream file ordered bounded stands is_among exchange clean = elim clean.gave [
+    | inl nothing ↦ absurd (none-sent stream.sent _ nothing.none_sent exchange.sent_is)
+    | inr gave ↦
+        let endpoint = exchange.endpoint in
+        let manner = stands.mirror.manner in
+        let request : gave.request ≡ request_for asked endpoint = one-first stream.sent (0, gave.request) (0, request_for asked endpoint) gave.sent_is exchange.sent_is in
+        let asks = asks_there asked stream endpoint gave.request ordered bounded exchange.host_is exchange.port_is request in
+        let none = none_there url asked stream clean.at clean.after endpoint gave.request gave.reply _ gave.answers asks exchange.host_is exchange.port_is
+        clean.mirrors_are clean.unused exchange.leads is_among refl in
+        let has = has_there clean.at url endpoint file clean.mirrors_are stands exchange.leads in
+        let reply : gave.reply ≡ text_under (bad_at clean.at endpoint.host endpoint.port) (reply_by manner (Some file) asked.first asked.last) =
+        answered (stream ∷ []) [] gave.reply gave.request endpoint.host endpoint.target endpoint.port asked clean.at clean.after manner (Some file) has
+        (record { newest = stream; older = []; streams_are = refl; host_is = exchange.host_is; port_is = exchange.port_is; nothing_due = refl; sent_is = request; ordered = ordered; bounded = bounded })
+        (gave.reply, gave.answers, refl) in
+        record {
+          manner = manner;
+          due = clean.due;
+          whole =
+              sym (reply ∙ ap (λ bad. text_under bad (reply_by manner (Some file) asked.first asked.last)) none) ∙ sym gave.whole;
+          last = gave.last;
+        }
   ]

@@ -1,12 +1,10 @@
 -- The streams that a link gained.
-use Rattle.std.proofs.Common.{◌≡◌, inl, inr, List, [], ◌∷◌, ◌++◌, append_assoc, sym, subst, ◌∙◌}
+use Rattle.std.proofs.Common.{◌≡◌, List, [], ◌∷◌, ◌++◌, append_assoc, sym, subst, ◌∙◌}
 use Rattle.std.proofs.lemmas.List.{append_cancel_right}
 use Rattle.std.proofs.lemmas.List.Elements.{All-nil, All-cons, All-head, All-tail}
 use Rattle.std.specs.Prelude.{All}
 use Rattle.link_source.specs.Streams.{Stream}
 use Rattle.request_chain.specs.Chains.{Gains}
-use Rattle.request_chain.specs.Honest.{IsHonest}
-use Rattle.memory_serving_laws.specs.Laws.{GainsAreHonest}
 
 module _ (P : Stream → Type 0) where
   -- the last one, and those before it
@@ -38,10 +36,3 @@ module _ (P : Stream → Type 0) where
   gains_all before now gained top gains is all =
       let stands = on-top before now gained gains in
       stands.all (subst (All P) (append_cancel_right top stands.top before (sym is ∙ stands.now_is)) all)
-
-pub gains_are_honest : GainsAreHonest
-gains_are_honest content before now gained due honest gains = elim honest [
-  | inl same ↦ gains_all (IsHonest content) before now gained [] gains same (All-nil (IsHonest content))
-  | inr (newest, older, is, gave, all) ↦
-      gains_all (IsHonest content) before now gained (newest ∷ older) gains is (All-cons (IsHonest content) newest older (due, gave) all)
-]

@@ -1,6 +1,8 @@
 pub mod Asking
+pub mod Counting
 pub mod Fronts
 pub mod Gained
+pub mod Leading
 pub mod Plans
 pub mod Replies
 pub mod Served

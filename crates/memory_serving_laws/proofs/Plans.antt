@@ -1,25 +1,21 @@
 -- What is served comes, by the plan at hand.
-use Rattle.std.proofs.Common.{◌≡◌, ◌⊎◌, inl, inr, ℕ, zero, suc, ◌+◌, ◌<◌, ◌^◌, List, [], ◌∷◌, ◌++◌, length, refl, ap, sym, ◌∙◌}
-use Rattle.std.proofs.lemmas.Bool.{cond-true}
+use Rattle.std.proofs.Common.{◌≡◌, ◌⊎◌, inl, inr, ℕ, zero, suc, ◌+◌, ◌<◌, ◌^◌, Bool, true, List, [], ◌∷◌, ◌++◌, length, refl, ap, sym, subst, ◌∙◌}
 use Rattle.std.proofs.lemmas.List.Elements.{All-head, All-tail}
-use Rattle.std.proofs.lemmas.Str.{is_utf8-from_IsUtf8}
-use Rattle.std.specs.Prelude.{All, Some, None, IsUtf8}
-use Rattle.std.specs.Str.{is_utf8}
-use Rattle.url.specs.Parser.{parse_url}
+use Rattle.std.specs.Prelude.{All}
 use Rattle.dl_words.specs.Lists.{part_at}
 use Rattle.link_source.specs.Endpoint.{IsUsable}
-use Rattle.link_source.specs.Leads.{StandsAt, IsJoined, Redirects, Leads}
+use Rattle.memory_serving_laws.specs.Leads.{StandsAt, Redirects, Leads}
 use Rattle.link_source.specs.Mirrors.{Content}
 use Rattle.link_source.specs.declared.mirrors.MemFile.{MemFile}
 use Rattle.link_source.specs.declared.mirrors.MemFile.TheVariants.{Bytes}
 use Rattle.span_map.specs.Jobs.{IsJobPart}
-use Rattle.request_chain.specs.Plans.{Done, Open, Lost, Plan, Ask, Over, plan_of}
-use Rattle.request_chain.specs.Redirects.{location_text, joined_to, moved_to, redirect_limit}
-use Rattle.memory_serving_laws.specs.Serving.{GivesAll}
+use Rattle.request_chain.specs.Plans.{Done, Open, Lost, NextAsk, Ask, Over, plan_of}
+use Rattle.request_chain.specs.Redirects.{redirect_limit}
+use Rattle.memory_serving_laws.specs.Serving.{GivesAll, LeadsAmong, LeadsThrough, NamesMirror}
 use Rattle.span_map.specs.declared.jobs.JobPart.{JobPart}
 
 -- the URL leads within the redirects that are left to a resource with the part, and the others are given behind it
-pub record IsServed (content : Content) (part : JobPart) (parts : List JobPart) (url : List ℕ) (count : ℕ) (bytes : List ℕ) : Type 0 where
+pub record IsServed (content : Content) (among : ℕ → Bool) (part : JobPart) (parts : List JobPart) (url : List ℕ) (count : ℕ) (bytes : List ℕ) : Type 0 where
   pub left : ℕ
   pub counts : count + left ≡ redirect_limit
   pub resource : List ℕ
@@ -32,19 +28,21 @@ pub record IsServed (content : Content) (part : JobPart) (parts : List JobPart) 
   pub parts_are : All IsJobPart parts
   pub smalls : All (λ (p : JobPart). p.total < 2 ^ 63) parts
   pub rests : GivesAll content parts rest
+  pub through : (number : ℕ) → LeadsThrough content left url number → among number ≡ true
+  pub parts_among : All (LeadsAmong content among) parts
 
 -- by the plan these bytes come, where all comes
-abbrev pub Comes : Content → Plan → List ℕ → Type 0
-Comes content (Ask part parts url count status) bytes = IsServed content part parts url count bytes
-Comes content (Over Done) bytes = bytes ≡ []
-Comes content (Over Open) bytes = Unit {0}
-Comes content (Over (Lost loss)) bytes = ⊥
+abbrev pub Comes : Content → (ℕ → Bool) → NextAsk → List ℕ → Type 0
+Comes content among (Ask part parts url count status) bytes = IsServed content among part parts url count bytes
+Comes content among (Over Done) bytes = bytes ≡ []
+Comes content among (Over Open) bytes = Unit {0}
+Comes content among (Over (Lost loss)) bytes = ⊥
 
 -- by the parts that are given
-pub plan_comes : (content : Content) (parts : List JobPart) (bytes : List ℕ) → All IsJobPart parts → All (λ (p : JobPart). p.total < 2 ^ 63) parts
-    → GivesAll content parts bytes → Comes content (plan_of parts) bytes
-plan_comes content [] bytes parts_are smalls gives = gives
-plan_comes content (part ∷ parts) bytes parts_are smalls (front, rest, gives, is, rests) = record {
+pub plan_comes : (content : Content) (among : ℕ → Bool) (parts : List JobPart) (bytes : List ℕ) → All IsJobPart parts → All (λ (p : JobPart). p.total < 2 ^ 63) parts
+    → All (LeadsAmong content among) parts → GivesAll content parts bytes → Comes content among (plan_of parts) bytes
+plan_comes content among [] bytes parts_are smalls leads gives = gives
+plan_comes content among (part ∷ parts) bytes parts_are smalls leads (front, rest, gives, is, rests) = record {
   left = redirect_limit;
   counts = refl;
   resource = gives.resource;
@@ -57,6 +55,8 @@ plan_comes content (part ∷ parts) bytes parts_are smalls (front, rest, gives, 
   parts_are = All-tail IsJobPart part parts parts_are;
   smalls = All-tail (λ (p : JobPart). p.total < 2 ^ 63) part parts smalls;
   rests = rests;
+  through = All-head (LeadsAmong content among) part parts leads;
+  parts_among = All-tail (LeadsAmong content among) part parts leads;
 }
 
 -- ---- where a URL leads
@@ -76,6 +76,16 @@ leads_on content (suc more) url bytes (inl stands) = inl stands
 leads_on content (suc more) url bytes (inr (next, redirects, leads)) =
     inr (record { more = more; one = refl; next = next; redirects = redirects; leads = leads })
 
+-- a URL leads through the mirror that it names, and through those that the next one leads through
+pub names_leads : (content : Content) (left : ℕ) (url : List ℕ) (number : ℕ) → NamesMirror content url number → LeadsThrough content left url number
+names_leads content zero url number names = names
+names_leads content (suc more) url number names = inl names
+
+pub next_leads : (content : Content) (left : ℕ) (url bytes : List ℕ) (on : LeadsOn content left url bytes) (number : ℕ)
+    → LeadsThrough content on.more on.next number → LeadsThrough content left url number
+next_leads content left url bytes on number leads =
+    subst (λ n. LeadsThrough content n url number) (sym on.one) (inr (on.next, on.redirects, leads))
+
 usable-at : (content : Content) (url : List ℕ) (file : MemFile) → StandsAt content url file → IsUsable url
 usable-at content url file stands = (stands.named.0, stands.named.1, stands.named.2)
 
@@ -84,11 +94,3 @@ usable content left url bytes leads = elim (leads_on content left url bytes lead
   | inl stands ↦ usable-at content url _ stands
   | inr on ↦ usable-at content url _ on.redirects.stands
 ]
-
--- the next URL is the location, joined to the one that has moved
-pub moved_on : (url location next : List ℕ) → IsUtf8 location → IsJoined url location next → moved_to url location ≡ Some next
-moved_on url location next text joined =
-    cond-true (is_utf8 location) (joined_to (parse_url None url) location) None (is_utf8-from_IsUtf8 location text)
-    ∙ ap (λ parsed. joined_to parsed location) joined.base_is
-    ∙ ap location_text joined.joined_is
-    ∙ ap Some (sym joined.next_is)

@@ -5,9 +5,8 @@ use Rattle.std.proofs.lemmas.List.{take_all}
 use Rattle.std.specs.Prelude.{nat_le, nat_lt, codes, Option, Some, unwrap_or}
 use Rattle.body_frames.specs.Bodies.{StreamBody, content_of}
 use Rattle.dl_words.specs.Lists.{part_at}
-use Rattle.link_source.specs.Leads.{IsReadable}
 use Rattle.link_source.specs.Mirrors.{content_reply}
-use Rattle.link_source.specs.Replies.{bare_reply, moved, text_of}
+use Rattle.link_source.specs.Replies.{text_of}
 use Rattle.link_source.specs.declared.mirrors.Manner.{Manner}
 use Rattle.link_source.specs.declared.mirrors.Manner.TheVariants as manners
 use Rattle.range_http.specs.declared.asked.Asked.{Asked}
@@ -17,8 +16,9 @@ use Rattle.range_http.specs.declared.head.Head.{Head}
 use Rattle.range_http.specs.declared.verdict.Verdict.{Verdict}
 use Rattle.range_http.specs.declared.verdict.Verdict.TheVariants.{Part, Whole, Moved}
 use Rattle.range_http.specs.Fields.{values_of, sole}
+use Rattle.range_http.specs.Verdict.{verdict_of}
 use Rattle.memory_reply_laws.specs.Reading.{BeginsWithHead, ReadsAs, IsKnownAs, framing_seen}
-use Rattle.memory_reply_laws.specs.Replies.{AsksWithin, PartIsRead, ChunkedPartIsRead, WholeIsRead, StreamIsRead, MovedIsRead, last_of}
+use Rattle.memory_reply_laws.specs.Replies.{AsksWithin, PartIsRead, ChunkedPartIsRead, WholeIsRead, StreamIsRead, last_of}
 use Rattle.reply_reader.specs.Answers.{Turn, Given, Away, Answer, Answers, without_bytes, slice_answer, part_slice, whole_slice, size_to, answer_by}
 use Rattle.reply_reader.specs.Heads.{HasFinalHead, HasInterims}
 use Rattle.reply_reader.specs.Slices.{Slice, framing_told, came_of, has_come}
@@ -26,10 +26,10 @@ use Rattle.reply_reader.specs.Slices.{Slice, framing_told, came_of, has_come}
 -- ---- heads
 
 -- a head whose status isn't 1xx is the final one
-has-final-head : (reply : List ℕ) (asked : Asked) (status used : ℕ) (verdict : Verdict) → (nat_le 100 status && nat_lt status 200) ≡ false
+pub has_final_head : (reply : List ℕ) (asked : Asked) (status used : ℕ) (verdict : Verdict) → (nat_le 100 status && nat_lt status 200) ≡ false
     → (has : BeginsWithHead reply asked status used verdict) → HasFinalHead reply has.head used
 unfolding HasInterims
-has-final-head reply asked status used verdict final has = record {
+has_final_head reply asked status used verdict final has = record {
   before = 0;
   size = used;
   interims = record { count = 0; few = zero-le; interims = refl };
@@ -83,7 +83,7 @@ content-answers reply content wanted asked status verdict framing final read tak
     inr (inr (record {
       head = head;
       used = read.used;
-      begins = has-final-head reply asked status read.used verdict final read.head;
+      begins = has_final_head reply asked status read.used verdict final read.head;
       is = sym (ap (λ v. answer_by head asked v stream false) read.head.means ∙ takes.answers head stream
           ∙ whole-slice takes.slice asked.last stream content wanted body takes.taken takes.all);
     }))
@@ -149,17 +149,15 @@ module _ (bytes : List ℕ) (asked : Asked) (inside : IsInside bytes asked) wher
 
 -- ---- elsewhere
 
-pub moved_answers : MovedIsRead → (location : List ℕ) (asked : Asked) → IsReadable location
-    → Answers asked (text_of (bare_reply (moved location))) false (without_bytes (Away 302 location))
-moved_answers moved_is_read location asked readable =
-    let read = moved_is_read location asked readable in
-    let head = read.has.head in
-    let stream = drop read.used (text_of (bare_reply (moved location))) in
+-- the head of a moved resource answers with its location
+pub moved_answers : (reply : List ℕ) (asked : Asked) (head : Head) (used : ℕ) (text : List ℕ) → HasFinalHead reply head used → verdict_of head asked ≡ Moved
+    → sole (values_of head (codes "location")) ≡ Some text → Answers asked reply false (without_bytes (Away head.status text))
+moved_answers reply asked head used text read means told =
+    let stream = drop used reply in
     inr (inr (record {
       head = head;
-      used = read.used;
-      begins = has-final-head (text_of (bare_reply (moved location))) asked 302 read.used Moved refl read.has;
-      is = sym (ap (λ v. answer_by head asked v stream false) read.has.means
-          ∙ ap (λ s. without_bytes (Away s (unwrap_or (sole (values_of head (codes "location"))) []))) read.has.status_is
-          ∙ ap (λ (values : List (List ℕ)). without_bytes (Away 302 (unwrap_or (sole values) []))) read.location_is.only);
+      used = used;
+      begins = read;
+      is = sym (ap (λ v. answer_by head asked v stream false) means
+          ∙ ap (λ (values : Option (List ℕ)). without_bytes (Away head.status (unwrap_or values []))) told);
     }))

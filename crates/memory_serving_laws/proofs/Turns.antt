@@ -1,51 +1,61 @@
--- What an honest stream answers.
-use Rattle.std.proofs.Common.{◌≡◌, ◌⊎◌, inl, inr, ℕ, ◌<◌, ◌≤◌, ◌^◌, List, [], ap}
-use Rattle.link_source.specs.Leads.{StandsAt, IsReadable}
+-- What a stream answers that gave a true reply.
+use Rattle.std.proofs.Common.{◌≡◌, ◌⊎◌, inl, inr, ℕ, ◌<◌, ◌≤◌, ◌^◌, Bool, true, List, [], ◌++◌, ap, sym}
+use Rattle.memory_serving_laws.specs.Leads.{StandsAt, Redirects}
 use Rattle.link_source.specs.Mirrors.{Content}
+use Rattle.link_source.specs.Replies.{bare_reply, moved, text_of}
 use Rattle.link_source.specs.Streams.{Stream}
 use Rattle.link_source.specs.declared.mirrors.MemFile.TheVariants.{Bytes, Moved}
 use Rattle.range_http.specs.declared.asked.Asked.{Asked}
-use Rattle.memory_reply_laws.specs.Answers.{RequestsAreAnswered, NoneIsNext}
-use Rattle.memory_reply_laws.specs.Replies.{PartIsRead, ChunkedPartIsRead, WholeIsRead, StreamIsRead, MovedIsRead}
-use Rattle.reply_reader.specs.Answers.{Due, Away, Answer, without_bytes, AnswersOnce, AnswersStay}
+use Rattle.memory_reply_laws.specs.Answers.{RequestsAreAlike, RequestsAreAnswered}
+use Rattle.memory_reply_laws.specs.Replies.{PartIsRead, ChunkedPartIsRead, WholeIsRead, StreamIsRead}
+use Rattle.reply_reader.specs.Answers.{Due, Away, Answer, without_bytes, AnswersOnce, AnswersStay, AnswersGrow}
 use Rattle.request_chain.specs.Exchanges.{Replies}
-use Rattle.request_chain.specs.Honest.{IsHonest}
+use Rattle.memory_serving_laws.specs.Serving.{NamesMirror}
 use Rattle.memory_serving_laws.proofs.Asking.{gave_reply}
-use Rattle.memory_serving_laws.proofs.Fronts.{front_answers}
+use Rattle.memory_serving_laws.proofs.Counting.{GaveClean}
+use Rattle.memory_serving_laws.proofs.Fronts.{Waits, front_answers}
 use Rattle.memory_serving_laws.proofs.Replies.{IsInside, given, wanted, content_answers, moved_answers}
 
 -- the laws of replies and of their answers that are used
 pub record Laws : Type 0 where
   pub once : AnswersOnce
   pub stay : AnswersStay
+  pub grow : AnswersGrow
   pub part : PartIsRead
   pub chunked_part : ChunkedPartIsRead
   pub whole : WholeIsRead
   pub stream : StreamIsRead
-  pub moved : MovedIsRead
+  pub alike : RequestsAreAlike
   pub answered : RequestsAreAnswered
-  pub none_next : NoneIsNext
 
-module _ (laws : Laws) (content : Content) (good : content.bad ≡ []) (url : List ℕ) (asked : Asked) (stream : Stream) (answer : Answer)
-    (ordered : asked.first ≤ asked.last) (bounded : asked.last < 2 ^ 64) (replies : Replies url asked stream answer) (honest : IsHonest content stream) where
+module _ (laws : Laws) (among : ℕ → Bool) (old : Content) (url : List ℕ) (asked : Asked) (stream : Stream) (answer : Answer)
+    (ordered : asked.first ≤ asked.last) (bounded : asked.last < 2 ^ 64) (replies : Replies url asked stream answer)
+    (is_among : (number : ℕ) → NamesMirror old url number → among number ≡ true) (clean : GaveClean among old stream) where
+  nothing_waits : (whole : Answer) → answer ≡ without_bytes Due → Waits whole answer
+  nothing_waits whole is = record {
+    due = ap (λ (a : Answer). a.turn) is;
+    behind = whole.got;
+    front = ap (λ (a : Answer). a.got ++ whole.got) (sym is);
+  }
+
   -- at a resource: all that is asked for, or more is due
-  pub resource_turn : (bytes : List ℕ) → StandsAt content url (Bytes bytes) → IsInside bytes asked
-      → (answer.turn ≡ Due) ⊎ (answer ≡ given asked (wanted bytes asked))
+  pub resource_turn : (bytes : List ℕ) → StandsAt old url (Bytes bytes) → IsInside bytes asked
+      → Waits (given asked (wanted bytes asked)) answer ⊎ (answer ≡ given asked (wanted bytes asked))
   resource_turn bytes stands inside = elim replies [
-    | inl nothing ↦ inl (ap (λ (a : Answer). a.turn) nothing.1)
+    | inl nothing ↦ inl (nothing_waits (given asked (wanted bytes asked)) nothing.1)
     | inr asking ↦
-        let gave = gave_reply laws.answered laws.none_next content good url asked stream (Bytes bytes) ordered bounded stands asking.0 honest in
-        front_answers laws.once laws.stay asked _ stream.received gave.due stream.ended (given asked (wanted bytes asked)) answer
+        let gave = gave_reply laws.alike laws.answered among old url asked stream (Bytes bytes) ordered bounded stands is_among asking.0 clean in
+        front_answers laws.once laws.stay laws.grow asked _ stream.received gave.due stream.ended (given asked (wanted bytes asked)) answer
         (content_answers bytes asked inside laws.part laws.chunked_part laws.whole laws.stream gave.manner) (λ e. cc) gave.whole gave.last asking.1
   ]
 
   -- where it has moved: its location, or more is due
-  pub moved_turn : (location : List ℕ) → StandsAt content url (Moved location) → IsReadable location
-      → (answer.turn ≡ Due) ⊎ (answer ≡ without_bytes (Away 302 location))
-  moved_turn location stands readable = elim replies [
-    | inl nothing ↦ inl (ap (λ (a : Answer). a.turn) nothing.1)
+  pub moved_turn : (next : List ℕ) (on : Redirects old url next)
+      → Waits (without_bytes (Away on.head.status on.text)) answer ⊎ (answer ≡ without_bytes (Away on.head.status on.text))
+  moved_turn next on = elim replies [
+    | inl nothing ↦ inl (nothing_waits (without_bytes (Away on.head.status on.text)) nothing.1)
     | inr asking ↦
-        let gave = gave_reply laws.answered laws.none_next content good url asked stream (Moved location) ordered bounded stands asking.0 honest in
-        front_answers laws.once laws.stay asked _ stream.received gave.due stream.ended (without_bytes (Away 302 location)) answer
-        (moved_answers laws.moved location asked readable) (λ e. cc) gave.whole gave.last asking.1
+        let gave = gave_reply laws.alike laws.answered among old url asked stream (Moved on.location) ordered bounded on.stands is_among asking.0 clean in
+        front_answers laws.once laws.stay laws.grow asked _ stream.received gave.due stream.ended (without_bytes (Away on.head.status on.text)) answer
+        (moved_answers (text_of (bare_reply (moved on.location))) asked on.head on.used on.text on.read (on.means asked) on.told) (λ e. cc) gave.whole gave.last asking.1
   ]

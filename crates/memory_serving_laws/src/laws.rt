@@ -1,10 +1,11 @@
-// What mirrors in memory serve comes.
-ghost use Rattle.memory_serving_laws.specs.Laws.{ServedComes, GainsAreHonest};
+// What comes by streams that gave the answers of mirrors in memory.
+ghost use Rattle.memory_serving_laws.specs.Leads.{LeadsOnce, VisibleLocationsLead};
+ghost use Rattle.memory_serving_laws.specs.Laws.{ServedComes, CleanMirrorsUseNone, GoodMirrorsStay, GoodMirrorsServe};
 
 use memory_reply_laws::{replies_are_read, requests_are_answered};
-use reply_reader::streams_have_one_answer;
+use reply_reader::{final_heads_are_one_and_stay, streams_have_one_answer};
 
-/// What is served comes, or more of it is due.
+/// What is served comes, or a bad answer of the mirrors that its URLs lead through was used.
 pub fn served_comes()
     ensures { ServedComes }
 {
@@ -13,7 +14,25 @@ pub fn served_comes()
     requests_are_answered();
 }
 
-/// The streams that a link gained are honest where its mirrors are.
-pub fn gains_are_honest()
-    ensures { GainsAreHonest }
+/// Mirrors without bad answers use none, and stay as they are.
+pub fn clean_mirrors_stay()
+    ensures none_used { CleanMirrorsUseNone }
+    ensures stay { GoodMirrorsStay }
 {}
+
+/// Mirrors without bad answers serve what they have.
+pub fn good_mirrors_serve()
+    ensures { GoodMirrorsServe }
+{
+    served_comes();
+    clean_mirrors_stay();
+}
+
+/// A URL leads to one resource at most, over any number of redirects, and over each location of visible characters.
+pub fn urls_lead_once()
+    ensures once { LeadsOnce }
+    ensures visible { VisibleLocationsLead }
+{
+    final_heads_are_one_and_stay();
+    replies_are_read();
+}

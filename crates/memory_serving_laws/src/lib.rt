@@ -1,7 +1,7 @@
-//! Laws of what mirrors in memory serve: which bytes come by streams that gave their replies, or fronts of these. The
-//! functions do nothing when they run.
+//! Laws of what mirrors in memory serve: which bytes come by streams that gave their answers, or fronts of these, and
+//! which bad answers were used where others come. The functions do nothing when they run.
 #![tactic(auto)]
 
 mod laws;
 
-pub use laws::{gains_are_honest, served_comes};
+pub use laws::{clean_mirrors_stay, good_mirrors_serve, served_comes, urls_lead_once};

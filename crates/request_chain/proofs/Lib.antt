@@ -4,7 +4,7 @@ mod ContentLemmas
 mod CourseLemmas
 mod GainLemmas
 mod HeadLemmas
-mod HonestLemmas
+mod AnsweredLemmas
 mod KnownLemmas
 mod Leading
 mod MovedLemmas

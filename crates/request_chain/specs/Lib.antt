@@ -1,9 +1,9 @@
+pub mod Answered
 pub mod Chains
 pub mod Contents
 pub mod Courses
 pub mod Exchanges
 pub mod Fetched
-pub mod Honest
 pub mod Links
 pub mod Plans
 pub mod Probes

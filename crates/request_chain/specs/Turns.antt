@@ -1,5 +1,6 @@
 -- The steps of a call of a chain.
-use Rattle.std.specs.Prelude.{◌≡◌, ℕ, ◌+◌, ◌*◌, List, ◌++◌, length}
+use Rattle.std.specs.Prelude.{◌≡◌, ◌≢◌, ℕ, ◌+◌, ◌*◌, true, List, ◌++◌, length}
+use Rattle.link_source.specs.Link.{LinkState}
 use Rattle.link_source.specs.Streams.{Stream}
 use Rattle.range_http.specs.declared.head.Head.{Head}
 use Rattle.range_http.specs.declared.verdict.Verdict.TheVariants.{Moved}
@@ -8,11 +9,12 @@ use Rattle.span_map.specs.declared.jobs.JobPart.{JobPart}
 use Rattle.reply_reader.specs.Heads.{HasFinalHead}
 use Rattle.reply_reader.specs.declared.loss.Loss.{Loss}
 use Rattle.request_chain.specs.Chains.{Gains, received_by, IsChain, TellsLoss}
-use Rattle.request_chain.specs.Courses.{plan_now, IfAsking}
+use Rattle.request_chain.specs.Courses.{plan_now, IsAsking, IfAsking}
 use Rattle.request_chain.specs.Plans.{asked_of}
 use Rattle.request_chain.specs.Stages.{IsSent, IsReading, steps_of}
 use Rattle.request_chain.specs.declared.chain.Chain.{Chain}
 use Rattle.request_chain.specs.declared.course.Course.{Course}
+use Rattle.request_chain.specs.declared.stage.Stage.TheVariants.{Asking}
 
 -- the state after a step that began with `was` bytes received
 pub record Steps (parts : List JobPart) (before used : List Stream) (bytes : List ℕ) (now : List Stream) (added : List ℕ) (was : ℕ) (chain : Chain) : Type 0 where
@@ -50,3 +52,7 @@ weight_of chain = 3 * length chain.room.inbox + steps_of chain.stage
 -- the head says that what is asked for was moved
 abbrev pub HasMoved : Course → Head → Type 0
 HasMoved course head = IfAsking (plan_now course) (λ part others url count status. verdict_of head (asked_of part) ≡ Moved)
+
+-- where a reply is read on, the link listens
+abbrev pub MayGoOn : Chain → LinkState → Type 0
+MayGoOn chain link = chain.stage ≢ Asking → IsAsking (plan_now chain.course) → link.listens ≡ true

@@ -1,19 +1,21 @@
 // A chain of requests over one link.
 ghost use Rattle.std.specs.Prelude.{◌≡◌, ◌≢◌, ◌⊎◌, ◌≤◌, ◌<◌, ◌+◌, ◌-◌, ◌*◌, ◌++◌, [], List, ℕ, true, false, Ok, Err, All, IsTrue, IsFalse, OnOk, IfOk, IfErr, MatchResult, length, vec_len, vec_capacity};
 ghost use Rattle.dl_words.specs.Counts.{Rose};
+ghost use Rattle.link_source.specs.Link.{LinkState};
 ghost use Rattle.link_source.specs.Streams.{Stream};
 ghost use Rattle.range_http.specs.Verdict.{verdict_of};
 ghost use Rattle.span_map.specs.declared.jobs.JobPart.{JobPart};
 ghost use Rattle.reply_reader.specs.Heads.{HasFinalHead};
 ghost use Rattle.reply_reader.specs.Losses.{IsKnown};
 ghost use Rattle.reply_reader.specs.declared.loss.Loss.TheVariants.{Link};
-ghost use Rattle.request_chain.specs.Links.{CountsLinkLoss, IsHonestSince, StaysHonest};
+ghost use Rattle.request_chain.specs.Answered.{KeepsAnswers};
+ghost use Rattle.request_chain.specs.Links.{CountsLinkLoss};
 ghost use Rattle.request_chain.specs.Chains.{IsChain, HasBrought, TellsLoss, Gains, ReadsChain, Loses};
 ghost use Rattle.span_map.specs.Jobs.{IsJobPart};
 ghost use Rattle.request_chain.specs.Courses.{plan_now, IsAsking};
 ghost use Rattle.request_chain.specs.Plans.{Over, Done};
 ghost use Rattle.request_chain.specs.Stages.{IsReading, IsReadingHead, IsReadingContent, IsSent, steps_of};
-ghost use Rattle.request_chain.specs.Turns.{Steps, ReceivesMore, StepLoses, HeadIsRead, HasMoved, weight_of};
+ghost use Rattle.request_chain.specs.Turns.{Steps, ReceivesMore, StepLoses, HeadIsRead, HasMoved, MayGoOn, weight_of};
 
 use crate::content::{Content, begin};
 use crate::course::{Course, Moved};
@@ -48,23 +50,12 @@ pub struct ChainRead {
     pub done: bool,
 }
 
-// Closes the newest stream where no more is asked.
-fn end<L: Links>(link: &mut L, done: bool)
-    ensures streams { IsTrue L.tells → (L.state link.new).streams ≡ (L.state link.old).streams }
-    ensures held { IsTrue L.tells → (L.state link.new).due ≡ (L.state link.old).due }
-    ensures kept { IsTrue L.tells → (L.state link.new).content ≡ (L.state link.old).content }
-    ensures faults { L.faults link.new ≡ L.faults link.old }
-{
-    if done {
-        link.hang_up();
-    }
-}
-
 impl Chain {
     pub fn new(parts: JobParts, room: ChainRoom) -> Self
         requires parts { All IsJobPart parts }
         ensures chain { IsChain parts [] [] result }
         ensures brought { HasBrought parts [] [] [] }
+        ensures may { (link : LinkState) → MayGoOn result link }
     {
         let mut room = room;
         room.inbox.clear();
@@ -89,18 +80,18 @@ impl Chain {
         requires none_open { self.old.stage ≡ Stage.Asking }
         ensures asks { IsTrue L.tells
             → (parts : List JobPart) (before used : List Stream) (bytes : List ℕ)
-            → IsChain parts used bytes self.old → Gains before (L.state link.old).streams used → MatchResult result
+            → IsChain parts used bytes self.old → Gains before (L.state link.old).streams used
+            → MatchResult result
             (λ _. Steps parts before used bytes (L.state link.new).streams [] self.old.taken self.new)
             (StepLoses parts before used bytes (L.state link.new).streams [] self.old.taken (L.faults link.new) self.new) }
         ensures course { self.new.course ≡ self.old.course }
         ensures taken { self.new.taken ≡ self.old.taken }
         ensures smaller { OnOk result (weight_of self.new < weight_of self.old) }
+        ensures listens { OnOk result (IsTrue L.tells → (L.state link.new).listens ≡ true) }
         ensures link { IfErr result (CountsLinkLoss (L.faults link.old) (L.faults link.new)) }
         ensures known { IfErr result IsKnown }
-        ensures honest { IsTrue L.tells
-            → (L.state link.old).content.bad ≡ [] → (before : List Stream)
-            → IsHonestSince before (L.state link.old)
-            → StaysHonest before (L.state link.old) (L.state link.new) }
+        ensures answered { IsTrue L.tells → (before : List Stream)
+            → KeepsAnswers before (L.state link.old) (L.state link.new) }
         ensures later { L.faults link.old ≤ L.faults link.new }
     {
         let asked = self.course.asked();
@@ -114,9 +105,11 @@ impl Chain {
         requires sent { self.old.stage ≢ Stage.Asking }
         requires none_waits { self.old.room.inbox ≡ [] }
         requires more { self.old.taken < allow }
+        requires listens { IsTrue L.tells → (L.state link.old).listens ≡ true }
         ensures receives { IsTrue L.tells
             → (parts : List JobPart) (before used : List Stream) (bytes : List ℕ)
-            → IsChain parts used bytes self.old → Gains before (L.state link.old).streams used → MatchResult result
+            → IsChain parts used bytes self.old → Gains before (L.state link.old).streams used
+            → MatchResult result
             (λ _. ReceivesMore parts before used bytes (L.state link.new).streams self.old.taken self.new)
             (StepLoses parts before used bytes (L.state link.new).streams [] self.old.taken (L.faults link.new) self.new) }
         ensures course { self.new.course ≡ self.old.course }
@@ -125,13 +118,13 @@ impl Chain {
         ensures same { IfErr result (λ _. self.new.taken ≡ self.old.taken) }
         ensures some { OnOk result (0 < length self.new.room.inbox) }
         ensures few { self.new.taken ≤ allow }
+        ensures listens { IsTrue L.tells → (L.state link.new).listens ≡ true }
         ensures link { IfErr result (CountsLinkLoss (L.faults link.old) (L.faults link.new)) }
         ensures known { IfErr result IsKnown }
-        ensures honest { IsTrue L.tells
+        ensures answered { IsTrue L.tells
             → (parts : List JobPart) (before used : List Stream) (bytes : List ℕ)
             → IsChain parts used bytes self.old → Gains before (L.state link.old).streams used
-            → IsHonestSince before (L.state link.old)
-            → StaysHonest before (L.state link.old) (L.state link.new) }
+            → KeepsAnswers before (L.state link.old) (L.state link.new) }
         ensures later { L.faults link.old ≤ L.faults link.new }
     {
         match self.room.inbox.refill(link, allow - self.taken) {
@@ -157,7 +150,8 @@ impl Chain {
         requires asking { IsAsking (plan_now self.old.course) }
         requires none_open { self.old.stage ≡ Stage.Asking }
         ensures follows { (parts : List JobPart) (used : List Stream) (bytes : List ℕ)
-            → HeadIsRead parts used self.old.course self.old.room.inbox bytes head.now → HasMoved self.old.course head.now → MatchResult result
+            → HeadIsRead parts used self.old.course self.old.room.inbox bytes head.now
+            → HasMoved self.old.course head.now → MatchResult result
             (λ _. IsChain parts used bytes self.new)
             (λ loss. (faults : ℕ) → TellsLoss parts used bytes faults loss) }
         ensures small { OnOk result (weight_of self.new ≤ 2) }
@@ -191,10 +185,12 @@ impl Chain {
         requires asking { IsAsking (plan_now self.old.course) }
         requires none_open { self.old.stage ≡ Stage.Asking }
         ensures starts { (parts : List JobPart) (used : List Stream) (bytes : List ℕ)
-            → HeadIsRead parts used self.old.course self.old.room.inbox bytes head.now → MatchResult result
+            → HeadIsRead parts used self.old.course self.old.room.inbox bytes head.now
+            → MatchResult result
             (λ _. IsChain parts used bytes self.new)
             (λ loss. (faults : ℕ) → TellsLoss parts used bytes faults loss) }
-        ensures small { OnOk result ((weight_of self.new ≤ 3 * length self.old.room.inbox) ⊎ (weight_of self.new ≤ 2)) }
+        ensures small { OnOk result ((weight_of self.new ≤ 3 * length self.old.room.inbox)
+            ⊎ (weight_of self.new ≤ 2)) }
         ensures taken { self.new.taken ≡ self.old.taken }
         ensures own { IfErr result (λ loss. (count : ℕ) → loss ≡ Link count → ⊥) }
         ensures known { IfErr result IsKnown }
@@ -217,7 +213,8 @@ impl Chain {
         requires none_open { self.old.stage ≡ Stage.Asking }
         requires some { 0 < length self.old.room.inbox }
         ensures reads { (parts : List JobPart) (used : List Stream) (bytes : List ℕ)
-            → IsReadingHead parts used self.old.course self.old.room.inbox bytes reader → MatchResult result
+            → IsReadingHead parts used self.old.course self.old.room.inbox bytes reader
+            → MatchResult result
             (λ _. IsChain parts used bytes self.new)
             (λ loss. (faults : ℕ) → TellsLoss parts used bytes faults loss) }
         ensures smaller { OnOk result (weight_of self.new < 3 * length self.old.room.inbox + 1) }
@@ -315,6 +312,7 @@ impl Chain {
         requires room { vec_len out.old + room ≤ vec_capacity out.old }
         requires few { self.old.taken ≤ allow }
         requires more { (self.old.taken < allow) ⊎ (0 < length self.old.room.inbox) }
+        requires may { IsTrue L.tells → MayGoOn self.old (L.state link.old) }
         ensures steps { IsTrue L.tells
             → (parts : List JobPart) (before used : List Stream) (bytes : List ℕ)
             → IsChain parts used bytes self.old → Gains before (L.state link.old).streams used
@@ -325,13 +323,13 @@ impl Chain {
         ensures capacity { vec_capacity out.old ≤ vec_capacity out.new }
         ensures few { self.new.taken ≤ allow }
         ensures smaller { OnOk result (weight_of self.new + 3 * (allow - self.new.taken) < weight_of self.old + 3 * (allow - self.old.taken)) }
+        ensures may { OnOk result (IsTrue L.tells → MayGoOn self.new (L.state link.new)) }
         ensures link { IfErr result (CountsLinkLoss (L.faults link.old) (L.faults link.new)) }
         ensures known { IfErr result IsKnown }
-        ensures honest { IsTrue L.tells → (L.state link.old).content.bad ≡ []
+        ensures answered { IsTrue L.tells
             → (parts : List JobPart) (before used : List Stream) (bytes : List ℕ)
             → IsChain parts used bytes self.old → Gains before (L.state link.old).streams used
-            → IsHonestSince before (L.state link.old)
-            → StaysHonest before (L.state link.old) (L.state link.new) }
+            → KeepsAnswers before (L.state link.old) (L.state link.new) }
         ensures later { L.faults link.old ≤ L.faults link.new }
     {
         if self.stage.is_asking() {
@@ -370,6 +368,7 @@ impl Chain {
         requires some_room { 0 < room }
         requires room { vec_len out.old + room ≤ vec_capacity out.old }
         requires some { 0 < allow }
+        requires may { IsTrue L.tells → MayGoOn self.old (L.state link.old) }
         ensures reads { IsTrue L.tells
             → (parts : List JobPart) (before used : List Stream) (bytes : List ℕ)
             → IsChain parts used bytes self.old → Gains before (L.state link.old).streams used
@@ -378,18 +377,19 @@ impl Chain {
             (Loses parts before used bytes (L.state link.new).streams added allow (L.faults link.new) self.new) }
 
         // Also of a link that tells nothing.
-        ensures full { IfOk result (λ read. (read.done ≡ true) ⊎ (vec_len out.old + room ≤ vec_len out.new) ⊎ (read.taken ≡ allow)) }
+        ensures full { IfOk result (λ read. (read.done ≡ true)
+            ⊎ (vec_len out.old + room ≤ vec_len out.new) ⊎ (read.taken ≡ allow)) }
         ensures taken { IfOk result (λ read. read.taken ≡ self.new.taken) }
+        ensures may { OnOk result (IsTrue L.tells → MayGoOn self.new (L.state link.new)) }
         ensures few { self.new.taken ≤ allow }
         ensures len { vec_len out.new ≤ vec_len out.old + room }
         ensures capacity { vec_capacity out.old ≤ vec_capacity out.new }
         ensures link { IfErr result (CountsLinkLoss (L.faults link.old) (L.faults link.new)) }
         ensures known { IfErr result IsKnown }
-        ensures honest { IsTrue L.tells → (L.state link.old).content.bad ≡ []
+        ensures answered { IsTrue L.tells
             → (parts : List JobPart) (before used : List Stream) (bytes : List ℕ)
             → IsChain parts used bytes self.old → Gains before (L.state link.old).streams used
-            → IsHonestSince before (L.state link.old)
-            → StaysHonest before (L.state link.old) (L.state link.new) }
+            → KeepsAnswers before (L.state link.old) (L.state link.new) }
         ensures later { L.faults link.old ≤ L.faults link.new }
     {
         streams_have_one_answer();
@@ -402,11 +402,9 @@ impl Chain {
             gained = out.len().saturating_sub(before);
         }
         self.stage.check(alloc)?;
-        let done = self.course.is_over();
-        end(link, done);
         Ok(ChainRead {
             taken: self.taken,
-            done,
+            done: self.course.is_over(),
         })
     }
 

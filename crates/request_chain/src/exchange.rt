@@ -1,11 +1,12 @@
 // One request, on a stream of its own.
-ghost use Rattle.std.specs.Prelude.{◌≡◌, ◌⊎◌, ◌≤◌, ℕ, List, [], IsTrue, IfOk, IfErr, OnOk};
+ghost use Rattle.std.specs.Prelude.{◌≡◌, ◌⊎◌, ◌≤◌, ℕ, List, [], true, IsTrue, IfOk, IfErr, OnOk};
 ghost use Rattle.dl_words.specs.Counts.{Rose};
 ghost use Rattle.reply_reader.specs.Losses.{IsKnown};
 ghost use Rattle.reply_reader.specs.declared.loss.Loss.TheVariants.{Link, NoMemory};
 ghost use Rattle.link_source.specs.Endpoint.{IsUsable};
 ghost use Rattle.link_source.specs.Streams.{Stream};
-ghost use Rattle.request_chain.specs.Links.{CountsLinkLoss, IsHonestSince, StaysHonest};
+ghost use Rattle.request_chain.specs.Answered.{KeepsAnswers};
+ghost use Rattle.request_chain.specs.Links.{CountsLinkLoss};
 ghost use Rattle.request_chain.specs.Exchanges.{LeadsTo, request_for};
 ghost use Rattle.request_chain.specs.Plans.{unusable};
 ghost use Rattle.request_chain.specs.Sending.{loss_by, IsOpened, IsUnopened};
@@ -32,7 +33,8 @@ pub(crate) fn link_loss<L: Links>(link: &L, error: IoErr) -> Loss
 /// The endpoint of a URL, to which a reply of this status led.
 fn endpoint(alloc: Global, url: &str, status: u16) -> Result<Endpoint, Loss>
     ensures leads { IfOk result (λ endpoint. LeadsTo url.now endpoint) }
-    ensures lost { IfErr result (λ loss. (loss ≡ NoMemory) ⊎ ((loss ≡ unusable status) × (IsUsable url.now → ⊥))) }
+    ensures lost { IfErr result (λ loss. (loss ≡ NoMemory)
+        ⊎ ((loss ≡ unusable status) × (IsUsable url.now → ⊥))) }
     ensures known { IfErr result IsKnown }
 {
     match Endpoint::of(alloc, url) {
@@ -70,9 +72,12 @@ pub(crate) fn send_request<L: Links>(
         IsUnopened url.now status (L.state link.old).streams (L.state link.new).streams (L.faults link.new) loss) }
     ensures link { IfErr result (CountsLinkLoss (L.faults link.old) (L.faults link.new)) }
     ensures known { IfErr result IsKnown }
-    ensures honest { IsTrue L.tells → (L.state link.old).content.bad ≡ [] → (before : List Stream)
-        → IsHonestSince before (L.state link.old)
-        → StaysHonest before (L.state link.old) (L.state link.new) }
+    ensures answered { IsTrue L.tells → (before : List Stream)
+        → KeepsAnswers before (L.state link.old) (L.state link.new) }
+    ensures listens { OnOk result (IsTrue L.tells → (L.state link.new).listens ≡ true) }
+    // A URL that is no `http` URL is refused without a call of the link.
+    ensures usable { OnOk result (IsUsable url.now) }
+    ensures untouched { (IsUsable url.now → ⊥) → link.new ≡ link.old }
     ensures later { L.faults link.old ≤ L.faults link.new }
 {
     let endpoint = endpoint(alloc, url, status)?;

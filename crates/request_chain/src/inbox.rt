@@ -2,18 +2,19 @@
 ghost use Rattle.std.specs.Prelude.{◌≡◌, ◌<◌, ◌≤◌, ◌+◌, ◌++◌, ◌==◌, [], List, ℕ, Ok, true, length, take, drop, IsTrue, IfOk, OnErr, vec_len};
 ghost use Rattle.dl_kinds.specs.Causes.{HasCause};
 ghost use Rattle.link_source.specs.Streams.{TakesDue, with_received};
+ghost use Rattle.link_source.specs.declared.streams.TheConstants.{MOST_RECEIVED};
 ghost use Rattle.reply_reader.specs.Heads.{HasFinalHead, HasNoFinalHead, IsAtHead, IfFinal};
 ghost use Rattle.reply_reader.specs.declared.heads.HeadsRead.TheVariants.{More, Bad};
 
 use circular_buffer::HeapCircularBuffer;
 use dl_kinds::{IoErr, NoMemory};
-use link_source::Links;
+use link_source::{Links, MOST_RECEIVED};
 use reply_reader::{HeadReader, HeadsRead};
 use std::alloc::Global;
 use std::marker::Model;
 
 /// The most bytes that wait, and that are asked of a link at once.
-const ROOM: usize = 65_536;
+const ROOM: usize = MOST_RECEIVED;
 
 /// The bytes that came and weren't read yet, in their order. A byte goes from the link into the block, from there into
 /// the ring, and from the ring to where it is wanted. While heads are read it goes through the block once more.
@@ -35,7 +36,9 @@ impl Model for Inbox {
 // Receives some bytes into the front of a block.
 fn receive<L: Links>(link: &mut L, block: &mut [u8], most: usize) -> Result<usize, IoErr>
     requires some { 0 < most }
+    requires few { most ≤ MOST_RECEIVED }
     requires room { most ≤ length block.old }
+    requires listens { IsTrue L.tells → (L.state link.old).listens ≡ true }
     ensures most { IfOk result (λ count. count ≤ most) }
     ensures received { IfOk result (λ count. IsTrue L.tells
         → (L.state link.new).streams ≡ with_received (take count block.new) (L.state link.old).streams) }
@@ -45,6 +48,7 @@ fn receive<L: Links>(link: &mut L, block: &mut [u8], most: usize) -> Result<usiz
         → (L.state link.new).streams ≡ (L.state link.old).streams) }
     ensures held { OnErr result (IsTrue L.tells → (L.state link.new).due ≡ (L.state link.old).due) }
     ensures kept { IsTrue L.tells → (L.state link.new).content ≡ (L.state link.old).content }
+    ensures listens { IsTrue L.tells → (L.state link.new).listens ≡ true }
     ensures cause { HasCause (L.faults link.old) (L.faults link.new) result }
 {
     link.recv(&mut block[..most])
@@ -69,7 +73,8 @@ impl Inbox {
     /// Receives some bytes of the newest stream, at most so many, in place of those that wait. None come at its end
     /// alone.
     pub fn refill<L: Links>(&mut self, link: &mut L, most: u32) -> Result<u32, IoErr>
-        requires { 0 < most }
+        requires some { 0 < most }
+        requires listens { IsTrue L.tells → (L.state link.old).listens ≡ true }
         ensures most { IfOk result (λ count. count ≤ most) }
         ensures count { IfOk result (λ count. count ≡ length self.new) }
         ensures received { IfOk result (λ _. IsTrue L.tells
@@ -81,6 +86,7 @@ impl Inbox {
         ensures held { OnErr result (IsTrue L.tells
             → (L.state link.new).due ≡ (L.state link.old).due) }
         ensures kept { IsTrue L.tells → (L.state link.new).content ≡ (L.state link.old).content }
+        ensures listens { IsTrue L.tells → (L.state link.new).listens ≡ true }
         ensures cause { HasCause (L.faults link.old) (L.faults link.new) result }
     {
         self.ring.clear();
@@ -116,11 +122,15 @@ impl Inbox {
 
     /// Reads on a head with all that waits. What stands behind the head waits on.
     pub fn read_head(&mut self, alloc: Global, reader: &mut HeadReader) -> HeadsRead
-        ensures whole { IfFinal result (λ head used. (used ≤ length self.old) × (self.new ≡ drop used self.old)
-            × ((received : List ℕ) → IsAtHead received reader.old → HasFinalHead (received ++ self.old) head (length received + used))) }
+        ensures whole { IfFinal result (λ head used. (used ≤ length self.old)
+            × (self.new ≡ drop used self.old)
+            × ((received : List ℕ) → IsAtHead received reader.old
+            → HasFinalHead (received ++ self.old) head (length received + used))) }
         ensures more { result ≡ More → (self.new ≡ [])
-            × ((received : List ℕ) → IsAtHead received reader.old → IsAtHead (received ++ self.old) reader.new) }
-        ensures bad { result ≡ Bad → (received : List ℕ) → IsAtHead received reader.old → HasNoFinalHead (received ++ self.old) }
+            × ((received : List ℕ) → IsAtHead received reader.old
+            → IsAtHead (received ++ self.old) reader.new) }
+        ensures bad { result ≡ Bad → (received : List ℕ) → IsAtHead received reader.old
+            → HasNoFinalHead (received ++ self.old) }
         ensures none_more { length self.new ≤ length self.old }
     {
         let count = self.ring.read_into(&mut self.block);

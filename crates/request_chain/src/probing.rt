@@ -1,6 +1,7 @@
 // How long a resource is.
-ghost use Rattle.std.specs.Prelude.{◌≡◌, ◌⊎◌, ◌≤◌, ◌<◌, ◌+◌, ◌-◌, [], List, ℕ, Ok, Some, None, IsTrue, OnOk, IfOk, IfErr, IfSome, MatchResult, codes, length};
+ghost use Rattle.std.specs.Prelude.{◌≡◌, ◌≢◌, ◌⊎◌, ◌≤◌, ◌<◌, ◌+◌, ◌-◌, [], List, ℕ, true, false, Ok, Some, None, IsTrue, OnOk, IfOk, IfErr, IfSome, MatchResult, codes, length};
 ghost use Rattle.dl_words.specs.Counts.{Rose};
+ghost use Rattle.link_source.specs.Endpoint.{IsUsable};
 ghost use Rattle.link_source.specs.Streams.{Stream};
 ghost use Rattle.range_http.specs.Fields.{values_of, sole};
 ghost use Rattle.range_http.specs.Verdict.{verdict_of};
@@ -8,6 +9,7 @@ ghost use Rattle.range_http.specs.declared.verdict.Verdict.TheVariants.{Moved as
 ghost use Rattle.reply_reader.specs.Losses.{IsKnown};
 ghost use Rattle.reply_reader.specs.Heads.{IsAtHead, IsHeadDue, HasNoFinalHead};
 ghost use Rattle.reply_reader.specs.declared.loss.Loss.TheVariants.{Link, NoMemory, BadReply};
+ghost use Rattle.request_chain.specs.Answered.{KeepsAnswers};
 ghost use Rattle.request_chain.specs.Links.{CountsLinkLoss};
 ghost use Rattle.request_chain.specs.Chains.{Gains};
 ghost use Rattle.request_chain.specs.Contents.{IsOwn};
@@ -33,9 +35,11 @@ const MAX_HEADS: u32 = 9 * 65_536;
 
 // What a head tells: a length, or that the resource was moved.
 fn told_length(head: &Head) -> Result<Option<u64>, Loss>
-    ensures length { IfOk result (λ told. IfSome told (λ total. probe_by head.now (verdict_of head.now probe_asked) ≡ Told total)) }
+    ensures length { IfOk result (λ told. IfSome told
+        (λ total. probe_by head.now (verdict_of head.now probe_asked) ≡ Told total)) }
     ensures moved { result ≡ Ok None → verdict_of head.now probe_asked ≡ HasMoved }
-    ensures lost { IfErr result (λ loss. IsOwn loss × (probe_by head.now (verdict_of head.now probe_asked) ≡ Lost loss)) }
+    ensures lost { IfErr result (λ loss. IsOwn loss
+        × (probe_by head.now (verdict_of head.now probe_asked) ≡ Lost loss)) }
     ensures known { IfErr result IsKnown }
 {
     let asked = Asked {
@@ -72,7 +76,9 @@ fn told_length(head: &Head) -> Result<Option<u64>, Loss>
 // A head that doesn't come whole is lost so, if it is one so far.
 fn check(alloc: Global, reader: &HeadReader) -> Result<(), Loss>
     ensures due { OnOk result ((front : List ℕ) → IsAtHead front reader.now → IsHeadDue front) }
-    ensures lost { IfErr result (λ loss. (loss ≡ NoMemory) ⊎ ((loss ≡ BadReply) × ((front : List ℕ) → IsAtHead front reader.now → HasNoFinalHead front))) }
+    ensures lost { IfErr result (λ loss. (loss ≡ NoMemory)
+        ⊎ ((loss ≡ BadReply) × ((front : List ℕ) → IsAtHead front reader.now
+        → HasNoFinalHead front))) }
     ensures known { IfErr result IsKnown }
 {
     match reader.is_due(alloc) {
@@ -90,12 +96,17 @@ fn receive<L: Links>(
     reader: &HeadReader,
     most: u32,
 ) -> Result<u32, Loss>
-    requires { 0 < most }
+    requires some { 0 < most }
+    requires listens { IsTrue L.tells → (L.state link.old).listens ≡ true }
     ensures receives { IsTrue L.tells
-        → (url : List ℕ) (before : List Stream) → Awaits url before (L.state link.old).streams most [] reader.now
+        → (url : List ℕ) (before : List Stream)
+        → Awaits url before (L.state link.old).streams most [] reader.now
         → MatchResult result (λ count. Awaits url before (L.state link.new).streams (most - count) inbox.new reader.now)
         (HeadLost url before (L.state link.new).streams (L.faults link.new)) }
     ensures some { IfOk result (λ count. (0 < count) × (count ≤ most)) }
+    ensures listens { IsTrue L.tells → (L.state link.new).listens ≡ true }
+    ensures answered { IsTrue L.tells → (before : List Stream) → (L.state link.old).streams ≢ before
+        → KeepsAnswers before (L.state link.old) (L.state link.new) }
     ensures link { IfErr result (CountsLinkLoss (L.faults link.old) (L.faults link.new)) }
     ensures known { IfErr result IsKnown }
     ensures later { L.faults link.old ≤ L.faults link.new }
@@ -115,10 +126,15 @@ fn receive<L: Links>(
 
 // Receives the heads of a reply, and gives the final one.
 fn receive_head<L: Links>(alloc: Global, link: &mut L, inbox: &mut Inbox) -> Result<Head, Loss>
+    requires { IsTrue L.tells → (L.state link.old).listens ≡ true }
     ensures heads { IsTrue L.tells
-        → (url : List ℕ) (before : List Stream) → IsOpened url probe_asked before (L.state link.old).streams
+        → (url : List ℕ) (before : List Stream)
+        → IsOpened url probe_asked before (L.state link.old).streams
         → MatchResult result (HasHead url before (L.state link.new).streams)
         (HeadLost url before (L.state link.new).streams (L.faults link.new)) }
+    ensures answered { IsTrue L.tells → (url : List ℕ) (others before : List Stream)
+        → IsOpened url probe_asked others (L.state link.old).streams → length before ≤ length others
+        → KeepsAnswers before (L.state link.old) (L.state link.new) }
     ensures link { IfErr result (CountsLinkLoss (L.faults link.old) (L.faults link.new)) }
     ensures known { IfErr result IsKnown }
     ensures later { L.faults link.old ≤ L.faults link.new }
@@ -145,8 +161,12 @@ fn ask<L: Links>(alloc: Global, link: &mut L, inbox: &mut Inbox, hop: &Moved) ->
         → MatchResult result (HasHead hop.now.url (L.state link.old).streams (L.state link.new).streams)
         (λ loss. IsUnopened hop.now.url hop.now.status (L.state link.old).streams (L.state link.new).streams (L.faults link.new) loss
         ⊎ HeadLost hop.now.url (L.state link.old).streams (L.state link.new).streams (L.faults link.new) loss) }
+    ensures answered { IsTrue L.tells → (before : List Stream)
+        → KeepsAnswers before (L.state link.old) (L.state link.new) }
     ensures link { IfErr result (CountsLinkLoss (L.faults link.old) (L.faults link.new)) }
     ensures known { IfErr result IsKnown }
+    ensures usable { OnOk result (IsUsable hop.now.url) }
+    ensures untouched { (IsUsable hop.now.url → ⊥) → link.new ≡ link.old }
     ensures later { L.faults link.old ≤ L.faults link.new }
 {
     let asked = Asked {
@@ -160,9 +180,11 @@ fn ask<L: Links>(alloc: Global, link: &mut L, inbox: &mut Inbox, hop: &Moved) ->
 
 // Where the head says that the resource is.
 fn next_hop(alloc: Global, url: &str, head: &Head) -> Result<Moved, Loss>
-    ensures leads { (text : List ℕ) → sole (values_of head.now (codes "location")) ≡ Some text → MatchResult result
+    ensures leads { (text : List ℕ) → sole (values_of head.now (codes "location")) ≡ Some text
+        → MatchResult result
         (λ hop. (moved_to url.now text ≡ Some hop.url) × (hop.status ≡ head.now.status))
-        (λ loss. (loss ≡ NoMemory) ⊎ ((loss ≡ unusable head.now.status) × (moved_to url.now text ≡ None))) }
+        (λ loss. (loss ≡ NoMemory) ⊎ ((loss ≡ unusable head.now.status)
+        × (moved_to url.now text ≡ None))) }
     ensures own { IfErr result (λ loss. (count : ℕ) → loss ≡ Link count → ⊥) }
     ensures known { IfErr result IsKnown }
 {
@@ -187,11 +209,17 @@ pub fn probe<L: Links>(
     room: &mut ChainRoom,
 ) -> Result<u64, Loss>
     ensures probes { IsTrue L.tells
-        → (used : List Stream) × Gains (L.state link.old).streams (L.state link.new).streams used × MatchResult result
+        → (used : List Stream) × Gains (L.state link.old).streams (L.state link.new).streams used
+        × MatchResult result
         (λ total. Probed url.now used (Told total))
         (TellsProbeLoss url.now used (L.faults link.new)) }
+    ensures answered { IsTrue L.tells → (before : List Stream)
+        → KeepsAnswers before (L.state link.old) (L.state link.new) }
     ensures link { IfErr result (CountsLinkLoss (L.faults link.old) (L.faults link.new)) }
     ensures known { IfErr result IsKnown }
+    ensures closed { OnOk result (IsTrue L.tells → (L.state link.new).listens ≡ false) }
+    // A URL that is no `http` URL is refused without a call of the link.
+    ensures untouched { (IsUsable url.now → ⊥) → link.new ≡ link.old }
     ensures later { L.faults link.old ≤ L.faults link.new }
 {
     final_heads_are_one_and_stay();
@@ -203,6 +231,7 @@ pub fn probe<L: Links>(
     'turns: loop {
         let head = ask(alloc, link, &mut room.inbox, &hop)?;
         if let Some(total) = told_length(&head)? {
+            link.hang_up();
             return Ok(total);
         }
         if redirects >= REDIRECT_LIMIT {

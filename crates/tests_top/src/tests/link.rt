@@ -113,15 +113,20 @@ impl Links for TestLink {
 
     fn send(&mut self, bytes: &[u8]) -> Result<(), IoErr> {
         self.log.sent.extend_from_slice(bytes)?;
-        if self.script.is_empty() {
-            self.mirrors.send(bytes)
-        } else {
-            Ok(())
+        if !self.script.is_empty() {
+            return Ok(());
         }
+        if !self.mirrors.listens() {
+            return Err(IoErr::NoMemory);
+        }
+        self.mirrors.send(bytes)
     }
 
     fn recv(&mut self, into: &mut [u8]) -> Result<usize, IoErr> {
         if self.script.is_empty() {
+            if !self.mirrors.listens() {
+                return Err(IoErr::NoMemory);
+            }
             return self.mirrors.recv(into);
         }
         let rest = self.script.rest();

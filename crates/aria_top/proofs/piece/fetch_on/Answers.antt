@@ -38,14 +38,17 @@ returns-then-got-eq0-clause-goes_on g c told job before was =
     let s = c.in_ok-got.ensures.reads told job before was.used c.args.piece.now.items was.is_fetch was.gains in
     record { used = s.later; gains = s.gains; is_fetch = s.is_fetch }
 
-pub returns-in_err-got-clause-honest : goal.returns-in_err-got-clause-honest
-returns-in_err-got-clause-honest g c told good job before was were = c.step.ensures.honest told good job before was.used c.args.piece.now.items was.is_fetch was.gains were
+pub returns-in_err-got-clause-answered : goal.returns-in_err-got-clause-answered
+returns-in_err-got-clause-answered g c told job before was = c.step.ensures.answered told job before was.used c.args.piece.now.items was.is_fetch was.gains
 
-pub returns-then-got-eq0-clause-honest : goal.returns-then-got-eq0-clause-honest
-returns-then-got-eq0-clause-honest g c told good job before was were = c.step.ensures.honest told good job before was.used c.args.piece.now.items was.is_fetch was.gains were
+pub returns-then-got-eq0-clause-answered : goal.returns-then-got-eq0-clause-answered
+returns-then-got-eq0-clause-answered g c told job before was = c.step.ensures.answered told job before was.used c.args.piece.now.items was.is_fetch was.gains
 
-pub returns-in-Ok-clause-honest : goal.returns-in-Ok-clause-honest
-returns-in-Ok-clause-honest g c told good job before was were = c.step.ensures.honest told good job before was.used c.args.piece.now.items was.is_fetch was.gains were
+pub returns-in-Ok-clause-answered : goal.returns-in-Ok-clause-answered
+returns-in-Ok-clause-answered g c told job before was = c.step.ensures.answered told job before was.used c.args.piece.now.items was.is_fetch was.gains
 
-pub returns-in-Err-clause-honest : goal.returns-in-Err-clause-honest
-returns-in-Err-clause-honest g c told good job before was were = c.step.ensures.honest told good job before was.used c.args.piece.now.items was.is_fetch was.gains were
+pub returns-in-Err-clause-answered : goal.returns-in-Err-clause-answered
+returns-in-Err-clause-answered g c told job before was = c.step.ensures.answered told job before was.used c.args.piece.now.items was.is_fetch was.gains
+
+pub returns-in-Ok-clause-may : goal.returns-in-Ok-clause-may
+returns-in-Ok-clause-may g c told = c.hand_on.ensures.may (g.L.Links.state c.step.new.link) (c.step.ensures.may told)

@@ -7,6 +7,7 @@ use Rattle.fetch_session.specs.Blocks.{cut}
 use Rattle.fetch_session.specs.Fetches.{rest_of}
 use Rattle.request_chain.specs.Fetched.{Fetched}
 use Rattle.request_chain.specs.Plans.{Done}
+use Rattle.memory_serving_laws.specs.Laws.{AreGiven, GainedAnswers}
 use Rattle.memory_serving_laws.specs.Serving.{GivesAll}
 use Rattle.span_map.specs.declared.jobs.JobPart.{JobPart}
 use Rattle.aria_top.specs.Askings.{start_of, size_of}
@@ -28,12 +29,12 @@ pub returns-in_err-fill-clause-served : goal.returns-in_err-fill-clause-served
 returns-in_err-fill-clause-served g c told good bytes gives =
     let p = err_from_is_err_and c.from_residual.result c.from_residual.ensures.1 in
     let ends = c.in_err-fill.ensures.ends told c.in-Ok.job c.begin-fetch.ensures.fetch in
-    let honest = c.fill.ensures.honest told good c.in-Ok.job c.begin-fetch.ensures.fetch in
-    let content = (g.L.Links.state c.args.link.now).content in
-    let all = c.gains_are_honest.ensures content (g.L.Links.state c.args.link.now).streams (g.L.Links.state c.fill.new.link).streams ends.gained (g.L.Links.state c.fill.new.link).due honest.1 ends.gains in
-    let parts_give : GivesAll content c.in-Ok.job.parts bytes = subst (λ (parts : List JobPart). GivesAll content parts bytes) (sym c.in-Ok.ensures.parts) gives in
+    let was = g.L.Links.state c.args.link.now in
+    let parts_give : GivesAll was.content c.in-Ok.job.parts bytes = subst (λ (parts : List JobPart). GivesAll was.content parts bytes) (sym c.in-Ok.ensures.parts) gives in
+    let given : AreGiven was.content c.in-Ok.job.parts bytes = record { sound = c.in-Ok.ensures.ranges; bounded = c.in-Ok.ensures.bounded; gives = parts_give } in
+    let has : GainedAnswers was.content (g.L.Links.state c.fill.new.link) ends.gained = record { before = was.streams; answered = c.fill.ensures.answered told c.in-Ok.job c.begin-fetch.ensures.fetch; gains = ends.gains } in
     rw (p.1, p.2)
-    (serves_fetch c.served_comes.ensures content c.in-Ok.job.parts bytes good c.in-Ok.ensures.ranges c.in-Ok.ensures.bounded parts_give ends.gained all
+    (serves_fetch c.good_mirrors_serve.ensures was.content (g.L.Links.state c.fill.new.link) c.in-Ok.job.parts bytes good given ends.gained has
     {T = Unit {0}} (Err c.in_err-fill.field-0.0) c.fill.new.piece.items ends.ends)
 
 pub returns-in_err-fill-clause-link : goal.returns-in_err-fill-clause-link
@@ -66,12 +67,20 @@ returns-clause-len g c =
 pub returns-clause-served : goal.returns-clause-served
 returns-clause-served g c told good bytes gives =
     let ends = c.in_ok-fill.ensures.ends told c.in-Ok.job c.begin-fetch.ensures.fetch in
-    let honest = c.fill.ensures.honest told good c.in-Ok.job c.begin-fetch.ensures.fetch in
-    let content = (g.L.Links.state c.args.link.now).content in
-    let all = c.gains_are_honest.ensures content (g.L.Links.state c.args.link.now).streams (g.L.Links.state c.fill.new.link).streams ends.gained (g.L.Links.state c.fill.new.link).due honest.1 ends.gains in
-    let parts_give : GivesAll content c.in-Ok.job.parts bytes = subst (λ (parts : List JobPart). GivesAll content parts bytes) (sym c.in-Ok.ensures.parts) gives in
-    serves_fetch c.served_comes.ensures content c.in-Ok.job.parts bytes good c.in-Ok.ensures.ranges c.in-Ok.ensures.bounded parts_give ends.gained all
+    let was = g.L.Links.state c.args.link.now in
+    let parts_give : GivesAll was.content c.in-Ok.job.parts bytes = subst (λ (parts : List JobPart). GivesAll was.content parts bytes) (sym c.in-Ok.ensures.parts) gives in
+    let given : AreGiven was.content c.in-Ok.job.parts bytes = record { sound = c.in-Ok.ensures.ranges; bounded = c.in-Ok.ensures.bounded; gives = parts_give } in
+    let has : GainedAnswers was.content (g.L.Links.state c.fill.new.link) ends.gained = record { before = was.streams; answered = c.fill.ensures.answered told c.in-Ok.job c.begin-fetch.ensures.fetch; gains = ends.gains } in
+    serves_fetch c.good_mirrors_serve.ensures was.content (g.L.Links.state c.fill.new.link) c.in-Ok.job.parts bytes good given ends.gained has
     {T = Unit {0}} (Ok (tt {0})) c.fill.new.piece.items ends.ends
 
 pub returns-clause-serving : goal.returns-clause-serving
-returns-clause-serving g c told good = (c.fill.ensures.honest told good c.in-Ok.job c.begin-fetch.ensures.fetch).0
+returns-clause-serving g c told good =
+    c.clean_mirrors_stay.ensures.stay _ _ _ (c.fill.ensures.answered told c.in-Ok.job c.begin-fetch.ensures.fetch) good
+
+pub fill-requires-clause-may : goal.fill-requires-clause-may
+fill-requires-clause-may g c told = c.begin-fetch.ensures.may (g.L.Links.state c.args.link.now)
+
+pub returns-in_err-fill-clause-serving : goal.returns-in_err-fill-clause-serving
+returns-in_err-fill-clause-serving g c told good =
+    c.clean_mirrors_stay.ensures.stay _ _ _ (c.fill.ensures.answered told c.in-Ok.job c.begin-fetch.ensures.fetch) good

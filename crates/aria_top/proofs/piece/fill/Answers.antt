@@ -4,7 +4,6 @@ use Rattle.dl_kinds.specs.declared.plan.Plan.{Plan}
 use Rattle.fetch_session.specs.Blocks.{cut}
 use Rattle.fetch_session.specs.Fetches.{fetch_plan, rest_of}
 use Rattle.aria_top.proofs.Losses.{held_on}
-use Rattle.aria_top.proofs.Served.{honest_on}
 use Rattle.aria_top.specs.Payload.{here}
 use Rattle.aria_top.proofs.piece.fill.Goals as goal
 
@@ -47,9 +46,9 @@ turns-preserved g c = record {
   held = held_on _ _ _ _ c.turns.invariant.later c.in_ok-fetch_on.ensures.held;
   later = omega (arith, c.turns.invariant.later, c.fetch_on.ensures.later);
   came = λ told job begun. c.in_ok-fetch_on.ensures.goes_on told job _ (c.turns.invariant.came told job begun);
-  honest = λ told good job begun.
-      honest_on _ _ _ _ (g.L.Links.state c.turns.link).streams (g.L.Links.state c.fetch_on.new.link).streams (g.L.Links.state c.turns.link).due (g.L.Links.state c.fetch_on.new.link).due good
-      (c.turns.invariant.honest told good job begun) (λ good_now were. c.fetch_on.ensures.honest told good_now job _ (c.turns.invariant.came told job begun) were);
+  answered = λ told job begun.
+      c.fetch_on.ensures.answered told job _ (c.turns.invariant.came told job begun) _ (c.turns.invariant.answered told job begun);
+  may = c.in_ok-fetch_on.ensures.may;
 }
 
 pub returns-clause-ends : goal.returns-clause-ends
@@ -57,12 +56,10 @@ returns-clause-ends g c told job begun =
     let was = c.turns.invariant.came told job begun in
     record { gained = was.used; gains = was.gains; ends = tt }
 
-pub returns-in_err-fetch_on-clause-honest : goal.returns-in_err-fetch_on-clause-honest
-returns-in_err-fetch_on-clause-honest g c told good job begun =
-    honest_on _ _ _ _ (g.L.Links.state c.turns.link).streams (g.L.Links.state c.fetch_on.new.link).streams (g.L.Links.state c.turns.link).due (g.L.Links.state c.fetch_on.new.link).due good
-    (c.turns.invariant.honest told good job begun) (λ good_now were. c.fetch_on.ensures.honest told good_now job _ (c.turns.invariant.came told job begun) were)
+pub returns-in_err-fetch_on-clause-answered : goal.returns-in_err-fetch_on-clause-answered
+returns-in_err-fetch_on-clause-answered g c told job begun =
+    c.fetch_on.ensures.answered told job _ (c.turns.invariant.came told job begun) _ (c.turns.invariant.answered told job begun)
 
-pub returns-then-branch-clause-honest : goal.returns-then-branch-clause-honest
-returns-then-branch-clause-honest g c told good job begun =
-    honest_on _ _ _ _ (g.L.Links.state c.turns.link).streams (g.L.Links.state c.fetch_on.new.link).streams (g.L.Links.state c.turns.link).due (g.L.Links.state c.fetch_on.new.link).due good
-    (c.turns.invariant.honest told good job begun) (λ good_now were. c.fetch_on.ensures.honest told good_now job _ (c.turns.invariant.came told job begun) were)
+pub returns-then-branch-clause-answered : goal.returns-then-branch-clause-answered
+returns-then-branch-clause-answered g c told job begun =
+    c.fetch_on.ensures.answered told job _ (c.turns.invariant.came told job begun) _ (c.turns.invariant.answered told job begun)

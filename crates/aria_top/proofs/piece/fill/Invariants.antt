@@ -2,8 +2,8 @@ use Rattle.std.proofs.Common.{◌≡◌, ◌≤◌, ◌+◌, [], length, IsTrue}
 use Rattle.std.specs.Prelude.{IfSome}
 use Rattle.dl_words.specs.Counts.{Rose}
 use Rattle.fetch_session.specs.Blocks.{cut}
-use Rattle.fetch_session.specs.Fetches.{fetch_plan, rest_of, ready_of, lost_of, IsFetch}
-use Rattle.request_chain.specs.Honest.{AreHonest}
+use Rattle.fetch_session.specs.Fetches.{fetch_plan, rest_of, ready_of, lost_of, IsFetch, MayStep}
+use Rattle.request_chain.specs.Answered.{IsAnswered}
 use Rattle.span_map.specs.declared.jobs.Job.{Job}
 use Rattle.aria_top.specs.Ends.{IsLinkLoss}
 use Rattle.aria_top.specs.Fetched.{IsFetching}
@@ -18,7 +18,7 @@ invariant-turns g l = record {
   held : IfSome (lost_of l.fetch) (λ loss. IsLinkLoss loss → Rose (g.L.Links.faults l.fn.link) (g.L.Links.faults l.link));
   later : g.L.Links.faults l.fn.link ≤ g.L.Links.faults l.link;
   came : IsTrue g.L.Links.tells → (job : Job) → IsFetch job [] [] l.fn.fetch → IsFetching job (g.L.Links.state l.fn.link).streams (g.L.Links.state l.link).streams l.piece.items l.fetch;
-  honest : IsTrue g.L.Links.tells → (g.L.Links.state l.fn.link).content.bad ≡ [] → (job : Job) → IsFetch job [] [] l.fn.fetch
-      → ((g.L.Links.state l.link).content ≡ (g.L.Links.state l.fn.link).content)
-      × AreHonest (g.L.Links.state l.fn.link).content (g.L.Links.state l.fn.link).streams (g.L.Links.state l.link).streams (g.L.Links.state l.link).due;
+  answered : IsTrue g.L.Links.tells → (job : Job) → IsFetch job [] [] l.fn.fetch
+      → IsAnswered (g.L.Links.state l.fn.link).content (g.L.Links.state l.fn.link).streams (g.L.Links.state l.link);
+  may : IsTrue g.L.Links.tells → MayStep l.fetch (g.L.Links.state l.link);
 }

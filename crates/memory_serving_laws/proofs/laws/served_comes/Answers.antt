@@ -5,11 +5,11 @@ pub returns : goal.returns
 returns c = served_comes (record {
   once = c.streams_have_one_answer.ensures.once;
   stay = c.streams_have_one_answer.ensures.stay;
+  grow = c.streams_have_one_answer.ensures.grow;
   part = c.replies_are_read.ensures.part;
   chunked_part = c.replies_are_read.ensures.chunked_part;
   whole = c.replies_are_read.ensures.whole;
   stream = c.replies_are_read.ensures.stream;
-  moved = c.replies_are_read.ensures.moved;
+  alike = c.requests_are_answered.ensures.alike;
   answered = c.requests_are_answered.ensures.answered;
-  none_next = c.requests_are_answered.ensures.none_next;
 })

@@ -2,6 +2,7 @@ use Rattle.std.proofs.Common.{List, ℕ, subst, inl}
 use Rattle.std.proofs.lemmas.Result.{err_from_is_err_and}
 use Rattle.request_chain.specs.Probes.{probe_asked}
 use Rattle.request_chain.specs.Sending.{IsOpened, IsUnopened}
+use Rattle.request_chain.proofs.AnsweredLemmas.{answered_few}
 use Rattle.request_chain.proofs.SearchLemmas.{heads_or}
 use Rattle.request_chain.proofs.probing.ask.Goals as goal
 
@@ -17,3 +18,9 @@ returns-clause-asks g c told =
     let opened = c.in_ok-send_request.ensures.sent told in
     let P : List ℕ → Type 0 = λ url. IsOpened url probe_asked (g.L.Links.state c.args.link.now).streams (g.L.Links.state c.send_request.new.link).streams in
     heads_or c.args.hop.now.url c.args.hop.now.status _ _ _ c.receive_head.result (c.receive_head.ensures.heads told c.args.hop.now.url (g.L.Links.state c.args.link.now).streams (subst P c.as_str.ensures opened))
+
+pub returns-clause-answered : goal.returns-clause-answered
+returns-clause-answered g c told before old were =
+    let opened = c.in_ok-send_request.ensures.sent told in
+    c.receive_head.ensures.answered told _ (g.L.Links.state c.args.link.now).streams before opened (answered_few old before _ were) old
+    (c.send_request.ensures.answered told before old were)

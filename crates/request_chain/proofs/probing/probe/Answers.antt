@@ -2,11 +2,16 @@ use Rattle.std.proofs.Common.{◌≡◌, ◌+◌, List, ℕ, refl, sym, ap, subs
 use Rattle.std.proofs.lemmas.Bool.{lt-leb}
 use Rattle.std.specs.Prelude.{◌⊎◌, None}
 use Rattle.std.proofs.lemmas.Result.{err_from_is_err_and}
+use Rattle.link_source.specs.Endpoint.{IsUsable}
+use Rattle.link_source.specs.Link.{LinkState}
+use Rattle.link_source.specs.Streams.{Stream}
 use Rattle.reply_reader.specs.declared.loss.Loss.TheVariants.{NoMemory}
+use Rattle.request_chain.specs.Chains.{Gains}
 use Rattle.request_chain.specs.Probes.{Told, Lost, At}
 use Rattle.request_chain.specs.Redirects.{moved_to}
 use Rattle.request_chain.specs.Plans.{unusable}
 use Rattle.request_chain.specs.Searches.{SearchLeads}
+use Rattle.request_chain.proofs.AnsweredLemmas.{answered_closed}
 use Rattle.request_chain.proofs.SearchLemmas.{none_of, head_tells, head_moves, found, loss_found, ask_loses, moved_often, moved_on, moved_nowhere}
 use Rattle.request_chain.proofs.probing.probe.Goals as goal
 
@@ -32,8 +37,10 @@ returns-in-Some-clause-probes g c told =
     let searched = c.turns.invariant.searched told in
     let has = c.in_ok-head.ensures.asks told in
     let is = rw c.in-Some.is at c.in_ok-total.ensures.length in
-    found c.args.url.now c.turns.hop.url c.turns.redirects c.turns.hop.status _ _ _ searched.0 searched.1 searched.2 (Told c.in-Some.total) (Told c.in-Some.total)
-    (head_tells c.turns.hop.url _ _ c.in_ok-head.head has (Told c.in-Some.total) is) refl
+    let came = found c.args.url.now c.turns.hop.url c.turns.redirects c.turns.hop.status _ _ _ searched.0 searched.1 searched.2 (Told c.in-Some.total) (Told c.in-Some.total)
+    (head_tells c.turns.hop.url _ _ c.in_ok-head.head has (Told c.in-Some.total) is) refl in
+    let P : List Stream → Type 0 = λ streams. Gains (g.L.Links.state c.args.link.now).streams streams came.0 in
+    (came.0, subst P (sym (ap (λ (link : LinkState). link.streams) (c.hang_up.ensures.closed told))) came.1, came.2)
 
 pub returns-then-redirects-ge-REDIRECT_LIMIT-clause-probes : goal.returns-then-redirects-ge-REDIRECT_LIMIT-clause-probes
 returns-then-redirects-ge-REDIRECT_LIMIT-clause-probes g c told =
@@ -74,4 +81,25 @@ turns-preserved g c = record {
       let on = moved_on c.args.url.now c.turns.hop.url c.turns.redirects c.turns.hop.status _ _ _ searched.0 searched.1 searched.2 moves.0 c.in_ok-hop.hop.url c.in_ok-head.head.status few to moves.2 in
       let P : ℕ → Type 0 = λ status. SearchLeads (At c.args.url.now 0 0) on.0 (At c.in_ok-hop.hop.url (c.turns.redirects + 1) status) in
       (on.0, on.1, subst P (sym led.1) on.2);
+  untouched = λ unusable.
+      let same = c.turns.invariant.untouched unusable in
+      absurd (unusable (subst IsUsable same.1 c.in_ok-head.ensures.usable));
+  answered = λ told before old were. c.ask.ensures.answered told before old (c.turns.invariant.answered told before old were);
 }
+
+pub returns-in_err-total-clause-answered : goal.returns-in_err-total-clause-answered
+returns-in_err-total-clause-answered g c told before old were = c.ask.ensures.answered told before old (c.turns.invariant.answered told before old were)
+
+pub returns-in-Some-clause-answered : goal.returns-in-Some-clause-answered
+returns-in-Some-clause-answered g c told before old were =
+    answered_closed before _ _ (c.hang_up.ensures.closed told) old
+    (c.ask.ensures.answered told before old (c.turns.invariant.answered told before old were))
+
+pub returns-in_err-head-clause-answered : goal.returns-in_err-head-clause-answered
+returns-in_err-head-clause-answered g c told before old were = c.ask.ensures.answered told before old (c.turns.invariant.answered told before old were)
+
+pub returns-then-redirects-ge-REDIRECT_LIMIT-clause-answered : goal.returns-then-redirects-ge-REDIRECT_LIMIT-clause-answered
+returns-then-redirects-ge-REDIRECT_LIMIT-clause-answered g c told before old were = c.ask.ensures.answered told before old (c.turns.invariant.answered told before old were)
+
+pub returns-in_err-hop-clause-answered : goal.returns-in_err-hop-clause-answered
+returns-in_err-hop-clause-answered g c told before old were = c.ask.ensures.answered told before old (c.turns.invariant.answered told before old were)

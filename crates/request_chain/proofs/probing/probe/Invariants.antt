@@ -1,5 +1,7 @@
-use Rattle.std.proofs.Common.{◌≤◌, ◌-◌, List, IsTrue}
+use Rattle.std.proofs.Common.{◌≡◌, ◌≤◌, ◌-◌, List, IsTrue}
+use Rattle.link_source.specs.Endpoint.{IsUsable}
 use Rattle.link_source.specs.Streams.{Stream}
+use Rattle.request_chain.specs.Answered.{KeepsAnswers}
 use Rattle.request_chain.specs.Chains.{Gains}
 use Rattle.request_chain.specs.Probes.{At}
 use Rattle.request_chain.specs.Searches.{SearchLeads}
@@ -11,6 +13,8 @@ invariant-turns g l = record {
   faults : g.L.Links.faults l.initial.link ≤ g.L.Links.faults l.link;
   searched : IsTrue g.L.Links.tells → (used : List Stream) × Gains (g.L.Links.state l.initial.link).streams (g.L.Links.state l.link).streams used
       × SearchLeads (At l.fn.url 0 0) used (At l.hop.url l.redirects l.hop.status);
+  untouched : (IsUsable l.fn.url → ⊥) → (l.link ≡ l.initial.link) × (l.hop.url ≡ l.fn.url);
+  answered : IsTrue g.L.Links.tells → (before : List Stream) → KeepsAnswers before (g.L.Links.state l.initial.link) (g.L.Links.state l.link);
 }
 
 abbrev pub decreases-turns : goal.decreases-turns

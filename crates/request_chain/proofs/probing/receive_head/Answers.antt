@@ -1,5 +1,6 @@
 use Rattle.std.proofs.Common.{◌+◌, [], length, refl, arith}
 use Rattle.std.proofs.lemmas.Result.{err_from_is_err_and}
+use Rattle.request_chain.proofs.AnsweredLemmas.{top_later}
 use Rattle.request_chain.proofs.ProbeLemmas.{none_left, read_more, read_whole, read_none, read_room}
 use Rattle.request_chain.proofs.probing.receive_head.Goals as goal
 
@@ -19,7 +20,19 @@ turns-preserved g c = record {
   awaits = λ told url before opened.
       let awaits = c.in_ok-count.ensures.receives told url before (c.turns.invariant.awaits told url before opened) in
       read_more url before _ _ _ _ awaits c.read_head.new.reader ((c.in-More.ensures.more refl).1 awaits.front awaits.at);
+  listens = c.receive.ensures.listens;
+  answered = λ told url others before opened few old were.
+      let awaits = c.turns.invariant.awaits told url others opened in
+      c.receive.ensures.answered told before (top_later before others _ awaits.stream awaits.on_top few) old
+      (c.turns.invariant.answered told url others before opened few old were);
 }
+
+pub returns-in_err-count-clause-answered : goal.returns-in_err-count-clause-answered
+returns-in_err-count-clause-answered g c told url others before opened few old were =
+    let awaits = c.turns.invariant.awaits told url others opened in
+    c.receive.ensures.answered told before (top_later before others _ awaits.stream awaits.on_top few) old
+    (c.turns.invariant.answered told url others before opened few old were)
+
 
 pub returns-in-Bad-clause-heads : goal.returns-in-Bad-clause-heads
 returns-in-Bad-clause-heads g c told url before opened =
@@ -34,3 +47,21 @@ returns-in-NoMemory-clause-heads g c told url before opened =
 pub returns-clause-heads : goal.returns-clause-heads
 returns-clause-heads g c told url before opened =
     none_left url before _ [] _ _ (c.turns.invariant.awaits told url before opened) (omega arith)
+
+pub returns-in-Whole-clause-answered : goal.returns-in-Whole-clause-answered
+returns-in-Whole-clause-answered g c told url others before opened few old were =
+    let awaits = c.turns.invariant.awaits told url others opened in
+    c.receive.ensures.answered told before (top_later before others _ awaits.stream awaits.on_top few) old
+    (c.turns.invariant.answered told url others before opened few old were)
+
+pub returns-in-Bad-clause-answered : goal.returns-in-Bad-clause-answered
+returns-in-Bad-clause-answered g c told url others before opened few old were =
+    let awaits = c.turns.invariant.awaits told url others opened in
+    c.receive.ensures.answered told before (top_later before others _ awaits.stream awaits.on_top few) old
+    (c.turns.invariant.answered told url others before opened few old were)
+
+pub returns-in-NoMemory-clause-answered : goal.returns-in-NoMemory-clause-answered
+returns-in-NoMemory-clause-answered g c told url others before opened few old were =
+    let awaits = c.turns.invariant.awaits told url others opened in
+    c.receive.ensures.answered told before (top_later before others _ awaits.stream awaits.on_top few) old
+    (c.turns.invariant.answered told url others before opened few old were)

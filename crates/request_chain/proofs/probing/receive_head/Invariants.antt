@@ -1,5 +1,6 @@
-use Rattle.std.proofs.Common.{◌≤◌, ℕ, List, [], IsTrue}
+use Rattle.std.proofs.Common.{◌≡◌, ◌≤◌, ℕ, true, List, [], length, IsTrue}
 use Rattle.link_source.specs.Streams.{Stream}
+use Rattle.request_chain.specs.Answered.{KeepsAnswers}
 use Rattle.request_chain.specs.Probes.{probe_asked}
 use Rattle.request_chain.specs.Searches.{Awaits}
 use Rattle.request_chain.specs.Sending.{IsOpened}
@@ -10,6 +11,9 @@ invariant-turns g l = record {
   faults : g.L.Links.faults l.initial.link ≤ g.L.Links.faults l.link;
   awaits : IsTrue g.L.Links.tells → (url : List ℕ) (before : List Stream) → IsOpened url probe_asked before (g.L.Links.state l.initial.link).streams
       → Awaits url before (g.L.Links.state l.link).streams l.left [] l.reader;
+  listens : IsTrue g.L.Links.tells → (g.L.Links.state l.link).listens ≡ true;
+  answered : IsTrue g.L.Links.tells → (url : List ℕ) (others before : List Stream) → IsOpened url probe_asked others (g.L.Links.state l.initial.link).streams
+      → length before ≤ length others → KeepsAnswers before (g.L.Links.state l.initial.link) (g.L.Links.state l.link);
 }
 
 abbrev pub decreases-turns : goal.decreases-turns

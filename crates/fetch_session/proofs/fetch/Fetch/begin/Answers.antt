@@ -24,3 +24,6 @@ returns-clause-end c =
     let within = c.requires.within in
     let next : run.first + run.count ≡ (run.first + run.count - 1) + 1 = omega (arith, some) in
     ap (cut c.args.job.plan) next ∙ sym (cut_next c.args.job.plan (run.first + run.count - 1) c.plan_laws.ensures.follow (omega (arith, some, within)))
+
+pub returns-clause-may : goal.returns-clause-may
+returns-clause-may c = λ link none more. c.new.ensures.may link

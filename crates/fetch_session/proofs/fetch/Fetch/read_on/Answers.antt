@@ -1,7 +1,7 @@
 use Rattle.std.proofs.Common.{◌≡◌, ◌≤◌, ◌+◌, ◌++◌, length, take, refl, ap, ◌∙◌, arith}
 use Rattle.std.proofs.Math.Seq.{take-append_seam}
 use Rattle.request_chain.specs.Chains.{received_by}
-use Rattle.fetch_session.proofs.Stepping.{chain_is, steps_read, steps_lost, fails_lost, fails_memory}
+use Rattle.fetch_session.proofs.Stepping.{chain_is, steps_read, steps_lost, steps_at, fails_lost, fails_memory}
 use Rattle.fetch_session.proofs.Taking.{room_few}
 use Rattle.fetch_session.proofs.fetch.Fetch.read_on.Goals as goal
 
@@ -13,8 +13,10 @@ returns-in-Ok-clause-reads g c = λ tells job before used handed is gains.
     let room = c.args.room in
     let chain = chain_is fits follow job used handed self is room c.requires.some_room c.requires.room c.requires.none_lost in
     let read = c.in-Ok.ensures.reads tells job.parts before used (handed ++ self.held.items) chain gains in
-    steps_read fits follow job used handed self is room c.requires.some_room c.requires.room _ refl refl c.whole_from-self.ensures.first
-    before _ 0 c.args.allow read.0 c.got.result c.in-Ok.read c.requires.none_lost read.1 read.2 c.got.ensures.ready c.got.ensures.taken c.got.ensures.done
+    steps_at job before used handed _ _ c.args.allow _ _ (c.end_step.ensures.streams tells)
+    (steps_read fits follow job used handed self is room c.requires.some_room c.requires.room _ refl refl c.whole_from-self.ensures.first
+    before _ 0 c.args.allow read.0 c.end_step.result c.in-Ok.read c.requires.none_lost read.1 read.2
+    c.end_step.ensures.ready c.end_step.ensures.taken c.end_step.ensures.done)
 
 pub read-requires-clause-room : goal.read-requires-clause-room
 read-requires-clause-room g c =
@@ -58,30 +60,34 @@ returns-else-self-eq0-clause-reads g c = λ tells job before used handed is gain
     let room = c.args.room in
     let chain = chain_is fits follow job used handed self is room c.requires.some_room c.requires.room c.requires.none_lost in
     let read = c.in-Err.ensures.reads tells job.parts before used (handed ++ self.held.items) chain gains in
-    steps_lost fits follow job used handed self is room c.requires.some_room c.requires.room _ refl refl c.whole_from-self-in_default.ensures.first
-    before _ _ c.args.allow read.0 c.in-Err.loss c.in_default.not-NoMemory refl read.1 read.2 c.got-in_default.result
-    c.got-in_default.ensures.ready (c.got-in_default.ensures.taken ∙ c.taken.ensures) c.got-in_default.ensures.done (let some = c.if-self-eq0.false in omega (arith, some))
+    let got = c.end_step-in_default in
+    steps_at job before used handed _ _ c.args.allow _ _ (got.ensures.streams tells)
+    (steps_lost fits follow job used handed self is room c.requires.some_room c.requires.room _ refl refl c.whole_from-self-in_default.ensures.first
+    before _ _ c.args.allow read.0 c.in-Err.loss c.in_default.not-NoMemory refl read.1 read.2 got.result
+    got.ensures.ready (got.ensures.taken ∙ c.taken.ensures) got.ensures.done (let some = c.if-self-eq0.false in omega (arith, some)))
 
-pub returns-in-Ok-clause-honest : goal.returns-in-Ok-clause-honest
-returns-in-Ok-clause-honest g c = λ tells none_bad job before used handed is gains honest.
+pub returns-in-Ok-clause-answered : goal.returns-in-Ok-clause-answered
+returns-in-Ok-clause-answered g c = λ tells job before used handed is gains old were.
     let self = c.args.self.now in
     let chain = chain_is c.fetched_bytes_fit_their_parts.ensures.fits c.plan_laws.ensures.follow job used handed self is c.args.room c.requires.some_room c.requires.room c.requires.none_lost in
-    c.read.ensures.honest tells none_bad job.parts before used (handed ++ self.held.items) chain gains honest
+    c.end_step.ensures.answered tells before old
+    (c.read.ensures.answered tells job.parts before used (handed ++ self.held.items) chain gains old were)
 
-pub returns-in-NoMemory-clause-honest : goal.returns-in-NoMemory-clause-honest
-returns-in-NoMemory-clause-honest g c = λ tells none_bad job before used handed is gains honest.
+pub returns-in-NoMemory-clause-answered : goal.returns-in-NoMemory-clause-answered
+returns-in-NoMemory-clause-answered g c = λ tells job before used handed is gains.
     let self = c.args.self.now in
     let chain = chain_is c.fetched_bytes_fit_their_parts.ensures.fits c.plan_laws.ensures.follow job used handed self is c.args.room c.requires.some_room c.requires.room c.requires.none_lost in
-    c.read.ensures.honest tells none_bad job.parts before used (handed ++ self.held.items) chain gains honest
+    c.read.ensures.answered tells job.parts before used (handed ++ self.held.items) chain gains
 
-pub returns-then-self-eq0-clause-honest : goal.returns-then-self-eq0-clause-honest
-returns-then-self-eq0-clause-honest g c = λ tells none_bad job before used handed is gains honest.
+pub returns-then-self-eq0-clause-answered : goal.returns-then-self-eq0-clause-answered
+returns-then-self-eq0-clause-answered g c = λ tells job before used handed is gains.
     let self = c.args.self.now in
     let chain = chain_is c.fetched_bytes_fit_their_parts.ensures.fits c.plan_laws.ensures.follow job used handed self is c.args.room c.requires.some_room c.requires.room c.requires.none_lost in
-    c.read.ensures.honest tells none_bad job.parts before used (handed ++ self.held.items) chain gains honest
+    c.read.ensures.answered tells job.parts before used (handed ++ self.held.items) chain gains
 
-pub returns-else-self-eq0-clause-honest : goal.returns-else-self-eq0-clause-honest
-returns-else-self-eq0-clause-honest g c = λ tells none_bad job before used handed is gains honest.
+pub returns-else-self-eq0-clause-answered : goal.returns-else-self-eq0-clause-answered
+returns-else-self-eq0-clause-answered g c = λ tells job before used handed is gains old were.
     let self = c.args.self.now in
     let chain = chain_is c.fetched_bytes_fit_their_parts.ensures.fits c.plan_laws.ensures.follow job used handed self is c.args.room c.requires.some_room c.requires.room c.requires.none_lost in
-    c.read.ensures.honest tells none_bad job.parts before used (handed ++ self.held.items) chain gains honest
+    c.end_step-in_default.ensures.answered tells before old
+    (c.read.ensures.answered tells job.parts before used (handed ++ self.held.items) chain gains old were)

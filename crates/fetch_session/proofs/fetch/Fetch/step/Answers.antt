@@ -34,7 +34,7 @@ returns-clause-reads g c = λ tells job before used handed is gains.
 pub returns-in-Some-clause-known : goal.returns-in-Some-clause-known
 returns-in-Some-clause-known g c = test_known c.in-Some.loss (c.args.self.now.known c.in-Some.loss c.in-Some.is)
 
-pub returns-clause-honest : goal.returns-clause-honest
-returns-clause-honest g c = λ tells none_bad job before used handed is gains honest.
-    c.read_on.ensures.honest tells none_bad job before used handed
-    (c.refill.ensures.fetch job used handed (same_fetch job used handed c.args.self.now _ (record { plan = refl; end_is = refl; ready = refl; chain = refl; held = refl; lost = refl }) is)) gains honest
+pub returns-clause-answered : goal.returns-clause-answered
+returns-clause-answered g c = λ tells job before used handed is gains.
+    c.read_on.ensures.answered tells job before used handed
+    (c.refill.ensures.fetch job used handed (same_fetch job used handed c.args.self.now _ (record { plan = refl; end_is = refl; ready = refl; chain = refl; held = refl; lost = refl }) is)) gains

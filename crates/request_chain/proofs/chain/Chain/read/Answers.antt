@@ -1,8 +1,7 @@
-use Rattle.std.proofs.Common.{◌++◌, List, ℕ, length, ap, subst, ◌∙◌, arith, append_assoc, length-append, rules}
+use Rattle.std.proofs.Common.{◌++◌, List, ℕ, length, refl, ap, subst, ◌∙◌, arith, append_assoc, length-append, rules}
 use Rattle.std.proofs.lemmas.Result.{err_from_is_err_and}
 use Rattle.request_chain.specs.Chains.{IsChain}
 use Rattle.request_chain.proofs.CallLemmas.{steps_lose, unchecked_loses, call_reads}
-use Rattle.request_chain.proofs.HonestLemmas.{honest_on, honest_still}
 use Rattle.request_chain.proofs.ReadingLemmas.{reading_brought}
 use Rattle.request_chain.proofs.chain.Chain.read.Goals as goal
 
@@ -32,16 +31,16 @@ returns-clause-reads g c told parts before used bytes is gains =
     chain_is.reading chain_is.behind c.in_ok-check.ensures.due in (
       so_far.0,
       so_far.1,
-      call_reads parts before used _ _ bytes so_far.0 c.args.room c.args.allow c.turns.gained c.turns.self c.is_over-done.result so_far.2
-          (c.end.ensures.streams told) c.turns.invariant.few (omega (arith, c.turns.invariant.within)) (omega (arith, c.turns.invariant.gained_is))
-          (c.goes_on.ensures.off c.turns-test.false) c.is_over-done.ensures.over c.is_over-done.ensures.asking brought,
+      call_reads parts before used _ _ bytes so_far.0 c.args.room c.args.allow c.turns.gained c.turns.self c.is_over.result so_far.2
+          refl c.turns.invariant.few (omega (arith, c.turns.invariant.within)) (omega (arith, c.turns.invariant.gained_is))
+          (c.goes_on.ensures.off c.turns-test.false) c.is_over.ensures.over c.is_over.ensures.asking brought,
     )
 
-pub returns-in_err-turn-clause-honest : goal.returns-in_err-turn-clause-honest
-returns-in_err-turn-clause-honest g c told none parts before used bytes is gains honest =
+pub returns-in_err-turn-clause-answered : goal.returns-in_err-turn-clause-answered
+returns-in_err-turn-clause-answered g c told parts before used bytes is gains old were =
     let so_far = c.turns.invariant.steps told parts before used bytes is gains in
-    honest_on _ _ _ before _ _ _ _ none (c.turns.invariant.honest told none parts before used bytes is gains honest)
-    (λ left stood. c.turn.ensures.honest told left parts before so_far.2.later (bytes ++ so_far.0) so_far.2.chain_is so_far.2.gains stood)
+    c.turn.ensures.answered told parts before so_far.2.later (bytes ++ so_far.0) so_far.2.chain_is so_far.2.gains old
+    (c.turns.invariant.answered told parts before used bytes is gains old were)
 
 pub turns-preserved : goal.turns-preserved
 turns-preserved g c = record {
@@ -63,13 +62,9 @@ turns-preserved g c = record {
           chain_is = subst P (append_assoc bytes so_far.0 last.0) last.2.chain_is;
         },
       );
-  honest = λ told none parts before used bytes is gains honest.
+  answered = λ told parts before used bytes is gains old were.
       let so_far = c.turns.invariant.steps told parts before used bytes is gains in
-      honest_on _ _ _ before _ _ _ _ none (c.turns.invariant.honest told none parts before used bytes is gains honest)
-      (λ left stood. c.turn.ensures.honest told left parts before so_far.2.later (bytes ++ so_far.0) so_far.2.chain_is so_far.2.gains stood);
+      c.turn.ensures.answered told parts before so_far.2.later (bytes ++ so_far.0) so_far.2.chain_is so_far.2.gains old
+      (c.turns.invariant.answered told parts before used bytes is gains old were);
+  may = c.in_ok-turn.ensures.may;
 }
-
-pub returns-clause-honest : goal.returns-clause-honest
-returns-clause-honest g c told none parts before used bytes is gains honest =
-    let so_far = c.turns.invariant.honest told none parts before used bytes is gains honest in
-    honest_still _ _ before _ _ _ _ (c.end.ensures.kept told ∙ so_far.0) (c.end.ensures.streams told) (c.end.ensures.held told) so_far.1

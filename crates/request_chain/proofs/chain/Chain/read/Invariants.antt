@@ -2,8 +2,8 @@ use Rattle.std.proofs.Common.{◌≡◌, ◌+◌, ◌-◌, ◌*◌, ◌≤◌, �
 use Rattle.link_source.specs.Streams.{Stream}
 use Rattle.span_map.specs.declared.jobs.JobPart.{JobPart}
 use Rattle.request_chain.specs.Chains.{IsChain, Gains}
-use Rattle.request_chain.specs.Honest.{AreHonest}
-use Rattle.request_chain.specs.Turns.{Steps, weight_of}
+use Rattle.request_chain.specs.Answered.{KeepsAnswers}
+use Rattle.request_chain.specs.Turns.{Steps, MayGoOn, weight_of}
 use Rattle.request_chain.proofs.chain.Chain.read.Given as goal
 
 abbrev pub invariant-turns : goal.invariant-turns
@@ -16,11 +16,10 @@ invariant-turns g l = record {
   steps : IsTrue g.L.Links.tells → (parts : List JobPart) (before used : List Stream) (bytes : List ℕ)
       → IsChain parts used bytes l.fn.self → Gains before (g.L.Links.state l.initial.link).streams used
       → (added : List ℕ) × (l.out.items ≡ l.initial.out.items ++ added) × Steps parts before used bytes (g.L.Links.state l.link).streams added 0 l.self;
-  honest : IsTrue g.L.Links.tells → (g.L.Links.state l.initial.link).content.bad ≡ [] → (parts : List JobPart) (before used : List Stream) (bytes : List ℕ)
+  answered : IsTrue g.L.Links.tells → (parts : List JobPart) (before used : List Stream) (bytes : List ℕ)
       → IsChain parts used bytes l.fn.self → Gains before (g.L.Links.state l.initial.link).streams used
-      → AreHonest (g.L.Links.state l.initial.link).content before (g.L.Links.state l.initial.link).streams (g.L.Links.state l.initial.link).due
-      → ((g.L.Links.state l.link).content ≡ (g.L.Links.state l.initial.link).content)
-      × AreHonest (g.L.Links.state l.initial.link).content before (g.L.Links.state l.link).streams (g.L.Links.state l.link).due;
+      → KeepsAnswers before (g.L.Links.state l.initial.link) (g.L.Links.state l.link);
+  may : IsTrue g.L.Links.tells → MayGoOn l.self (g.L.Links.state l.link);
 }
 
 abbrev pub decreases-turns : goal.decreases-turns

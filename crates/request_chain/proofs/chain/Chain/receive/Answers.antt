@@ -3,7 +3,7 @@ use Rattle.std.proofs.lemmas.Result.{err_from_is_err_and}
 use Rattle.link_source.specs.Streams.{with_received}
 use Rattle.reply_reader.specs.declared.loss.Loss.TheVariants.{Short}
 use Rattle.request_chain.specs.Stages.{IsReading, got_at}
-use Rattle.request_chain.proofs.HonestLemmas.{honest_received, honest_still, comes_due}
+use Rattle.request_chain.proofs.AnsweredLemmas.{answered_received, answered_still, comes_due, sent_later}
 use Rattle.request_chain.proofs.ReadingLemmas.{short_answer}
 use Rattle.request_chain.proofs.ReceivingLemmas.{more_reading}
 use Rattle.request_chain.proofs.TurnLemmas.{no_bytes, ended_loses, unchecked_ended, unchecked_still, link_loses}
@@ -53,34 +53,31 @@ returns-in_ok-check-in-Err-clause-receives g c told parts before used bytes is g
     let reading = subst P c.requires.none_waits is.reading in
     link_loses parts before used _ _ self.course bytes _ _ _ refl c.in-Err.error _ self.stage c.link_loss.ensures.loss reading c.in_ok-check-in-Err.ensures.due c.requires.sent gains (c.in-Err.ensures.failed told)
 
-pub returns-in_ok-check-in-Ok-eq0-clause-honest : goal.returns-in_ok-check-in-Ok-eq0-clause-honest
-returns-in_ok-check-in-Ok-eq0-clause-honest g c told parts before used bytes is gains honest =
-    let self = c.args.self.now in (
-      c.refill.ensures.kept told,
-      honest_received (g.L.Links.state c.args.link.now).content parts before _ used self.course bytes self.room.inbox self.stage is.reading c.requires.sent gains
-          _ c.refill.new.self _ _ (c.in-Ok-eq0.ensures.received told) (comes_due _ c.refill.new.self _ _ c.in-Ok-eq0.ensures.count (c.in-Ok-eq0.ensures.given told)) honest,
-    )
+pub returns-in_ok-check-in-Ok-eq0-clause-answered : goal.returns-in_ok-check-in-Ok-eq0-clause-answered
+returns-in_ok-check-in-Ok-eq0-clause-answered g c told parts before used bytes is gains =
+    let self = c.args.self.now in
+    answered_received before _ _ c.refill.new.self
+    (sent_later parts before _ used self.course bytes self.room.inbox self.stage is.reading c.requires.sent gains)
+    (c.in-Ok-eq0.ensures.received told) (comes_due _ c.refill.new.self _ _ c.in-Ok-eq0.ensures.count (c.in-Ok-eq0.ensures.given told)) (c.refill.ensures.kept told)
 
-pub returns-in_err-check-in-Ok-eq0-clause-honest : goal.returns-in_err-check-in-Ok-eq0-clause-honest
-returns-in_err-check-in-Ok-eq0-clause-honest g c told parts before used bytes is gains honest =
-    let self = c.args.self.now in (
-      c.refill.ensures.kept told,
-      honest_received (g.L.Links.state c.args.link.now).content parts before _ used self.course bytes self.room.inbox self.stage is.reading c.requires.sent gains
-          _ c.refill.new.self _ _ (c.in-Ok-eq0.ensures.received told) (comes_due _ c.refill.new.self _ _ c.in-Ok-eq0.ensures.count (c.in-Ok-eq0.ensures.given told)) honest,
-    )
+pub returns-in_err-check-in-Ok-eq0-clause-answered : goal.returns-in_err-check-in-Ok-eq0-clause-answered
+returns-in_err-check-in-Ok-eq0-clause-answered g c told parts before used bytes is gains =
+    let self = c.args.self.now in
+    answered_received before _ _ c.refill.new.self
+    (sent_later parts before _ used self.course bytes self.room.inbox self.stage is.reading c.requires.sent gains)
+    (c.in-Ok-eq0.ensures.received told) (comes_due _ c.refill.new.self _ _ c.in-Ok-eq0.ensures.count (c.in-Ok-eq0.ensures.given told)) (c.refill.ensures.kept told)
 
-pub returns-in-Ok-clause-honest : goal.returns-in-Ok-clause-honest
-returns-in-Ok-clause-honest g c told parts before used bytes is gains honest =
-    let self = c.args.self.now in (
-      c.refill.ensures.kept told,
-      honest_received (g.L.Links.state c.args.link.now).content parts before _ used self.course bytes self.room.inbox self.stage is.reading c.requires.sent gains
-          _ c.refill.new.self _ _ (c.in-Ok.ensures.received told) (comes_due _ c.refill.new.self _ _ c.in-Ok.ensures.count (c.in-Ok.ensures.given told)) honest,
-    )
+pub returns-in-Ok-clause-answered : goal.returns-in-Ok-clause-answered
+returns-in-Ok-clause-answered g c told parts before used bytes is gains =
+    let self = c.args.self.now in
+    answered_received before _ _ c.refill.new.self
+    (sent_later parts before _ used self.course bytes self.room.inbox self.stage is.reading c.requires.sent gains)
+    (c.in-Ok.ensures.received told) (comes_due _ c.refill.new.self _ _ c.in-Ok.ensures.count (c.in-Ok.ensures.given told)) (c.refill.ensures.kept told)
 
-pub returns-in_err-check-in-Err-clause-honest : goal.returns-in_err-check-in-Err-clause-honest
-returns-in_err-check-in-Err-clause-honest g c told parts before used bytes is gains honest =
-    honest_still _ _ before _ _ _ _ (c.refill.ensures.kept told) (c.in-Err.ensures.failed told) (c.in-Err.ensures.held told) honest
+pub returns-in_err-check-in-Err-clause-answered : goal.returns-in_err-check-in-Err-clause-answered
+returns-in_err-check-in-Err-clause-answered g c told parts before used bytes is gains =
+    answered_still before _ _ (c.refill.ensures.kept told) (c.in-Err.ensures.failed told) (c.in-Err.ensures.held told)
 
-pub returns-in_ok-check-in-Err-clause-honest : goal.returns-in_ok-check-in-Err-clause-honest
-returns-in_ok-check-in-Err-clause-honest g c told parts before used bytes is gains honest =
-    honest_still _ _ before _ _ _ _ (c.refill.ensures.kept told) (c.in-Err.ensures.failed told) (c.in-Err.ensures.held told) honest
+pub returns-in_ok-check-in-Err-clause-answered : goal.returns-in_ok-check-in-Err-clause-answered
+returns-in_ok-check-in-Err-clause-answered g c told parts before used bytes is gains =
+    answered_still before _ _ (c.refill.ensures.kept told) (c.in-Err.ensures.failed told) (c.in-Err.ensures.held told)

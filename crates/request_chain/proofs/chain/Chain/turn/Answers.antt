@@ -8,5 +8,5 @@ returns-clause-steps g c told parts before used bytes is gains =
     let read = c.read_on-2.ensures.reads parts came.later bytes came.reading in
     (read.0, read.1, read_steps parts before used came.later _ bytes read.0 _ _ _ c.read_on-2.result came.gains (omega (arith, came.taken_is, c.read_on-2.ensures.taken)) read.2)
 
-pub returns-then-is_asking-clause-honest : goal.returns-then-is_asking-clause-honest
-returns-then-is_asking-clause-honest g c told none parts before used bytes is gains honest = c.ask.ensures.honest told none before honest
+pub returns-then-is_asking-clause-answered : goal.returns-then-is_asking-clause-answered
+returns-then-is_asking-clause-answered g c told parts before used bytes is gains = c.ask.ensures.answered told before
