@@ -3,7 +3,7 @@ use Rattle.std.proofs.Common.{◌≡◌, ⊎_elim, ℕ, List, [], ◌∷◌, ◌
 use Rattle.link_source.specs.Streams.{Stream}
 use Rattle.request_chain.specs.Chains.{Gains}
 use Rattle.request_chain.specs.Fetched.{Fetched, FetchedBy}
-use Rattle.request_chain.specs.Plans.{Plan, Ask, Over, Done, Open, Lost, plan_of, next_plan}
+use Rattle.request_chain.specs.Plans.{NextAsk, Ask, Over, Done, Open, Lost, plan_of, next_plan}
 use Rattle.span_map.specs.declared.jobs.JobPart.{JobPart}
 
 -- streams that are gained one after the other
@@ -12,7 +12,7 @@ gained_on a b c [] back first then = subst (λ (s : List Stream). Gains s c back
 gained_on a b c (stream ∷ front) back first then = gained_on (stream ∷ a) b c front back first then
 
 -- what was fetched whole is fetched whole where more streams follow
-fetched_by_more : (plan : Plan) (streams more : List Stream) (bytes : List ℕ) → FetchedBy plan streams bytes Done [] → FetchedBy plan (streams ++ more) bytes Done more
+fetched_by_more : (plan : NextAsk) (streams more : List Stream) (bytes : List ℕ) → FetchedBy plan streams bytes Done [] → FetchedBy plan (streams ++ more) bytes Done more
 fetched_by_more (Over Done) streams more bytes (none, done, all) = (none, refl, subst (λ (s : List Stream). more ≡ s ++ more) all refl)
 fetched_by_more (Over Open) streams more bytes (none, done, all, left) = absurd cc
 fetched_by_more (Over (Lost loss)) streams more bytes (none, done, all, left) = absurd cc

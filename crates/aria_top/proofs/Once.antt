@@ -4,7 +4,7 @@ use Rattle.sha1.specs.Sha1.{sha1}
 use Rattle.link_source.specs.Streams.{Stream}
 use Rattle.metainfo.specs.Info.{Info}
 use Rattle.request_chain.specs.Fetched.{Fetched, FetchedIsOne}
-use Rattle.request_chain.specs.Plans.{Ending as FetchEnding, Done as AllCame, Open as MoreIsDue, Lost as LossCame}
+use Rattle.request_chain.specs.Plans.{FetchEnding, Done as AllCame, Open as MoreIsDue, Lost as LossCame}
 use Rattle.aria_top.specs.Askings.{piece_parts}
 use Rattle.aria_top.specs.Worked.{WorkEnding, Done, Open, Lost, Digest, IsRight, Breaks, WorkedFrom}
 

@@ -5,18 +5,18 @@ use Rattle.reply_reader.specs.declared.loss.Loss.{Loss}
 use Rattle.reply_reader.specs.declared.loss.Loss.TheVariants.{Link, NoMemory}
 use Rattle.request_chain.specs.Chains.{Gains}
 use Rattle.request_chain.specs.Fetched.{Fetched}
-use Rattle.request_chain.specs.Plans.{Ending, Done, Open, Lost}
+use Rattle.request_chain.specs.Plans.{FetchEnding, Done, Open, Lost}
 use Rattle.span_map.specs.declared.jobs.Job.{Job}
 use Rattle.span_map.specs.declared.jobs.JobPart.{JobPart}
 use Rattle.fetch_session.specs.Fetches.{IsFetch}
 use Rattle.fetch_session.specs.declared.fetch.Fetch.{Fetch}
 
 -- it ended so
-abbrev pub EndsIn : List JobPart → List Stream → Ending → Type 0
+abbrev pub EndsIn : List JobPart → List Stream → FetchEnding → Type 0
 EndsIn parts streams ending = (bytes : List ℕ) × Fetched parts streams bytes ending []
 
 -- the ending that a loss tells: none for want of memory
-abbrev pub ending_of : Loss → Option Ending
+abbrev pub ending_of : Loss → Option FetchEnding
 ending_of (Link count) = Some Open
 ending_of NoMemory = None
 ending_of loss = Some (Lost loss)

@@ -7,7 +7,7 @@ use Rattle.reply_reader.specs.declared.loss.Loss.{Loss}
 use Rattle.request_chain.specs.Chains.{Gains}
 use Rattle.request_chain.specs.Fetched.{Fetched}
 use Rattle.request_chain.specs.Plans.{unusable}
-use Rattle.request_chain.specs.Plans.{Ending as FetchEnding, Done as AllCame, Open as MoreIsDue, Lost as LossCame}
+use Rattle.request_chain.specs.Plans.{FetchEnding, Done as AllCame, Open as MoreIsDue, Lost as LossCame}
 use Rattle.aria_top.specs.Askings.{piece_parts, piece_count, digest_of}
 use Rattle.aria_top.specs.Fetched.{EndsIn, ending_of}
 use Rattle.aria_top.specs.declared.ends.Failure.{Failure}

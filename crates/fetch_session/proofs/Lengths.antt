@@ -15,7 +15,7 @@ use Rattle.reply_reader.specs.declared.loss.Loss.TheVariants.{Redirects}
 use Rattle.span_map.specs.Jobs.{IsJobPart, parts_len}
 use Rattle.request_chain.specs.Exchanges.{Replies}
 use Rattle.request_chain.specs.Fetched.{FetchedBy}
-use Rattle.request_chain.specs.Plans.{Ending, Done, Open, Lost, Plan, Ask, Over, plan_of, plan_behind, plan_at, rest_behind, asked_of, next_plan, unusable}
+use Rattle.request_chain.specs.Plans.{FetchEnding, Done, Open, Lost, NextAsk, Ask, Over, plan_of, plan_behind, plan_at, rest_behind, asked_of, next_plan, unusable}
 use Rattle.request_chain.specs.Redirects.{moved_to, redirect_limit}
 use Rattle.fetch_session.specs.Lengths.{Fits, FetchedFits}
 
@@ -23,7 +23,7 @@ len_of-cons : (part : JobPart) (parts : List JobPart) → parts_len (part ∷ pa
 len_of-cons part parts = sum_by-cons (λ (part : JobPart). part.len) part parts
 
 -- what came by a request, and the rest by other parts
-joined : (parts others : List JobPart) (got more : List ℕ) (ending : Ending) → length got + parts_len others ≡ parts_len parts → Fits others more ending → Fits parts (got ++ more) ending
+joined : (parts others : List JobPart) (got more : List ℕ) (ending : FetchEnding) → length got + parts_len others ≡ parts_len parts → Fits others more ending → Fits parts (got ++ more) ending
 joined parts others got more ending is fits =
     let few : length more ≤ parts_len others = fits.few in
     record {
@@ -33,7 +33,7 @@ joined parts others got more ending is fits =
     }
 
 -- not all came, and nothing more does
-cut_short : (part : JobPart) (parts : List JobPart) (got more : List ℕ) (ending : Ending) → more ≡ [] → ending ≢ Done → length got < part.len → Fits (part ∷ parts) (got ++ more) ending
+cut_short : (part : JobPart) (parts : List JobPart) (got more : List ℕ) (ending : FetchEnding) → more ≡ [] → ending ≢ Done → length got < part.len → Fits (part ∷ parts) (got ++ more) ending
 cut_short part parts got more ending none not_done short =
     let no_more : length more ≡ 0 = ap length none in
     record {
@@ -42,19 +42,19 @@ cut_short part parts got more ending none not_done short =
       full = λ full. absurd (omega (arith, length-append got more, no_more, short, full, len_of-cons part parts));
     }
 
-open_not_done : (ending : Ending) → ending ≡ Open → ending ≢ Done
+open_not_done : (ending : FetchEnding) → ending ≡ Open → ending ≢ Done
 open_not_done ending is done = cc
 
-lost_not_done : (ending : Ending) (loss : Loss) → ending ≡ Lost loss → ending ≢ Done
+lost_not_done : (ending : FetchEnding) (loss : Loss) → ending ≡ Lost loss → ending ≢ Done
 lost_not_done ending loss is done = cc
 
 -- the parts fit over these streams, whatever is asked first
 abbrev FitOver : List Stream → Type 0
-FitOver streams = (part : JobPart) (parts : List JobPart) (url : List ℕ) (count status : ℕ) (bytes : List ℕ) (ending : Ending)
+FitOver streams = (part : JobPart) (parts : List JobPart) (url : List ℕ) (count status : ℕ) (bytes : List ℕ) (ending : FetchEnding)
     → IsJobPart part → All IsJobPart parts → FetchedBy (Ask part parts url count status) streams bytes ending [] → Fits (part ∷ parts) bytes ending
 
 -- the parts, from the first on
-plan_fits : (streams : List Stream) → FitOver streams → (parts : List JobPart) (bytes : List ℕ) (ending : Ending) → All IsJobPart parts
+plan_fits : (streams : List Stream) → FitOver streams → (parts : List JobPart) (bytes : List ℕ) (ending : FetchEnding) → All IsJobPart parts
     → FetchedBy (plan_of parts) streams bytes ending [] → Fits parts bytes ending
 plan_fits streams fit [] bytes ending are fetched =
     let none : length bytes ≡ 0 = ap length fetched.0 in
@@ -62,7 +62,7 @@ plan_fits streams fit [] bytes ending are fetched =
 plan_fits streams fit (part ∷ parts) bytes ending are fetched =
     fit part parts part.url 0 0 bytes ending (All-head IsJobPart part parts are) (All-tail IsJobPart part parts are) fetched
 
-module _ (streams : List Stream) (fit : FitOver streams) (part : JobPart) (parts : List JobPart) (url : List ℕ) (count : ℕ) (is_part : IsJobPart part) (are : All IsJobPart parts) (more : List ℕ) (ending : Ending) where
+module _ (streams : List Stream) (fit : FitOver streams) (part : JobPart) (parts : List JobPart) (url : List ℕ) (count : ℕ) (is_part : IsJobPart part) (are : All IsJobPart parts) (more : List ℕ) (ending : FetchEnding) where
   -- where all came up to a place
   behind_fits : (got : List ℕ) (last : ℕ) → part.at ≤ last → last ≤ part.at + part.len - 1 → length got ≡ last + 1 - part.at
       → FetchedBy (plan_behind part parts last) streams more ending [] → Fits (part ∷ parts) (got ++ more) ending
@@ -70,7 +70,7 @@ module _ (streams : List Stream) (fit : FitOver streams) (part : JobPart) (parts
       let some : 0 < part.len = is_part.some in
       let within : part.at + part.len ≤ part.total = is_part.within in
       cond_both (nat_lt last (part.at + part.len - 1)) (plan_of (rest_behind part last ∷ parts)) (plan_of parts)
-      (λ (plan : Plan). FetchedBy plan streams more ending [] → Fits (part ∷ parts) (got ++ more) ending)
+      (λ (plan : NextAsk). FetchedBy plan streams more ending [] → Fits (part ∷ parts) (got ++ more) ending)
       (λ less fetched.
       let below : last < part.at + part.len - 1 = grind (arith, nat_tests) in
       let rest : IsJobPart (rest_behind part last) = record { some = omega arith; within = omega arith } in
@@ -97,7 +97,7 @@ module _ (streams : List Stream) (fit : FitOver streams) (part : JobPart) (parts
       let no_bytes : length got ≡ 0 = ap length none in
       let some : 0 < part.len = is_part.some in
       cond_both (nat_le redirect_limit count) (Over (Lost Redirects)) (plan_at part parts (count + 1) status (moved_to url location))
-      (λ (plan : Plan). FetchedBy plan streams more ending [] → Fits (part ∷ parts) (got ++ more) ending)
+      (λ (plan : NextAsk). FetchedBy plan streams more ending [] → Fits (part ∷ parts) (got ++ more) ending)
       (λ often fetched. cut_short part parts got more ending fetched.0 (lost_not_done ending Redirects fetched.1) (omega (arith, no_bytes)))
       (λ few fetched. at_fits got status (moved_to url location) none fetched)
 

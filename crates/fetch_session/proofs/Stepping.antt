@@ -16,7 +16,7 @@ use Rattle.reply_reader.specs.declared.loss.Loss.TheVariants.{Link, NotFound, Re
 use Rattle.request_chain.specs.Chains.{IsChain, Gains, ReadsChain, Loses, TellsLoss, received_by}
 use Rattle.span_map.specs.Jobs.{IsJob, IsJobPart, parts_len, run_start}
 use Rattle.request_chain.specs.Fetched.{Fetched}
-use Rattle.request_chain.specs.Plans.{Ending, Done, Open, Lost}
+use Rattle.request_chain.specs.Plans.{FetchEnding, Done, Open, Lost}
 use Rattle.request_chain.specs.declared.chain.Chain.{Chain}
 use Rattle.request_chain.specs.declared.chain.ChainRead.{ChainRead}
 use Rattle.fetch_session.specs.Blocks.{cut, ready_blocks, AreReady}
@@ -37,7 +37,7 @@ job_end job follow is =
 
 -- what a loss tells is some ending, in which not all came, and no other loss
 tells_ending : (parts : List JobPart) (used : List Stream) (bytes : List ℕ) (faults : ℕ) (loss : Loss) → loss ≢ NoMemory → TellsLoss parts used bytes faults loss
-    → (ending : Ending) × (ending ≢ Done) × Fetched parts used bytes ending [] × ((gone : Loss) → ending ≡ Lost gone → loss ≡ gone)
+    → (ending : FetchEnding) × (ending ≢ Done) × Fetched parts used bytes ending [] × ((gone : Loss) → ending ≡ Lost gone → loss ≡ gone)
 tells_ending parts used bytes faults (Link count) not tells = (Open, λ e. cc, tells.0, λ gone is. cc)
 tells_ending parts used bytes faults NoMemory not tells = absurd (not refl)
 tells_ending parts used bytes faults NotFound not tells = (Lost NotFound, λ e. cc, tells, λ gone is. cc)
@@ -51,7 +51,7 @@ tells_ending parts used bytes faults Redirects not tells = (Lost Redirects, λ e
 regroup : (a b c d : List ℕ) → ((a ++ b) ++ c) ++ d ≡ a ++ ((b ++ c) ++ d)
 regroup a b c d = simp append_assoc
 
-module _ (fits : FetchedFits) (parts : List JobPart) (are : All IsJobPart parts) (later : List Stream) (bytes waiting : List ℕ) (ending : Ending) (fetched : Fetched parts later (bytes ++ waiting) ending []) where
+module _ (fits : FetchedFits) (parts : List JobPart) (are : All IsJobPart parts) (later : List Stream) (bytes waiting : List ℕ) (ending : FetchEnding) (fetched : Fetched parts later (bytes ++ waiting) ending []) where
   -- where as many bytes came as the parts have, all came, and none waits
   whole_done : parts_len parts ≤ length bytes → (ending ≡ Done) × Fetched parts later bytes Done []
   whole_done whole =
@@ -61,7 +61,7 @@ module _ (fits : FetchedFits) (parts : List JobPart) (are : All IsJobPart parts)
       let done : ending ≡ Done = f.full (omega (arith, length-append bytes waiting, few, whole)) in
       let same : bytes ++ waiting ≡ bytes = ap (λ more. bytes ++ more) none ∙ append-nil bytes in
       let P : List ℕ → Type 0 = λ all. Fetched parts later all ending [] in
-      let Q : Ending → Type 0 = λ e. Fetched parts later bytes e [] in
+      let Q : FetchEnding → Type 0 = λ e. Fetched parts later bytes e [] in
       (done, subst Q done (subst P same fetched))
 
   -- all came, or the chain brings more
@@ -236,7 +236,7 @@ module _ (fits : FetchedFits) (follow : BlocksFollow) (job : Job) (used : List S
       let bytes : List ℕ = handed ++ new.held.items in
       let join : handed ++ new.held.items ≡ (handed ++ old.held.items) ++ added = joins fits follow job used handed old is room some_room has_room reads.later new plan_is end_is first_is added held_is in
       let waiting : List ℕ = reads.waiting in
-      let ending : Ending = reads.brought.ending in
+      let ending : FetchEnding = reads.brought.ending in
       let P : List ℕ → Type 0 = λ all. Fetched job.parts reads.later (all ++ reads.waiting) reads.brought.ending [] in
       let fetched : Fetched job.parts reads.later ((handed ++ new.held.items) ++ reads.waiting) reads.brought.ending [] = subst P (sym join) reads.brought.fetched in
       let C : List ℕ → Type 0 = λ all. IsChain job.parts reads.later all new.chain in
@@ -261,7 +261,7 @@ module _ (fits : FetchedFits) (follow : BlocksFollow) (job : Job) (used : List S
       (cases_lt (length added) room) in
       let ends_done : got.done ≡ true → reads.brought.ending ≡ Done =
       (λ done. (whole_done fits job.parts is.is_job.parts reads.later (handed ++ new.held.items) reads.waiting reads.brought.ending fetched
-      (last_whole fits follow job used handed old is room some_room has_room reads.later new plan_is end_is first_is is_new (done_is.0 done))).0) in
+          (last_whole fits follow job used handed old is room some_room has_room reads.later new plan_is end_is first_is is_new (done_is.0 done))).0) in
       let wide = top_of fits follow job used handed old is room some_room has_room reads.later new plan_is end_is first_is is_new in
       let reach = reaches fits follow job reads.later handed new is_new in
       let far : (cut job.plan (min (new.ready.first + 64) new.end) ≤ cut job.plan new.ready.first + length new.held.items) → (got.done ≡ true) ⊎ (got.ready.count ≡ 64) =
@@ -332,7 +332,7 @@ module _ (fits : FetchedFits) (follow : BlocksFollow) (job : Job) (used : List S
           later = loses.later;
           gains = loses.gains;
           is_fetch = lost_fetch;
-          came = new.held.items;
+            came = new.held.items;
           ending = told.0;
           fetched = told.2;
           ready = ready_is ∙ lost_ready;

@@ -10,7 +10,7 @@ use Rattle.reply_reader.specs.declared.loss.Loss.{Loss}
 use Rattle.reply_reader.specs.declared.loss.Loss.TheVariants.{NoMemory}
 use Rattle.request_chain.specs.Chains.{IsChain, Gains, HasBrought, TellsLoss, received_by}
 use Rattle.request_chain.specs.Fetched.{Fetched}
-use Rattle.request_chain.specs.Plans.{Ending, Done, Lost}
+use Rattle.request_chain.specs.Plans.{FetchEnding, Done, Lost}
 use Rattle.request_chain.specs.Turns.{MayGoOn}
 use Rattle.request_chain.specs.declared.chain.Chain.{Chain}
 use Rattle.fetch_session.specs.Blocks.{cut, ready_blocks}
@@ -52,7 +52,7 @@ abbrev pub IsShort : List JobPart → List ℕ → Type 0
 IsShort parts bytes = length bytes < parts_len parts
 
 -- The chain brings more behind these bytes, which the streams tell.
-pub record GoesOn (parts : List JobPart) (used : List Stream) (bytes : List ℕ) (chain : Chain) : Type 0 where
+pub record BringsMore (parts : List JobPart) (used : List Stream) (bytes : List ℕ) (chain : Chain) : Type 0 where
   pub short : IsShort parts bytes
   pub chain_is : IsChain parts used bytes chain
   pub waiting : List ℕ
@@ -60,7 +60,7 @@ pub record GoesOn (parts : List JobPart) (used : List Stream) (bytes : List ℕ)
 
 -- these bytes came over these streams: all, or the chain brings more, or the rest is lost
 abbrev pub HasCome : List JobPart → List Stream → List ℕ → Option Loss → Chain → Type 0
-HasCome parts used bytes None chain = Fetched parts used bytes Done [] ⊎ GoesOn parts used bytes chain
+HasCome parts used bytes None chain = Fetched parts used bytes Done [] ⊎ BringsMore parts used bytes chain
 HasCome parts used bytes (Some loss) chain = IsShort parts bytes × ((count : ℕ) × TellsLoss parts used bytes count loss)
 
 -- The fetch of the job used these streams, the oldest first, and handed out these bytes of it.
@@ -76,7 +76,7 @@ pub record IsFetch (job : Job) (used : List Stream) (handed : List ℕ) (fetch :
 -- the streams tell the bytes that were handed out, and more behind them
 pub record IsFrontOfFetched (parts : List JobPart) (used : List Stream) (handed : List ℕ) : Type 0 where
   pub behind : List ℕ
-  pub ending : Ending
+  pub ending : FetchEnding
   pub fetched : Fetched parts used (handed ++ behind) ending []
 
 -- what a fetch handed out is at the front of what its streams tell, unless memory ran out
@@ -94,7 +94,7 @@ pub record FetchSteps (job : Job) (before used : List Stream) (handed : List ℕ
   pub gains : Gains before now later
   pub is_fetch : IsFetch job later handed new
   pub came : List ℕ
-  pub ending : Ending
+  pub ending : FetchEnding
   pub fetched : Fetched job.parts later (handed ++ came) ending []
   pub ready : got.ready ≡ ready_blocks job.plan job.run (length handed) (length handed + length came)
   pub done : got.done ≡ true → ending ≡ Done

@@ -110,10 +110,12 @@ impl Fetch {
         ensures ready { result.ready ≡ ready_of self.now }
         ensures taken { result.taken ≡ taken }
         ensures done { IsTrue result.done ↔ ((ready_of self.now).count ≡ (rest_of self.now).count) }
-        ensures closed { IsTrue result.done → IsTrue L.tells → L.state link.new ≡ closed (L.state link.old) }
+        ensures closed { IsTrue result.done → IsTrue L.tells
+            → L.state link.new ≡ closed (L.state link.old) }
         ensures same { IsFalse result.done → link.new ≡ link.old }
         ensures streams { IsTrue L.tells → (L.state link.new).streams ≡ (L.state link.old).streams }
-        ensures answered { IsTrue L.tells → (before : List Stream) → KeepsAnswers before (L.state link.old) (L.state link.new) }
+        ensures answered { IsTrue L.tells → (before : List Stream)
+            → KeepsAnswers before (L.state link.old) (L.state link.new) }
         ensures faults { L.faults link.new ≡ L.faults link.old }
     {
         let got = self.got(taken);
@@ -144,7 +146,8 @@ impl Fetch {
         ensures within { (ready_of self.new).count ≤ (rest_of self.new).count }
         ensures few { (ready_of self.new).count ≤ 64 }
         ensures allowed { IfOk result (λ got. got.taken ≤ allow) }
-        ensures done { IfOk result (λ got. IsTrue got.done ↔ (got.ready.count ≡ (rest_of self.new).count)) }
+        ensures done { IfOk result (λ got. IsTrue got.done
+            ↔ (got.ready.count ≡ (rest_of self.new).count)) }
 
         // A loss that it held back is told, and nothing else is done.
         ensures held { IfSome (lost_of self.old) (λ loss. result ≡ Err loss) }
@@ -221,7 +224,8 @@ impl Fetch {
         ensures within { (ready_of self.new).count ≤ (rest_of self.new).count }
         ensures few { (ready_of self.new).count ≤ 64 }
         ensures allowed { IfOk result (λ got. got.taken ≤ allow) }
-        ensures done { IfOk result (λ got. IsTrue got.done ↔ (got.ready.count ≡ (rest_of self.new).count)) }
+        ensures done { IfOk result (λ got. IsTrue got.done
+            ↔ (got.ready.count ≡ (rest_of self.new).count)) }
         ensures lost { IfErr result (λ loss. lost_of self.new ≡ Some loss) }
         ensures known { IfErr result IsKnown }
 
@@ -277,8 +281,10 @@ impl Fetch {
         ensures place { cut (fetch_plan self.old) (rest_of self.old).first + length result
             ≡ cut (fetch_plan self.new) (rest_of self.new).first }
         ensures plan { fetch_plan self.new ≡ fetch_plan self.old }
-        ensures rest_first { (rest_of self.new).first ≡ (rest_of self.old).first + (ready_of self.old).count }
-        ensures rest_count { (rest_of self.new).count + (ready_of self.old).count ≡ (rest_of self.old).count }
+        ensures rest_first { (rest_of self.new).first
+            ≡ (rest_of self.old).first + (ready_of self.old).count }
+        ensures rest_count { (rest_of self.new).count + (ready_of self.old).count
+            ≡ (rest_of self.old).count }
         ensures none_ready { (ready_of self.new).count ≡ 0 }
         ensures lost { lost_of self.new ≡ lost_of self.old }
     {

@@ -22,7 +22,8 @@ pub fn probe<L: Links>(
     room: &mut FetchRoom,
 ) -> Result<u64, Loss>
     ensures probes { IsTrue L.tells
-        → (used : List Stream) × Gains (L.state link.old).streams (L.state link.new).streams used × MatchResult result
+        → (used : List Stream) × Gains (L.state link.old).streams (L.state link.new).streams used
+        × MatchResult result
         (λ total. Probed url.now used (Told total))
         (TellsProbeLoss url.now used (L.faults link.new)) }
     ensures link { IfErr result (CountsLinkLoss (L.faults link.old) (L.faults link.new)) }

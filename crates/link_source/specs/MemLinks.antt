@@ -29,12 +29,12 @@ abbrev pub calls_made : MemLinks → ℕ
 calls_made links = links.calls.made
 
 -- the numbers of the calls that fail
-abbrev pub failing_calls : MemLinks → List ℕ
-failing_calls links = links.calls.failing.items
+abbrev pub failing_numbers : MemLinks → List ℕ
+failing_numbers links = links.calls.failing.items
 
 -- the next call is one of those that fail
 abbrev pub IsNextToFail : MemLinks → Type 0
-IsNextToFail links = Contains (failing_calls links) (calls_made links)
+IsNextToFail links = Contains (failing_numbers links) (calls_made links)
 
 -- no mirror has this host and port
 abbrev pub IsUnknownHost : MemLinks → List ℕ → ℕ → Type 0
@@ -42,7 +42,7 @@ IsUnknownHost links host port = mirror_at (link_state links).content.mirrors hos
 
 -- A call is numbered, unless it is answered with want of memory. It changes neither the numbers that fail nor the cut.
 pub record IsNumberedCall {T : Type 0} (old new : MemLinks) (result : Result T IoErr) : Type 0 where
-  pub failing : failing_calls new ≡ failing_calls old
+  pub failing : failing_numbers new ≡ failing_numbers old
   pub cut : cut_of new ≡ cut_of old
   pub counted : IsErrOf result NoMemory ⊎ (calls_made new ≡ min (calls_made old + 1) (2 ^ 64 - 1))
   pub free : IsErrOf result NoMemory → calls_made new ≡ calls_made old
@@ -55,5 +55,5 @@ pub record IsNewLink (mirrors : List MemMirror) (bad : List Bad) (cut : ℕ) (fa
   pub closed : (link_state links).listens ≡ false
   pub faults : link_faults links ≡ 0
   pub cut_is : cut_of links ≡ cut
-  pub failing_are : failing_calls links ≡ failing
+  pub failing_are : failing_numbers links ≡ failing
   pub none_made : calls_made links ≡ 0

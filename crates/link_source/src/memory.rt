@@ -92,7 +92,8 @@ impl Links for MemLinks {
         ensures dialled { OnOk result (Dials host.now port (link_state self.old) (link_state self.new)) }
         ensures failed { OnErr result (link_state self.new ≡ link_state self.old) }
         ensures cause { HasCause (link_faults self.old) (link_faults self.new) result }
-        ensures fault { IsErrOf result Fault ↔ (IsNextToFail self.old ⊎ IsUnknownHost self.old host.now port) }
+        ensures fault { IsErrOf result Fault ↔ (IsNextToFail self.old
+            ⊎ IsUnknownHost self.old host.now port) }
         ensures numbered { IsNumberedCall self.old self.new result }
     {
         if self.fails_to_dial(host, port) {

@@ -9,7 +9,7 @@ use Rattle.link_source.specs.Mirrors.{Content}
 use Rattle.link_source.specs.declared.mirrors.MemFile.{MemFile}
 use Rattle.link_source.specs.declared.mirrors.MemFile.TheVariants.{Bytes}
 use Rattle.span_map.specs.Jobs.{IsJobPart}
-use Rattle.request_chain.specs.Plans.{Done, Open, Lost, Plan, Ask, Over, plan_of}
+use Rattle.request_chain.specs.Plans.{Done, Open, Lost, NextAsk, Ask, Over, plan_of}
 use Rattle.request_chain.specs.Redirects.{redirect_limit}
 use Rattle.memory_serving_laws.specs.Serving.{GivesAll, LeadsAmong, LeadsThrough, NamesMirror}
 use Rattle.span_map.specs.declared.jobs.JobPart.{JobPart}
@@ -32,7 +32,7 @@ pub record IsServed (content : Content) (among : ℕ → Bool) (part : JobPart) 
   pub parts_among : All (LeadsAmong content among) parts
 
 -- by the plan these bytes come, where all comes
-abbrev pub Comes : Content → (ℕ → Bool) → Plan → List ℕ → Type 0
+abbrev pub Comes : Content → (ℕ → Bool) → NextAsk → List ℕ → Type 0
 Comes content among (Ask part parts url count status) bytes = IsServed content among part parts url count bytes
 Comes content among (Over Done) bytes = bytes ≡ []
 Comes content among (Over Open) bytes = Unit {0}

@@ -12,7 +12,7 @@ use Rattle.range_http.specs.declared.asked.Asked.{Asked}
 use Rattle.reply_reader.specs.Answers.{Due, Away, Answer, size_to}
 use Rattle.request_chain.specs.Exchanges.{Replies}
 use Rattle.request_chain.specs.Fetched.{FetchedBy}
-use Rattle.request_chain.specs.Plans.{Ending, Done, Open, Lost, Plan, Ask, Over, plan_of, asked_of, rest_behind, plan_behind, plan_at, next_plan}
+use Rattle.request_chain.specs.Plans.{FetchEnding, Done, Open, Lost, NextAsk, Ask, Over, plan_of, asked_of, rest_behind, plan_behind, plan_at, next_plan}
 use Rattle.request_chain.specs.Redirects.{redirect_limit}
 use Rattle.memory_serving_laws.specs.Laws.{IsRightSoFar, ServedComes, GoodMirrorsStay, GoodMirrorsServe}
 use Rattle.memory_serving_laws.specs.Serving.{LeadsAmong, NamesMirror, used_among}
@@ -24,7 +24,7 @@ use Rattle.memory_serving_laws.proofs.Turns.{Laws, resource_turn, moved_turn}
 use Rattle.span_map.specs.declared.jobs.JobPart.{JobPart}
 
 -- the bytes of the answer, and then those that come by the plan behind it
-record GoesOn (content : Content) (among : ℕ → Bool) (plan : Plan) (got bytes : List ℕ) : Type 0 where
+record GoesOn (content : Content) (among : ℕ → Bool) (plan : NextAsk) (got bytes : List ℕ) : Type 0 where
   later : List ℕ
   comes : Comes content among plan later
   bytes_are : bytes ≡ got ++ later
@@ -139,7 +139,7 @@ module _ (laws : Laws) (among : ℕ → Bool) (content : Content) where
     ]
 
   -- by each plan, stream by stream
-  comes : (plan : Plan) (streams : List Stream) (bytes came : List ℕ) (ending : Ending) (rest : List Stream)
+  comes : (plan : NextAsk) (streams : List Stream) (bytes came : List ℕ) (ending : FetchEnding) (rest : List Stream)
       → Comes content among plan bytes → All (GaveClean among content) streams → FetchedBy plan streams came ending rest → IsRightSoFar bytes came ending
   comes (Over Done) streams bytes came ending rest none clean (nothing, done, same) =
       record { behind = []; front = none ∙ ap (λ b. b ++ []) (sym nothing); on = inr (done, refl) }

@@ -6,13 +6,13 @@ use Rattle.link_source.specs.Streams.{Stream}
 use Rattle.request_chain.specs.Answered.{IsAnswered}
 use Rattle.request_chain.specs.Chains.{Gains}
 use Rattle.request_chain.specs.Fetched.{Fetched}
-use Rattle.request_chain.specs.Plans.{Ending, Done, Open}
+use Rattle.request_chain.specs.Plans.{FetchEnding, Done, Open}
 use Rattle.memory_serving_laws.specs.Serving.{GivesAll, LeadsAmong, used_among}
 use Rattle.span_map.specs.Jobs.{IsJobPart}
 use Rattle.span_map.specs.declared.jobs.JobPart.{JobPart}
 
 -- Nothing is lost, and what came is a front of these bytes: all of them, or more is due.
-pub record IsRightSoFar (bytes came : List ℕ) (ending : Ending) : Type 0 where
+pub record IsRightSoFar (bytes came : List ℕ) (ending : FetchEnding) : Type 0 where
   pub behind : List ℕ
   pub front : bytes ≡ came ++ behind
   pub on : (ending ≡ Open) ⊎ ((ending ≡ Done) × (behind ≡ []))
@@ -33,7 +33,7 @@ pub record GainedAnswers (old : Content) (link : LinkState) (gained : List Strea
 -- through was used.
 abbrev pub ServedComes : Type 0
 ServedComes = (old : Content) (link : LinkState) (gained : List Stream) (among : ℕ → Bool)
-    (parts : List JobPart) (bytes came : List ℕ) (ending : Ending)
+    (parts : List JobPart) (bytes came : List ℕ) (ending : FetchEnding)
     → GainedAnswers old link gained → AreGiven old parts bytes → All (LeadsAmong old among) parts
     → Fetched parts gained came ending []
     → IsRightSoFar bytes came ending ⊎ (used_among among old < used_among among link.content)
@@ -52,6 +52,6 @@ GoodMirrorsStay = (old : Content) (before : List Stream) (link : LinkState)
 -- and the bytes of all parts that they give come
 abbrev pub GoodMirrorsServe : Type 0
 GoodMirrorsServe = (old : Content) (link : LinkState) (gained : List Stream)
-    (parts : List JobPart) (bytes came : List ℕ) (ending : Ending)
+    (parts : List JobPart) (bytes came : List ℕ) (ending : FetchEnding)
     → GainedAnswers old link gained → AreGiven old parts bytes → old.bad ≡ []
     → Fetched parts gained came ending [] → IsRightSoFar bytes came ending

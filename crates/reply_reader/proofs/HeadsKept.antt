@@ -1,12 +1,14 @@
 -- What the reader of heads keeps.
 use Rattle.std.proofs.Common.{◌≡◌, ℕ, suc, ◌+◌, ◌-◌, ◌<◌, ◌≤◌, List, [], ◌++◌, length, drop, false, None, codes, append-nil, refl, sym, ◌∙◌, ap, subst, arith, rules, IsTrue, inl, inr, length-append}
-use Rattle.std.proofs.lemmas.Bool.{cases_lt}
+use Rattle.std.proofs.lemmas.Bool.{cases_lt, true≢false}
+use Rattle.std.proofs.lemmas.List.Elements.{Contains-append_left, Contains-append_right, Contains-append_cases}
+use Rattle.std.specs.Prelude.{◌⊎◌, ◌↔◌, Bool, Contains}
 use Rattle.std.proofs.lemmas.List.{drop-append-le, drop-drop, length-drop}
 use Rattle.httparse.specs.Grammar.{ResponseHead, IsResponseHead, lf, print_response}
 use Rattle.range_http.specs.HeadLaws.{HasOneHead, HeadStays, HeadStoodBefore, HeadComesWhole}
 use Rattle.range_http.specs.Heads.{IsHead, IsUnfinished, IsNoHead}
 use Rattle.range_http.specs.declared.head.Head.{Head}
-use Rattle.reply_reader.specs.Heads.{is_interim, interim_limit, HasInterims, HasFewInterims, HasFinalHead, IsHeadDue, HasNoFinalHead, IsHeadless, IsBehindInterims, IsAtHead}
+use Rattle.reply_reader.specs.Heads.{is_interim, interim_limit, line_feed, HasInterims, HasFewInterims, HasFinalHead, IsHeadDue, HasNoFinalHead, IsHeadless, IsBehindInterims, IsAtHead}
 use Rattle.reply_reader.specs.declared.heads.HeadReader.{HeadReader}
 use Rattle.reply_reader.proofs.Interims.{interims_within, interims_stay, interims_more}
 use Rattle.reply_reader.proofs.FinalHeads.{final_headless, final_head_stood}
@@ -44,16 +46,70 @@ no_interims = refl
 pub due_none : IsHeadDue []
 due_none = record { before = 0; interims = record { count = 0; few = omega arith; interims = no_interims }; unfinished = unfinished_none }
 
-pub begun : (reader : HeadReader) → reader.interims ≡ 0 → reader.bytes.items ≡ [] → IsAtHead [] reader
-begun reader none empty = record {
+pub begun : (reader : HeadReader) → reader.interims ≡ 0 → reader.line ≡ false → reader.bytes.items ≡ [] → IsAtHead [] reader
+begun reader none no_line empty = record {
   behind = record {
     before = 0;
     interims = subst (λ (n : ℕ). HasInterims [] n 0) (sym none) no_interims;
     few = omega (arith, none);
     waiting = empty;
   };
+  line = (λ is. absurd (true≢false (sym is ∙ no_line)), λ some. absurd (nothing some));
   headless = subst IsHeadless (sym empty) headless_none;
   short = omega (arith, ap length empty);
+}
+  where
+    nothing : Contains [] line_feed → ⊥
+    nothing some = omega (arith, some.1)
+
+-- ---- the first line
+
+-- a reader of which only the line is another stands where it stood
+pub behind_same : (received : List ℕ) (old new : HeadReader) → new.interims ≡ old.interims → new.bytes ≡ old.bytes
+    → IsBehindInterims received old → IsBehindInterims received new
+behind_same received old new interims bytes was = record {
+  before = was.before;
+  interims = subst (λ (n : ℕ). HasInterims received n was.before) (sym interims) was.interims;
+  few = omega (arith, interims, was.few);
+  waiting = ap (λ v. v.items) bytes ∙ was.waiting;
+}
+
+-- a line ended in what came before, or in the next piece
+pub line_later : (received piece : List ℕ) (was now : Bool) → IsTrue was ↔ Contains received line_feed
+    → IsTrue now ↔ (IsTrue was ⊎ Contains piece line_feed) → IsTrue now ↔ Contains (received ++ piece) line_feed
+line_later received piece was now before after = (
+  λ is. elim (after.0 is) [
+    | inl earlier ↦ Contains-append_left received piece line_feed (before.0 earlier)
+    | inr here ↦ Contains-append_right received piece line_feed here
+  ],
+  λ some. after.1 (elim (Contains-append_cases received piece line_feed some) [
+    | inl earlier ↦ inl (before.1 earlier)
+    | inr here ↦ inr here
+  ]),
+)
+
+-- and so in a reader that kept the piece since
+pub line_on : (received piece : List ℕ) (was between now : Bool) → now ≡ between → IsTrue was ↔ Contains received line_feed
+    → IsTrue between ↔ (IsTrue was ⊎ Contains piece line_feed) → IsTrue now ↔ Contains (received ++ piece) line_feed
+line_on received piece was between now same before after =
+    subst (λ (b : Bool). IsTrue b ↔ Contains (received ++ piece) line_feed) (sym same) (line_later received piece was between before after)
+
+-- behind interim heads a head is due where it is unfinished
+pub due_behind : (received : List ℕ) (reader : HeadReader) → IsBehindInterims received reader → IsUnfinished reader.bytes.items → IsHeadDue received
+due_behind received reader was unfinished = record {
+  before = was.before;
+  interims = record { count = reader.interims; few = was.few; interims = was.interims };
+  unfinished = subst IsUnfinished was.waiting unfinished;
+}
+
+-- an unfinished head has not come
+pub at_unfinished : (received : List ℕ) (reader : HeadReader) → IsBehindInterims received reader → IsUnfinished reader.bytes.items
+    → IsTrue reader.line ↔ Contains received line_feed → IsAtHead received reader
+at_unfinished received reader was unfinished line = record {
+  behind = was;
+  line = line;
+  headless = λ head used is. unfinished.none is.text is.rest is.reads;
+  short = omega (arith, unfinished.short);
 }
 
 -- ---- behind interim heads

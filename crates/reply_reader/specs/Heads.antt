@@ -1,6 +1,6 @@
 -- The heads of a reply (RFC 9110 section 15.2, RFC 9112 section 2.1): interim ones, of which 8 are read at most, and then
 -- the final one.
-use Rattle.std.specs.Prelude.{◌≡◌, ◌⊎◌, ◌≤◌, ℕ, zero, suc, ◌+◌, Bool, false, ◌&&◌, nat_le, nat_lt, List, length, drop, IsTrue, ⊤}
+use Rattle.std.specs.Prelude.{◌≡◌, ◌⊎◌, ◌↔◌, ◌≤◌, ℕ, zero, suc, ◌+◌, Bool, false, ◌&&◌, nat_le, nat_lt, List, length, drop, Contains, IsTrue, ⊤}
 use Rattle.range_http.specs.declared.head.Head.{Head}
 use Rattle.range_http.specs.Heads.{IsHead, IsUnfinished, IsNoHead}
 use Rattle.reply_reader.specs.declared.heads.HeadsRead.{HeadsRead}
@@ -62,9 +62,14 @@ pub record IsBehindInterims (bytes : List ℕ) (reader : HeadReader) : Type 0 wh
   pub few : reader.interims ≤ interim_limit
   pub waiting : reader.bytes.items ≡ drop before bytes
 
--- behind them no whole head came yet
+-- LF, which ends a line
+abbrev pub line_feed : ℕ
+line_feed = 10
+
+-- behind them no whole head came yet, and it is known whether a line ended
 pub record IsAtHead (bytes : List ℕ) (reader : HeadReader) : Type 0 where
   pub behind : IsBehindInterims bytes reader
+  pub line : IsTrue reader.line ↔ Contains bytes line_feed
   pub headless : IsHeadless reader.bytes.items
   pub short : length reader.bytes.items ≤ 65535
 

@@ -1,9 +1,9 @@
 // The heads of a reply, as they come.
-ghost use Rattle.std.specs.Prelude.{◌≡◌, ◌<◌, ◌≤◌, ◌+◌, ◌++◌, [], List, ℕ, true, false, Ok, length, take, drop, IsFalse, OnOk};
+ghost use Rattle.std.specs.Prelude.{◌≡◌, ◌⊎◌, ◌↔◌, ◌<◌, ◌≤◌, ◌+◌, ◌++◌, [], List, ℕ, true, false, Ok, length, take, drop, Contains, IsTrue, IsFalse, OnOk};
 ghost use Rattle.range_http.specs.declared.head.TheConstants.{MAX_HEAD_BYTES};
 ghost use Rattle.range_http.specs.Heads.{IfWhole, IsHead, IsUnfinished};
 ghost use Rattle.range_http.specs.declared.head.HeadRead.TheVariants.{More as Unfinished, Bad as NoHead};
-ghost use Rattle.reply_reader.specs.Heads.{is_interim, IsHeadDue, HasFinalHead, HasNoFinalHead, IsHeadless, IsBehindInterims, IsAtHead, IfFinal};
+ghost use Rattle.reply_reader.specs.Heads.{is_interim, line_feed, IsHeadDue, HasFinalHead, HasNoFinalHead, IsHeadless, IsBehindInterims, IsAtHead, IfFinal};
 ghost use Rattle.reply_reader.specs.declared.heads.HeadsRead.TheVariants.{More, Bad};
 
 use dl_kinds::NoMemory;
@@ -17,7 +17,9 @@ use std::alloc::Global;
 pub struct HeadReader {
     /// How many interim heads came.
     interims: u8,
-    /// What came behind them.
+    /// Whether the first line of the stream came.
+    line: bool,
+    /// What came behind the interim heads.
     bytes: Vec<u8>,
 }
 
@@ -26,8 +28,8 @@ pub struct HeadReader {
 pub enum HeadsRead {
     /// The final head, whose end took so many bytes of the piece.
     Whole { head: Head, used: u32 },
-    /// The final head didn't come yet. Whether it still can is only seen where it may have ended, and by
-    /// [`is_due`](HeadReader::is_due).
+    /// The final head didn't come yet. Whether it still can is only seen where it may have ended, where the first line
+    /// ends, and by [`is_due`](HeadReader::is_due).
     More,
     /// No head, or one of more than 65,536 bytes or 64 fields, or a ninth interim head.
     Bad,
@@ -68,8 +70,23 @@ impl HeadReader {
     {
         HeadReader {
             interims: 0,
+            line: false,
             bytes: Vec::new(alloc),
         }
+    }
+
+    // Whether the first line of the stream ends in the next piece.
+    fn ends_line(&mut self, piece: &[u8]) -> bool
+        ensures ends { IsTrue result ↔ (IsFalse self.old.line × Contains piece.now line_feed) }
+        ensures line { IsTrue self.new.line ↔ (IsTrue self.old.line ⊎ Contains piece.now line_feed) }
+        ensures interims { self.new.interims ≡ self.old.interims }
+        ensures bytes { self.new.bytes ≡ self.old.bytes }
+    {
+        if self.line {
+            return false;
+        }
+        self.line = piece.contains(&b'\n');
+        self.line
     }
 
     // Keeps the next piece behind what came.
@@ -77,6 +94,7 @@ impl HeadReader {
         ensures items { OnOk result (self.new.bytes.items ≡ self.old.bytes.items ++ piece.now) }
         ensures behind { OnOk result ((received : List ℕ) → IsBehindInterims received self.old
             → IsBehindInterims (received ++ piece.now) self.new) }
+        ensures line { self.new.line ≡ self.old.line }
     {
         heads_are_one_and_stay();
         self.bytes.extend_from_slice(piece)
@@ -93,6 +111,7 @@ impl HeadReader {
         ensures more { result ≡ Unfinished → IsUnfinished self.new.bytes.items }
         ensures bad { result ≡ NoHead → (received : List ℕ) → IsBehindInterims received self.old
             → HasNoFinalHead received }
+        ensures line { self.new.line ≡ self.old.line }
     {
         'turns: loop {
             match read_head(alloc, &self.bytes) {
@@ -122,13 +141,18 @@ impl HeadReader {
             → IsAtHead (received ++ piece.now) self.new }
         ensures bad { result ≡ Bad → (received : List ℕ) → IsAtHead received self.old
             → HasNoFinalHead (received ++ piece.now) }
+        // A stream of another protocol is told by the piece that ends its first line.
+        ensures first_line { result ≡ More → (received : List ℕ) → IsAtHead received self.old
+            → (Contains received line_feed → ⊥) → Contains piece.now line_feed
+            → IsHeadDue (received ++ piece.now) }
     {
         heads_are_one_and_stay();
         let from = self.bytes.len();
+        let ends_line = self.ends_line(piece);
         let Ok(()) = self.keep(piece) else {
             return HeadsRead::NoMemory;
         };
-        if !may_end_head(&self.bytes, from) {
+        if !ends_line && !may_end_head(&self.bytes, from) {
             return HeadsRead::More;
         }
         match self.read_on(alloc) {

@@ -14,7 +14,7 @@ use Rattle.request_chain.specs.Chains.{Gains, received_by, TellsLoss, IsChain}
 use Rattle.request_chain.specs.Courses.{plan_now, CarriesOn, IsAsking, IfAsking}
 use Rattle.request_chain.specs.Exchanges.{IsExchange}
 use Rattle.request_chain.specs.Fetched.{Fetched}
-use Rattle.request_chain.specs.Plans.{Plan, Ask, Over, Ending, Open, Lost as Gone, plan_of, asked_of, unusable}
+use Rattle.request_chain.specs.Plans.{NextAsk, Ask, Over, FetchEnding, Open, Lost as Gone, plan_of, asked_of, unusable}
 use Rattle.request_chain.specs.Sending.{IsOpened, IsUnopened, IsUnsent, MayBeOn}
 use Rattle.request_chain.specs.Stages.{IsReadingHead}
 use Rattle.request_chain.specs.Turns.{Steps, StepLoses}
@@ -25,7 +25,7 @@ use Rattle.request_chain.proofs.Leading.{leads_on, leads_end}
 use Rattle.request_chain.proofs.SentLemmas.{over_open}
 
 -- what is asked next
-pub record Asks (plan : Plan) : Type 0 where
+pub record Asks (plan : NextAsk) : Type 0 where
   pub part : JobPart
   pub others : List JobPart
   pub url : List ℕ
@@ -33,21 +33,21 @@ pub record Asks (plan : Plan) : Type 0 where
   pub status : ℕ
   pub is : plan ≡ Ask part others url count status
 
-pub asks_of : (plan : Plan) → IsAsking plan → Asks plan
+pub asks_of : (plan : NextAsk) → IsAsking plan → Asks plan
 asks_of (Ask part others url count status) asking = record { part = part; others = others; url = url; count = count; status = status; is = refl }
 asks_of (Over ending) asking = absurd asking
 
-pub asked_in : (plan : Plan) (part : JobPart) (others : List JobPart) (url : List ℕ) (count status : ℕ) (P : JobPart → List JobPart → List ℕ → ℕ → ℕ → Type 0)
+pub asked_in : (plan : NextAsk) (part : JobPart) (others : List JobPart) (url : List ℕ) (count status : ℕ) (P : JobPart → List JobPart → List ℕ → ℕ → ℕ → Type 0)
     → plan ≡ Ask part others url count status → IfAsking plan P → P part others url count status
-asked_in plan part others url count status P is holds = subst (λ (p : Plan). IfAsking p P) is holds
+asked_in plan part others url count status P is holds = subst (λ (p : NextAsk). IfAsking p P) is holds
 
-pub asking_in : (plan : Plan) (part : JobPart) (others : List JobPart) (url : List ℕ) (count status : ℕ) (P : JobPart → List JobPart → List ℕ → ℕ → ℕ → Type 0)
+pub asking_in : (plan : NextAsk) (part : JobPart) (others : List JobPart) (url : List ℕ) (count status : ℕ) (P : JobPart → List JobPart → List ℕ → ℕ → ℕ → Type 0)
     → plan ≡ Ask part others url count status → P part others url count status → IfAsking plan P
-asking_in plan part others url count status P is holds = subst (λ (p : Plan). IfAsking p P) (sym is) holds
+asking_in plan part others url count status P is holds = subst (λ (p : NextAsk). IfAsking p P) (sym is) holds
 
-module _ (parts : List JobPart) (before used now new : List Stream) (plan : Plan) (bytes : List ℕ) (asks : Asks plan) (leads : CarriesOn (plan_of parts) used bytes plan) (gains : Gains before now used) where
+module _ (parts : List JobPart) (before used now new : List Stream) (plan : NextAsk) (bytes : List ℕ) (asks : Asks plan) (leads : CarriesOn (plan_of parts) used bytes plan) (gains : Gains before now used) where
   asking : CarriesOn (plan_of parts) used bytes (Ask asks.part asks.others asks.url asks.count asks.status)
-  asking = subst (λ (p : Plan). CarriesOn (plan_of parts) used bytes p) asks.is leads
+  asking = subst (λ (p : NextAsk). CarriesOn (plan_of parts) used bytes p) asks.is leads
 
   -- the request was sent
   pub opened_head : (course : Course) → plan ≡ plan_now course → (reader : HeadReader) → IsAtHead [] reader → (asked : Asked) → asked ≡ asked_of asks.part → (url : List ℕ) → url ≡ asks.url
@@ -116,7 +116,7 @@ module _ (parts : List JobPart) (before used now new : List Stream) (plan : Plan
         let Q : List ℕ → Type 0 = λ came. TellsLoss parts (used ++ stream ∷ []) came faults loss in
         record { later = used ++ stream ∷ []; gains = opened_gains stream on; taken_is = omega (arith, long, taken); tells = subst Q (sym (append-nil bytes)) tells }
 
-    fetched_with : (ending : Ending) → ((IsUsable asks.url × (ending ≡ Open)) ⊎ ((IsUsable asks.url → ⊥) × (ending ≡ Gone (unusable asks.status)))) → Fetched parts used bytes ending []
+    fetched_with : (ending : FetchEnding) → ((IsUsable asks.url × (ending ≡ Open)) ⊎ ((IsUsable asks.url → ⊥) × (ending ≡ Gone (unusable asks.status)))) → Fetched parts used bytes ending []
     fetched_with ending stands = leads_end parts used bytes (Ask asks.part asks.others asks.url asks.count asks.status) ending asking (refl, stands, refl)
 
     lose_unusable : (loss : Loss) → (IsUsable asks.url → ⊥) → loss ≡ unusable asks.status → new ≡ now → StepLoses parts before used bytes new [] was faults chain loss

@@ -10,7 +10,7 @@ use Rattle.reply_reader.specs.declared.loss.Loss.TheVariants as losses
 use Rattle.request_chain.specs.Chains.{Gains, received_by, IsChain, HasBrought, TellsLoss, ReadsChain, Loses}
 use Rattle.request_chain.specs.Courses.{plan_now, IsAsking}
 use Rattle.request_chain.specs.Fetched.{FetchedBy, Fetched}
-use Rattle.request_chain.specs.Plans.{Plan, Ask, Over, Done}
+use Rattle.request_chain.specs.Plans.{NextAsk, Ask, Over, Done}
 use Rattle.request_chain.specs.Stages.{IsReading, IsReadingHead, IsBehindHead, IsNoHeadAt}
 use Rattle.request_chain.specs.Turns.{Steps, StepLoses}
 use Rattle.request_chain.specs.declared.chain.Chain.{Chain}
@@ -66,22 +66,22 @@ unchecked_loses parts before used now bytes added allow faults chain loss steps 
     ]
 
 -- it tells that all came
-abbrev Ended : Plan → Type 0
+abbrev Ended : NextAsk → Type 0
 Ended plan = FetchedBy plan [] [] Done []
 
 -- all came
 pub all_came : (parts : List JobPart) (used : List Stream) (course : Course) (waiting bytes : List ℕ) (stage : Stage) → plan_now course ≡ Over Done
     → IsReading stage course waiting parts used bytes → (waiting ≡ []) × Fetched parts used bytes Done []
 all_came parts used course waiting bytes Asking over reading =
-    (reading.1, leads_end parts used bytes (plan_now course) Done reading.0 (subst (λ (p : Plan). Ended p) (sym over) (refl, refl, refl)))
+    (reading.1, leads_end parts used bytes (plan_now course) Done reading.0 (subst (λ (p : NextAsk). Ended p) (sym over) (refl, refl, refl)))
 all_came parts used course waiting bytes (InHead reader) over reading =
     let both : Ask reading.sent.part reading.sent.others reading.sent.url reading.sent.count reading.sent.status ≡ Over Done = sym reading.sent.asks ∙ over in cc
 all_came parts used course waiting bytes (InContent content) over reading =
     let both : Ask reading.sent.part reading.sent.others reading.sent.url reading.sent.count reading.sent.status ≡ Over Done = sym reading.sent.asks ∙ over in cc
 
 -- asked next is something, or all came
-asking_over : (plan : Plan) → plan ≡ Over Done → IsAsking plan → ⊥
-asking_over plan is asking = let P : Plan → Type 0 = IsAsking in subst P is asking
+asking_over : (plan : NextAsk) → plan ≡ Over Done → IsAsking plan → ⊥
+asking_over plan is asking = let P : NextAsk → Type 0 = IsAsking in subst P is asking
 
 -- steps that are all of a call
 pub call_reads : (parts : List JobPart) (before used now new : List Stream) (bytes added : List ℕ) (room allow gained : ℕ) (chain : Chain) (done : Bool)

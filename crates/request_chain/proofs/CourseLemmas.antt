@@ -6,12 +6,12 @@ use Rattle.std.proofs.lemmas.Option.{slice_get_cases, slice_get_within, get_or_f
 use Rattle.std.proofs.Math.Seq.{drop-cons}
 use Rattle.span_map.specs.declared.jobs.JobPart.{JobPart}
 use Rattle.request_chain.specs.Courses.{plan_from, plan_now, IsAsking, IfAsking}
-use Rattle.request_chain.specs.Plans.{Plan, plan_of}
+use Rattle.request_chain.specs.Plans.{NextAsk, plan_of}
 use Rattle.request_chain.specs.declared.course.Course.{Course}
 use Rattle.request_chain.specs.declared.course.Moved.{Moved}
 
 -- the plan of a list, by how the course stands
-abbrev pub plan_by : Course → List JobPart → Plan
+abbrev pub plan_by : Course → List JobPart → NextAsk
 plan_by course parts = plan_from parts course.at course.len course.moved course.redirects
 
 pub drop_at : (parts : List JobPart) (place : ℕ) (part : JobPart) → slice_get parts place ≡ Some part → drop place parts ≡ part ∷ drop (place + 1) parts
@@ -29,7 +29,7 @@ plan_at_part course part is = ap (plan_by course) (drop_at course.parts course.p
 pub asked_here : (course : Course) (part : JobPart) → slice_get course.parts course.place ≡ Some part
     → (P : JobPart → List JobPart → List ℕ → ℕ → ℕ → Type 0)
     → IfAsking (plan_by course (part ∷ drop (course.place + 1) course.parts)) P → IfAsking (plan_now course) P
-asked_here course part is P holds = subst (λ (p : Plan). IfAsking p P) (sym (plan_at_part course part is)) holds
+asked_here course part is P holds = subst (λ (p : NextAsk). IfAsking p P) (sym (plan_at_part course part is)) holds
 
 pub asking_within : (course : Course) → IsAsking (plan_now course) → course.place < length course.parts
 asking_within course asking = elim (slice_get_cases course.parts course.place).1 [

@@ -14,13 +14,13 @@ use Rattle.reply_reader.specs.Answers.{Answer}
 use Rattle.request_chain.specs.Courses.{CarriesOn}
 use Rattle.request_chain.specs.Exchanges.{Replies}
 use Rattle.request_chain.specs.Fetched.{FetchedBy, Fetched}
-use Rattle.request_chain.specs.Plans.{Ending, Done, Open, Lost, Plan, Ask, Over, plan_of, asked_of, next_plan, unusable}
+use Rattle.request_chain.specs.Plans.{FetchEnding, Done, Open, Lost, NextAsk, Ask, Over, plan_of, asked_of, next_plan, unusable}
 
-pub leads_none : (plan : Plan) → CarriesOn plan [] [] plan
+pub leads_none : (plan : NextAsk) → CarriesOn plan [] [] plan
 leads_none plan = λ streams rest more ending fetched. fetched
 
 -- one stream more, with its answer
-pub leads_on : (plan : Plan) (older : List Stream) (brought : List ℕ) (part : JobPart) (parts : List JobPart) (url : List ℕ) (count status : ℕ)
+pub leads_on : (plan : NextAsk) (older : List Stream) (brought : List ℕ) (part : JobPart) (parts : List JobPart) (url : List ℕ) (count status : ℕ)
     (stream : Stream) (answer : Answer)
     → CarriesOn plan older brought (Ask part parts url count status) → Replies url (asked_of part) stream answer
     → CarriesOn plan (older ++ stream ∷ []) (brought ++ answer.got) (next_plan part parts url count answer.turn)
@@ -29,7 +29,7 @@ leads_on plan older brought part parts url count status stream answer leads repl
     (leads (stream ∷ streams) rest (answer.got ++ more) ending (answer, more, replies, refl, fetched))
 
 -- they tell what the next plan tells without more streams
-pub leads_end : (parts : List JobPart) (used : List Stream) (bytes : List ℕ) (next : Plan) (ending : Ending)
+pub leads_end : (parts : List JobPart) (used : List Stream) (bytes : List ℕ) (next : NextAsk) (ending : FetchEnding)
     → CarriesOn (plan_of parts) used bytes next → FetchedBy next [] [] ending [] → Fetched parts used bytes ending []
 leads_end parts used bytes next ending leads fetched =
     let P : List Stream → List ℕ → Type 0 = λ streams came. FetchedBy (plan_of parts) streams came ending [] in
@@ -52,7 +52,7 @@ pub usable_or_not : (url : List ℕ) → IsUsable url ⊎ (IsUsable url → ⊥)
 usable_or_not url = usable_by (parse_url None url)
 
 -- each plan ends somehow where no stream follows
-pub ends : (plan : Plan) → (ending : Ending) × FetchedBy plan [] [] ending []
+pub ends : (plan : NextAsk) → (ending : FetchEnding) × FetchedBy plan [] [] ending []
 ends (Over Done) = (Done, (refl, refl, refl))
 ends (Over Open) = (Open, (refl, refl, refl, refl))
 ends (Over (Lost loss)) = (Lost loss, (refl, refl, refl, refl))

@@ -6,7 +6,7 @@ use Rattle.span_map.specs.declared.jobs.JobPart.{JobPart}
 use Rattle.reply_reader.specs.Answers.{Answer, AnswersOnce}
 use Rattle.request_chain.specs.Exchanges.{IsExchange, IsDialled, Replies, request_for}
 use Rattle.request_chain.specs.Fetched.{FetchedBy, FetchedIsOne}
-use Rattle.request_chain.specs.Plans.{Ending, Done, Open, Lost, Plan, Ask, Over, plan_of, asked_of, next_plan, Stands}
+use Rattle.request_chain.specs.Plans.{FetchEnding, Done, Open, Lost, NextAsk, Ask, Over, plan_of, asked_of, next_plan, Stands}
 
 -- a stream in which nothing was sent is no exchange
 undialled : (url : List ℕ) (asked : Asked) (stream : Stream) → IsDialled url stream → IsExchange url asked stream → ⊥
@@ -29,7 +29,7 @@ module _ (once : AnswersOnce) where
     ]
   ]
 
-  stands_once : (url : List ℕ) (part : JobPart) (parts : List JobPart) (count status : ℕ) (how other : Ending)
+  stands_once : (url : List ℕ) (part : JobPart) (parts : List JobPart) (count status : ℕ) (how other : FetchEnding)
       → Stands (Ask part parts url count status) how → Stands (Ask part parts url count status) other → how ≡ other
   stands_once url part parts count status how other a b = elim a [
     | inl usable ↦ elim b [
@@ -43,10 +43,10 @@ module _ (once : AnswersOnce) where
   ]
 
   -- one of two tellings, and the other
-  abbrev IsSame : List ℕ → List ℕ → Ending → Ending → List Stream → List Stream → Type 0
+  abbrev IsSame : List ℕ → List ℕ → FetchEnding → FetchEnding → List Stream → List Stream → Type 0
   IsSame bytes other_bytes ending other_ending rest other_rest = (bytes ≡ other_bytes) × (ending ≡ other_ending) × (rest ≡ other_rest)
 
-  fetched_by_once : (streams : List Stream) (plan : Plan) (rest other_rest : List Stream) (bytes other_bytes : List ℕ) (ending other_ending : Ending)
+  fetched_by_once : (streams : List Stream) (plan : NextAsk) (rest other_rest : List Stream) (bytes other_bytes : List ℕ) (ending other_ending : FetchEnding)
       → FetchedBy plan streams bytes ending rest → FetchedBy plan streams other_bytes other_ending other_rest
       → IsSame bytes other_bytes ending other_ending rest other_rest
   fetched_by_once streams (Over Done) rest other_rest bytes other_bytes ending other_ending a b =

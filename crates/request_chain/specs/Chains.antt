@@ -6,7 +6,7 @@ use Rattle.reply_reader.specs.declared.loss.Loss.{Loss}
 use Rattle.reply_reader.specs.declared.loss.Loss.TheVariants.{Link, NoMemory}
 use Rattle.request_chain.specs.Fetched.{Fetched}
 use Rattle.request_chain.specs.Stages.{IsReading, IsBehindHead}
-use Rattle.request_chain.specs.Plans.{Ending, Done, Open, Lost}
+use Rattle.request_chain.specs.Plans.{FetchEnding, Done, Open, Lost}
 use Rattle.request_chain.specs.declared.chain.Chain.{Chain}
 use Rattle.request_chain.specs.declared.chain.ChainRead.{ChainRead}
 
@@ -26,7 +26,7 @@ pub record IsChain (parts : List JobPart) (used : List Stream) (bytes : List ℕ
 
 -- what the streams tell where these bytes were brought: waiting is what came behind them and wasn't used yet
 pub record HasBrought (parts : List JobPart) (used : List Stream) (bytes waiting : List ℕ) : Type 0 where
-  pub ending : Ending
+  pub ending : FetchEnding
   pub fetched : Fetched parts used (bytes ++ waiting) ending []
 
 -- what was gained by a call

@@ -3,7 +3,7 @@ use Rattle.std.specs.Prelude.{ℕ, List, [], ◌∷◌, ◌++◌, drop, Option, 
 use Rattle.link_source.specs.Streams.{Stream}
 use Rattle.span_map.specs.declared.jobs.JobPart.{JobPart}
 use Rattle.request_chain.specs.Fetched.{FetchedBy}
-use Rattle.request_chain.specs.Plans.{Ending, Done, Plan, Ask, Over}
+use Rattle.request_chain.specs.Plans.{FetchEnding, Done, NextAsk, Ask, Over}
 use Rattle.request_chain.specs.declared.course.Course.{Course}
 use Rattle.request_chain.specs.declared.course.Moved.{Moved}
 
@@ -18,26 +18,26 @@ status_at None = 0
 status_at (Some moved) = moved.status
 
 -- of the first part these bytes are still to come
-abbrev pub plan_from : List JobPart → ℕ → ℕ → Option Moved → ℕ → Plan
+abbrev pub plan_from : List JobPart → ℕ → ℕ → Option Moved → ℕ → NextAsk
 plan_from [] at len moved redirects = Over Done
 plan_from (part ∷ parts) at len moved redirects =
     Ask (record part { at = at; len = len }) parts (url_at part moved) redirects (status_at moved)
 
 -- what is asked next
-abbrev pub plan_now : Course → Plan
+abbrev pub plan_now : Course → NextAsk
 plan_now course = plan_from (drop course.place course.parts) course.at course.len course.moved course.redirects
 
 -- something is asked next
-abbrev pub IsAsking : Plan → Type 0
+abbrev pub IsAsking : NextAsk → Type 0
 IsAsking (Ask part parts url count status) = ⊤
 IsAsking (Over ending) = ⊥
 
 -- P of what is asked next
-abbrev pub IfAsking : Plan → (JobPart → List JobPart → List ℕ → ℕ → ℕ → Type 0) → Type 0
+abbrev pub IfAsking : NextAsk → (JobPart → List JobPart → List ℕ → ℕ → ℕ → Type 0) → Type 0
 IfAsking (Ask part parts url count status) P = P part parts url count status
 IfAsking (Over ending) P = ⊤
 
 -- By the plan these streams brought these bytes, and the next plan is this one: whatever comes by it comes behind them.
-abbrev pub CarriesOn : Plan → List Stream → List ℕ → Plan → Type 0
-CarriesOn plan used bytes next = (streams rest : List Stream) (more : List ℕ) (ending : Ending)
+abbrev pub CarriesOn : NextAsk → List Stream → List ℕ → NextAsk → Type 0
+CarriesOn plan used bytes next = (streams rest : List Stream) (more : List ℕ) (ending : FetchEnding)
     → FetchedBy next streams more ending rest → FetchedBy plan (used ++ streams) (bytes ++ more) ending rest

@@ -4,11 +4,11 @@ use Rattle.link_source.specs.Streams.{Stream}
 use Rattle.span_map.specs.declared.jobs.JobPart.{JobPart}
 use Rattle.reply_reader.specs.Answers.{Answer}
 use Rattle.request_chain.specs.Exchanges.{Replies}
-use Rattle.request_chain.specs.Plans.{Ending, Done, Open, Lost, Plan, Ask, Over, plan_of, asked_of, next_plan, Stands}
+use Rattle.request_chain.specs.Plans.{FetchEnding, Done, Open, Lost, NextAsk, Ask, Over, plan_of, asked_of, next_plan, Stands}
 
 -- By this plan, over these streams: the bytes that came, in order, how it ended, and the streams behind the last that
 -- was used, which there are only where all came.
-abbrev pub FetchedBy : Plan → List Stream → List ℕ → Ending → List Stream → Type 0
+abbrev pub FetchedBy : NextAsk → List Stream → List ℕ → FetchEnding → List Stream → Type 0
 FetchedBy (Over Done) streams bytes ending rest = (bytes ≡ []) × (ending ≡ Done) × (rest ≡ streams)
 FetchedBy (Over Open) streams bytes ending rest = (bytes ≡ []) × (ending ≡ Open) × (streams ≡ []) × (rest ≡ [])
 FetchedBy (Over (Lost loss)) streams bytes ending rest = (bytes ≡ []) × (ending ≡ Lost loss) × (streams ≡ []) × (rest ≡ [])
@@ -19,11 +19,11 @@ FetchedBy (Ask part parts url count status) (stream ∷ streams) bytes ending re
     × FetchedBy (next_plan part parts url count answer.turn) streams more ending rest
 
 -- the parts, from the first on
-abbrev pub Fetched : List JobPart → List Stream → List ℕ → Ending → List Stream → Type 0
+abbrev pub Fetched : List JobPart → List Stream → List ℕ → FetchEnding → List Stream → Type 0
 Fetched parts streams bytes ending rest = FetchedBy (plan_of parts) streams bytes ending rest
 
 -- the same streams determine one result
 abbrev pub FetchedIsOne : Type 0
-FetchedIsOne = (parts : List JobPart) (streams rest other_rest : List Stream) (bytes other_bytes : List ℕ) (ending other_ending : Ending)
+FetchedIsOne = (parts : List JobPart) (streams rest other_rest : List Stream) (bytes other_bytes : List ℕ) (ending other_ending : FetchEnding)
     → Fetched parts streams bytes ending rest → Fetched parts streams other_bytes other_ending other_rest
     → (bytes ≡ other_bytes) × (ending ≡ other_ending) × (rest ≡ other_rest)

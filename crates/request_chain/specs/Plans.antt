@@ -9,19 +9,19 @@ use Rattle.reply_reader.specs.declared.loss.Loss.TheVariants.{Refused, Redirects
 use Rattle.request_chain.specs.Redirects.{moved_to, redirect_limit}
 
 -- All came; more is due; or it is lost.
-pub data Ending : Type 0 where
-  Done : Ending
-  Open : Ending
-  Lost : Loss → Ending
+pub data FetchEnding : Type 0 where
+  Done : FetchEnding
+  Open : FetchEnding
+  Lost : Loss → FetchEnding
 
 -- Asked next is this part, before these others, at this URL, after so many redirects of it, the last by a reply of this
 -- status, which is 0 where there was none. Or nothing more is asked.
-pub data Plan : Type 0 where
-  Ask : JobPart → List JobPart → List ℕ → ℕ → ℕ → Plan
-  Over : Ending → Plan
+pub data NextAsk : Type 0 where
+  Ask : JobPart → List JobPart → List ℕ → ℕ → ℕ → NextAsk
+  Over : FetchEnding → NextAsk
 
 -- the first part, at its own URL
-abbrev pub plan_of : List JobPart → Plan
+abbrev pub plan_of : List JobPart → NextAsk
 plan_of [] = Over Done
 plan_of (part ∷ parts) = Ask part parts part.url 0 0
 
@@ -34,7 +34,7 @@ abbrev pub rest_behind : JobPart → ℕ → JobPart
 rest_behind part last = record part { at = last + 1; len = part.at + part.len - 1 - last }
 
 -- all came of the part up to this place, which may be before its end: the rest of it is asked for on its own
-abbrev pub plan_behind : JobPart → List JobPart → ℕ → Plan
+abbrev pub plan_behind : JobPart → List JobPart → ℕ → NextAsk
 plan_behind part parts last =
     if nat_lt last (part.at + part.len - 1) then plan_of (rest_behind part last ∷ parts) else plan_of parts
 
@@ -43,12 +43,12 @@ abbrev pub unusable : ℕ → Loss
 unusable status = Refused status (record { 0 = 22 })
 
 -- the part is asked for where it was moved to
-abbrev pub plan_at : JobPart → List JobPart → ℕ → ℕ → Option (List ℕ) → Plan
+abbrev pub plan_at : JobPart → List JobPart → ℕ → ℕ → Option (List ℕ) → NextAsk
 plan_at part parts count status None = Over (Lost (unusable status))
 plan_at part parts count status (Some url) = Ask part parts url count status
 
 -- the plan where the request for the part, at this URL after so many redirects, had this answer
-abbrev pub next_plan : JobPart → List JobPart → List ℕ → ℕ → Turn → Plan
+abbrev pub next_plan : JobPart → List JobPart → List ℕ → ℕ → Turn → NextAsk
 next_plan part parts url count Due = Over Open
 next_plan part parts url count (Given last) = plan_behind part parts last
 next_plan part parts url count (Away status location) =
@@ -56,7 +56,7 @@ next_plan part parts url count (Away status location) =
 next_plan part parts url count (LostTurn loss) = Over (Lost loss)
 
 -- how it stands where no request was sent by the plan
-abbrev pub Stands : Plan → Ending → Type 0
+abbrev pub Stands : NextAsk → FetchEnding → Type 0
 Stands (Over ending) now = now ≡ ending
 Stands (Ask part parts url count status) now =
     (IsUsable url × (now ≡ Open)) ⊎ ((IsUsable url → ⊥) × (now ≡ Lost (unusable status)))

@@ -80,7 +80,8 @@ impl Chain {
         requires none_open { self.old.stage ≡ Stage.Asking }
         ensures asks { IsTrue L.tells
             → (parts : List JobPart) (before used : List Stream) (bytes : List ℕ)
-            → IsChain parts used bytes self.old → Gains before (L.state link.old).streams used → MatchResult result
+            → IsChain parts used bytes self.old → Gains before (L.state link.old).streams used
+            → MatchResult result
             (λ _. Steps parts before used bytes (L.state link.new).streams [] self.old.taken self.new)
             (StepLoses parts before used bytes (L.state link.new).streams [] self.old.taken (L.faults link.new) self.new) }
         ensures course { self.new.course ≡ self.old.course }
@@ -107,7 +108,8 @@ impl Chain {
         requires listens { IsTrue L.tells → (L.state link.old).listens ≡ true }
         ensures receives { IsTrue L.tells
             → (parts : List JobPart) (before used : List Stream) (bytes : List ℕ)
-            → IsChain parts used bytes self.old → Gains before (L.state link.old).streams used → MatchResult result
+            → IsChain parts used bytes self.old → Gains before (L.state link.old).streams used
+            → MatchResult result
             (λ _. ReceivesMore parts before used bytes (L.state link.new).streams self.old.taken self.new)
             (StepLoses parts before used bytes (L.state link.new).streams [] self.old.taken (L.faults link.new) self.new) }
         ensures course { self.new.course ≡ self.old.course }
@@ -148,7 +150,8 @@ impl Chain {
         requires asking { IsAsking (plan_now self.old.course) }
         requires none_open { self.old.stage ≡ Stage.Asking }
         ensures follows { (parts : List JobPart) (used : List Stream) (bytes : List ℕ)
-            → HeadIsRead parts used self.old.course self.old.room.inbox bytes head.now → HasMoved self.old.course head.now → MatchResult result
+            → HeadIsRead parts used self.old.course self.old.room.inbox bytes head.now
+            → HasMoved self.old.course head.now → MatchResult result
             (λ _. IsChain parts used bytes self.new)
             (λ loss. (faults : ℕ) → TellsLoss parts used bytes faults loss) }
         ensures small { OnOk result (weight_of self.new ≤ 2) }
@@ -182,10 +185,12 @@ impl Chain {
         requires asking { IsAsking (plan_now self.old.course) }
         requires none_open { self.old.stage ≡ Stage.Asking }
         ensures starts { (parts : List JobPart) (used : List Stream) (bytes : List ℕ)
-            → HeadIsRead parts used self.old.course self.old.room.inbox bytes head.now → MatchResult result
+            → HeadIsRead parts used self.old.course self.old.room.inbox bytes head.now
+            → MatchResult result
             (λ _. IsChain parts used bytes self.new)
             (λ loss. (faults : ℕ) → TellsLoss parts used bytes faults loss) }
-        ensures small { OnOk result ((weight_of self.new ≤ 3 * length self.old.room.inbox) ⊎ (weight_of self.new ≤ 2)) }
+        ensures small { OnOk result ((weight_of self.new ≤ 3 * length self.old.room.inbox)
+            ⊎ (weight_of self.new ≤ 2)) }
         ensures taken { self.new.taken ≡ self.old.taken }
         ensures own { IfErr result (λ loss. (count : ℕ) → loss ≡ Link count → ⊥) }
         ensures known { IfErr result IsKnown }
@@ -208,7 +213,8 @@ impl Chain {
         requires none_open { self.old.stage ≡ Stage.Asking }
         requires some { 0 < length self.old.room.inbox }
         ensures reads { (parts : List JobPart) (used : List Stream) (bytes : List ℕ)
-            → IsReadingHead parts used self.old.course self.old.room.inbox bytes reader → MatchResult result
+            → IsReadingHead parts used self.old.course self.old.room.inbox bytes reader
+            → MatchResult result
             (λ _. IsChain parts used bytes self.new)
             (λ loss. (faults : ℕ) → TellsLoss parts used bytes faults loss) }
         ensures smaller { OnOk result (weight_of self.new < 3 * length self.old.room.inbox + 1) }
@@ -371,7 +377,8 @@ impl Chain {
             (Loses parts before used bytes (L.state link.new).streams added allow (L.faults link.new) self.new) }
 
         // Also of a link that tells nothing.
-        ensures full { IfOk result (λ read. (read.done ≡ true) ⊎ (vec_len out.old + room ≤ vec_len out.new) ⊎ (read.taken ≡ allow)) }
+        ensures full { IfOk result (λ read. (read.done ≡ true)
+            ⊎ (vec_len out.old + room ≤ vec_len out.new) ⊎ (read.taken ≡ allow)) }
         ensures taken { IfOk result (λ read. read.taken ≡ self.new.taken) }
         ensures may { OnOk result (IsTrue L.tells → MayGoOn self.new (L.state link.new)) }
         ensures few { self.new.taken ≤ allow }

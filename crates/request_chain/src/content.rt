@@ -50,7 +50,8 @@ impl Content {
         requires some_room { 0 < room }
         requires room { vec_len out.old + room ≤ vec_capacity out.old }
         requires dropped_room { 65536 ≤ vec_capacity dropped.old }
-        ensures reads { (asked : Asked) (received got : List ℕ) → IsReadTo asked received inbox.old got self.old Due
+        ensures reads { (asked : Asked) (received got : List ℕ)
+            → IsReadTo asked received inbox.old got self.old Due
             → (added : List ℕ) × (out.new.items ≡ out.old.items ++ added)
             × IsReadTo asked received inbox.new (got ++ added) self.new (turn_by result self.new) }
         ensures len { vec_len out.new ≤ vec_len out.old + room }
@@ -73,10 +74,12 @@ pub(crate) fn begin(head: &Head, asked: &Asked) -> Result<Option<Content>, Loss>
     requires ordered { asked.now.first ≤ asked.now.last }
     requires bounded { asked.now.last + 1 < 2 ^ 64 }
     requires total { (total : ℕ) × (asked.now.total ≡ Some total) × (asked.now.last < total) }
-    ensures begun { IfOk result (λ begun. IfSome begun (λ content. IsBegun asked.now head.now content)) }
+    ensures begun { IfOk result (λ begun. IfSome begun
+        (λ content. IsBegun asked.now head.now content)) }
     ensures moved { result ≡ Ok None → verdict_of head.now asked.now ≡ Moved }
     ensures lost { IfErr result (λ loss. IsOwn loss × ((stream : List ℕ) (ended : Bool)
-        → answer_by head.now asked.now (verdict_of head.now asked.now) stream ended ≡ without_bytes (Lost loss))) }
+        → answer_by head.now asked.now (verdict_of head.now asked.now) stream ended
+        ≡ without_bytes (Lost loss))) }
     ensures known { IfErr result IsKnown }
 {
     numbers_and_ranges_are_read();

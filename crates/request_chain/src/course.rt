@@ -34,7 +34,8 @@ pub(crate) const REDIRECT_LIMIT: u32 = 20;
 
 // Where the part at a place begins, and its length. It doesn't matter where there is none.
 fn bounds(parts: &JobParts, place: usize) -> (u64, u64)
-    ensures { (part : JobPart) → slice_get parts.now place ≡ Some part → (result.0 ≡ part.at) × (result.1 ≡ part.len) }
+    ensures { (part : JobPart) → slice_get parts.now place ≡ Some part → (result.0 ≡ part.at)
+        × (result.1 ≡ part.len) }
 {
     match parts.get(place) {
         Some(part) => (part.at, part.len),
@@ -79,7 +80,8 @@ impl Course {
     // The length of the resource.
     fn total(&self) -> u64
         requires { IsAsking (plan_now self.now) }
-        ensures { (part : JobPart) × (slice_get self.now.parts self.now.place ≡ Some part) × (result ≡ part.total) }
+        ensures { (part : JobPart) × (slice_get self.now.parts self.now.place ≡ Some part)
+            × (result ≡ part.total) }
     {
         self.part().total
     }
@@ -87,7 +89,8 @@ impl Course {
     /// What is asked for.
     pub fn asked(&self) -> Asked
         requires { IsAsking (plan_now self.now) }
-        ensures asked { IfAsking (plan_now self.now) (λ part others url count status. result ≡ asked_of part) }
+        ensures asked { IfAsking (plan_now self.now)
+            (λ part others url count status. result ≡ asked_of part) }
         ensures ordered { result.first ≤ result.last }
         ensures bounded { result.last + 1 < 2 ^ 64 }
         ensures total { (total : ℕ) × (result.total ≡ Some total) × (result.last < total) }
@@ -123,7 +126,8 @@ impl Course {
 
     /// Whether it was moved as often as it may be.
     pub fn is_moved_often(&self) -> bool
-        ensures value { IfAsking (plan_now self.now) (λ part others url count status. result ≡ nat_le redirect_limit count) }
+        ensures value { IfAsking (plan_now self.now)
+            (λ part others url count status. result ≡ nat_le redirect_limit count) }
         ensures few { IsFalse result → self.now.redirects < redirect_limit }
     {
         self.redirects >= REDIRECT_LIMIT
@@ -142,7 +146,8 @@ impl Course {
     /// All came up to this place.
     pub fn come_to(&mut self, last: u64)
         requires { IsAsking (plan_now self.old) }
-        ensures { IfAsking (plan_now self.old) (λ part others url count status. plan_now self.new ≡ plan_behind part others last) }
+        ensures { IfAsking (plan_now self.old)
+            (λ part others url count status. plan_now self.new ≡ plan_behind part others last) }
     {
         self.moved = None;
         self.redirects = 0;
@@ -160,7 +165,8 @@ impl Course {
         requires asking { IsAsking (plan_now self.old) }
         requires unmoved { self.old.moved ≡ None }
         requires unredirected { self.old.redirects ≡ 0 }
-        ensures { IfAsking (plan_now self.old) (λ part others url count status. plan_now self.new ≡ plan_of others) }
+        ensures { IfAsking (plan_now self.old)
+            (λ part others url count status. plan_now self.new ≡ plan_of others) }
     {
         let place = if self.place < self.parts.len() {
             self.place + 1

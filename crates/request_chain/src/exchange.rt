@@ -33,7 +33,8 @@ pub(crate) fn link_loss<L: Links>(link: &L, error: IoErr) -> Loss
 /// The endpoint of a URL, to which a reply of this status led.
 fn endpoint(alloc: Global, url: &str, status: u16) -> Result<Endpoint, Loss>
     ensures leads { IfOk result (λ endpoint. LeadsTo url.now endpoint) }
-    ensures lost { IfErr result (λ loss. (loss ≡ NoMemory) ⊎ ((loss ≡ unusable status) × (IsUsable url.now → ⊥))) }
+    ensures lost { IfErr result (λ loss. (loss ≡ NoMemory)
+        ⊎ ((loss ≡ unusable status) × (IsUsable url.now → ⊥))) }
     ensures known { IfErr result IsKnown }
 {
     match Endpoint::of(alloc, url) {

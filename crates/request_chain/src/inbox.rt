@@ -122,11 +122,15 @@ impl Inbox {
 
     /// Reads on a head with all that waits. What stands behind the head waits on.
     pub fn read_head(&mut self, alloc: Global, reader: &mut HeadReader) -> HeadsRead
-        ensures whole { IfFinal result (λ head used. (used ≤ length self.old) × (self.new ≡ drop used self.old)
-            × ((received : List ℕ) → IsAtHead received reader.old → HasFinalHead (received ++ self.old) head (length received + used))) }
+        ensures whole { IfFinal result (λ head used. (used ≤ length self.old)
+            × (self.new ≡ drop used self.old)
+            × ((received : List ℕ) → IsAtHead received reader.old
+            → HasFinalHead (received ++ self.old) head (length received + used))) }
         ensures more { result ≡ More → (self.new ≡ [])
-            × ((received : List ℕ) → IsAtHead received reader.old → IsAtHead (received ++ self.old) reader.new) }
-        ensures bad { result ≡ Bad → (received : List ℕ) → IsAtHead received reader.old → HasNoFinalHead (received ++ self.old) }
+            × ((received : List ℕ) → IsAtHead received reader.old
+            → IsAtHead (received ++ self.old) reader.new) }
+        ensures bad { result ≡ Bad → (received : List ℕ) → IsAtHead received reader.old
+            → HasNoFinalHead (received ++ self.old) }
         ensures none_more { length self.new ≤ length self.old }
     {
         let count = self.ring.read_into(&mut self.block);

@@ -35,9 +35,11 @@ const MAX_HEADS: u32 = 9 * 65_536;
 
 // What a head tells: a length, or that the resource was moved.
 fn told_length(head: &Head) -> Result<Option<u64>, Loss>
-    ensures length { IfOk result (λ told. IfSome told (λ total. probe_by head.now (verdict_of head.now probe_asked) ≡ Told total)) }
+    ensures length { IfOk result (λ told. IfSome told
+        (λ total. probe_by head.now (verdict_of head.now probe_asked) ≡ Told total)) }
     ensures moved { result ≡ Ok None → verdict_of head.now probe_asked ≡ HasMoved }
-    ensures lost { IfErr result (λ loss. IsOwn loss × (probe_by head.now (verdict_of head.now probe_asked) ≡ Lost loss)) }
+    ensures lost { IfErr result (λ loss. IsOwn loss
+        × (probe_by head.now (verdict_of head.now probe_asked) ≡ Lost loss)) }
     ensures known { IfErr result IsKnown }
 {
     let asked = Asked {
@@ -74,7 +76,9 @@ fn told_length(head: &Head) -> Result<Option<u64>, Loss>
 // A head that doesn't come whole is lost so, if it is one so far.
 fn check(alloc: Global, reader: &HeadReader) -> Result<(), Loss>
     ensures due { OnOk result ((front : List ℕ) → IsAtHead front reader.now → IsHeadDue front) }
-    ensures lost { IfErr result (λ loss. (loss ≡ NoMemory) ⊎ ((loss ≡ BadReply) × ((front : List ℕ) → IsAtHead front reader.now → HasNoFinalHead front))) }
+    ensures lost { IfErr result (λ loss. (loss ≡ NoMemory)
+        ⊎ ((loss ≡ BadReply) × ((front : List ℕ) → IsAtHead front reader.now
+        → HasNoFinalHead front))) }
     ensures known { IfErr result IsKnown }
 {
     match reader.is_due(alloc) {
@@ -95,7 +99,8 @@ fn receive<L: Links>(
     requires some { 0 < most }
     requires listens { IsTrue L.tells → (L.state link.old).listens ≡ true }
     ensures receives { IsTrue L.tells
-        → (url : List ℕ) (before : List Stream) → Awaits url before (L.state link.old).streams most [] reader.now
+        → (url : List ℕ) (before : List Stream)
+        → Awaits url before (L.state link.old).streams most [] reader.now
         → MatchResult result (λ count. Awaits url before (L.state link.new).streams (most - count) inbox.new reader.now)
         (HeadLost url before (L.state link.new).streams (L.faults link.new)) }
     ensures some { IfOk result (λ count. (0 < count) × (count ≤ most)) }
@@ -123,7 +128,8 @@ fn receive<L: Links>(
 fn receive_head<L: Links>(alloc: Global, link: &mut L, inbox: &mut Inbox) -> Result<Head, Loss>
     requires { IsTrue L.tells → (L.state link.old).listens ≡ true }
     ensures heads { IsTrue L.tells
-        → (url : List ℕ) (before : List Stream) → IsOpened url probe_asked before (L.state link.old).streams
+        → (url : List ℕ) (before : List Stream)
+        → IsOpened url probe_asked before (L.state link.old).streams
         → MatchResult result (HasHead url before (L.state link.new).streams)
         (HeadLost url before (L.state link.new).streams (L.faults link.new)) }
     ensures answered { IsTrue L.tells → (url : List ℕ) (others before : List Stream)
@@ -174,9 +180,11 @@ fn ask<L: Links>(alloc: Global, link: &mut L, inbox: &mut Inbox, hop: &Moved) ->
 
 // Where the head says that the resource is.
 fn next_hop(alloc: Global, url: &str, head: &Head) -> Result<Moved, Loss>
-    ensures leads { (text : List ℕ) → sole (values_of head.now (codes "location")) ≡ Some text → MatchResult result
+    ensures leads { (text : List ℕ) → sole (values_of head.now (codes "location")) ≡ Some text
+        → MatchResult result
         (λ hop. (moved_to url.now text ≡ Some hop.url) × (hop.status ≡ head.now.status))
-        (λ loss. (loss ≡ NoMemory) ⊎ ((loss ≡ unusable head.now.status) × (moved_to url.now text ≡ None))) }
+        (λ loss. (loss ≡ NoMemory) ⊎ ((loss ≡ unusable head.now.status)
+        × (moved_to url.now text ≡ None))) }
     ensures own { IfErr result (λ loss. (count : ℕ) → loss ≡ Link count → ⊥) }
     ensures known { IfErr result IsKnown }
 {
@@ -201,7 +209,8 @@ pub fn probe<L: Links>(
     room: &mut ChainRoom,
 ) -> Result<u64, Loss>
     ensures probes { IsTrue L.tells
-        → (used : List Stream) × Gains (L.state link.old).streams (L.state link.new).streams used × MatchResult result
+        → (used : List Stream) × Gains (L.state link.old).streams (L.state link.new).streams used
+        × MatchResult result
         (λ total. Probed url.now used (Told total))
         (TellsProbeLoss url.now used (L.faults link.new)) }
     ensures answered { IsTrue L.tells → (before : List Stream)

@@ -32,7 +32,8 @@ fn joined(alloc: Global, url: &str, reference: &str) -> Result<Option<Text>, NoM
 
 /// Where the head of a reply says that the resource is, which was asked for at this URL.
 pub(crate) fn target(alloc: Global, url: &str, head: &Head) -> Result<Option<Text>, NoMemory>
-    ensures { IfOk result (λ target. (text : List ℕ) → sole (values_of head.now (codes "location")) ≡ Some text
+    ensures { IfOk result (λ target. (text : List ℕ)
+        → sole (values_of head.now (codes "location")) ≡ Some text
         → target ≡ moved_to url.now text) }
 {
     match location(head) {

@@ -36,7 +36,8 @@ impl Stage {
     /// Whether a head that is read can still come. Asked where no more of the stream is read, for now or for good.
     pub fn check(&self, alloc: Global) -> Result<(), Loss>
         ensures due { OnOk result (IsDueAt self.now) }
-        ensures lost { IfErr result (λ loss. (loss ≡ NoMemory) ⊎ ((loss ≡ BadReply) × IsNoHeadAt self.now)) }
+        ensures lost { IfErr result (λ loss. (loss ≡ NoMemory)
+            ⊎ ((loss ≡ BadReply) × IsNoHeadAt self.now)) }
         ensures known { IfErr result IsKnown }
     {
         let Stage::Head(reader) = self else {

@@ -16,13 +16,25 @@ pub returns-then-self-ge-INTERIM_LIMIT-clause-bad : goal.returns-then-self-ge-IN
 returns-then-self-ge-INTERIM_LIMIT-clause-bad c is received was =
     too_many received c.turns.self c.in-Whole.head c.in-Whole.used
     (subst (λ (l : List ℕ). IsHead l c.in-Whole.head c.in-Whole.used) c.deref.ensures.value c.in-Whole.ensures.whole)
-    (cc) c.if-self-ge-INTERIM_LIMIT.true (c.turns.invariant received was)
+    (cc) c.if-self-ge-INTERIM_LIMIT.true (c.turns.invariant.behind received was)
 
 pub turns-preserved : goal.turns-preserved
-turns-preserved c received was =
-    passes received c.turns.self _ c.in-Whole.head c.in-Whole.used
-    (subst (λ (l : List ℕ). IsHead l c.in-Whole.head c.in-Whole.used) c.deref.ensures.value c.in-Whole.ensures.whole)
-    (cc) c.if-self-ge-INTERIM_LIMIT.false refl c.drop_front.ensures (c.turns.invariant received was)
+turns-preserved c = record {
+  behind = λ received was.
+      passes received c.turns.self _ c.in-Whole.head c.in-Whole.used
+      (subst (λ (l : List ℕ). IsHead l c.in-Whole.head c.in-Whole.used) c.deref.ensures.value c.in-Whole.ensures.whole)
+      (cc) c.if-self-ge-INTERIM_LIMIT.false refl c.drop_front.ensures (c.turns.invariant.behind received was);
+  line = c.turns.invariant.line;
+}
+
+pub returns-then-not-is_interim-clause-line : goal.returns-then-not-is_interim-clause-line
+returns-then-not-is_interim-clause-line c = c.turns.invariant.line
+
+pub returns-then-self-ge-INTERIM_LIMIT-clause-line : goal.returns-then-self-ge-INTERIM_LIMIT-clause-line
+returns-then-self-ge-INTERIM_LIMIT-clause-line c = c.turns.invariant.line
+
+pub returns-in_default-clause-line : goal.returns-in_default-clause-line
+returns-in_default-clause-line c = c.turns.invariant.line
 
 pub returns-in_default-clause-whole : goal.returns-in_default-clause-whole
 returns-in_default-clause-whole c = unless_whole _ c.read_head.result c.in_default.not-Whole
@@ -35,4 +47,4 @@ returns-in_default-clause-more c is = subst IsUnfinished c.deref.ensures.value (
 
 pub returns-in_default-clause-bad : goal.returns-in_default-clause-bad
 returns-in_default-clause-bad c is received was =
-    no_head_behind received c.turns.self (subst IsNoHead c.deref.ensures.value (c.read_head.ensures.bad is)) (c.turns.invariant received was)
+    no_head_behind received c.turns.self (subst IsNoHead c.deref.ensures.value (c.read_head.ensures.bad is)) (c.turns.invariant.behind received was)

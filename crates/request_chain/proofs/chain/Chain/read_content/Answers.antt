@@ -2,7 +2,7 @@ use Rattle.std.proofs.Common.{◌++◌, sym, subst}
 use Rattle.reply_reader.specs.Answers.{Turn, Given, Lost}
 use Rattle.reply_reader.specs.declared.loss.Loss.TheVariants.{BadReply, Short}
 use Rattle.request_chain.specs.Courses.{plan_now, CarriesOn}
-use Rattle.request_chain.specs.Plans.{Plan, plan_of, asked_of}
+use Rattle.request_chain.specs.Plans.{NextAsk, plan_of, asked_of}
 use Rattle.request_chain.specs.Stages.{IsReading, IsBehindHead}
 use Rattle.request_chain.specs.declared.stage.Stage.{Stage}
 use Rattle.request_chain.proofs.AskLemmas.{asked_in}
@@ -30,7 +30,7 @@ returns-in-Come-clause-reads c parts used bytes reading =
     let turn : Turn = Given c.read.new.self.last in
     let has = content_has c.streams_have_one_answer.ensures.stay parts used self.course self.room.inbox c.read.new.inbox bytes read.0 c.args.content c.read.new.self turn (λ is. cc) reading read.2 in
     let come = asked_in (plan_now self.course) s.part s.others s.url s.count s.status _ s.asks c.come_to.ensures in
-    let P : Plan → Type 0 = λ plan. CarriesOn (plan_of parts) used (bytes ++ read.0) plan in
+    let P : NextAsk → Type 0 = λ plan. CarriesOn (plan_of parts) used (bytes ++ read.0) plan in
     let Q : Stage → Type 0 = λ stage. IsReading stage c.come_to.new.self c.clear.new.self parts used (bytes ++ read.0) in
     let R : Stage → Type 0 = λ stage. IsBehindHead stage c.clear.new.self in (
       read.0,
