@@ -15,7 +15,8 @@ pub record IsSoleBelow (s : Situation) (bound : ℕ) (run : Run) : Type 0 where
   pub below : is.piece < bound
 
 -- what a run that goes first is preferred to
-preferred_over : (run other : Run) (found : Found) → GoesFirst run found → IsPreferred found.run other → IsPreferred run other
+preferred_over : (run other : Run) (found : Found) → GoesFirst run found → IsPreferred found.run other
+    → IsPreferred run other
 preferred_over run other found first after = grind arith
 
 preferred_itself : (run : Run) → IsPreferred run run
@@ -72,7 +73,8 @@ best_with s Looked More (Some found) after run within stretch more best (inr pas
     })
 
 -- fewer were looked at, or the others told in another way
-pub best_less : (s : Situation) (Looked More : Run → Type 0) (found : Option Found) → ((other : Run) → More other → Looked other)
+pub best_less : (s : Situation) (Looked More : Run → Type 0) (found : Option Found)
+    → ((other : Run) → More other → Looked other)
     → IsBestOf s Looked found → IsBestOf s More found
 best_less s Looked More None more best = λ other mirror looked chosen. best other mirror (more other looked) chosen
 best_less s Looked More (Some found) more best = record {
@@ -82,12 +84,14 @@ best_less s Looked More (Some found) more best = record {
 }
 
 -- a sole piece whose blocks are all free is a stretch
-pub sole_stretch : (s : Situation) (piece : ℕ) (run : Run) → piece < pieces_of s.total s.piece_len → IsFreeSole s piece run → IsSoleStretch s run
+pub sole_stretch : (s : Situation) (piece : ℕ) (run : Run) → piece < pieces_of s.total s.piece_len
+    → IsFreeSole s piece run → IsSoleStretch s run
 sole_stretch s piece run known is =
     record { piece = piece; known = known; sole = is.sole; first = is.first; count = is.count; free = is.free }
 
 -- the next sole piece is the one that comes in
-pub next_sole : (s : Situation) (piece : ℕ) (run other : Run) → IsFreeSole s piece run → IsLooseStretch s other ⊎ IsSoleBelow s (piece + 1) other
+pub next_sole : (s : Situation) (piece : ℕ) (run other : Run) → IsFreeSole s piece run
+    → IsLooseStretch s other ⊎ IsSoleBelow s (piece + 1) other
     → (IsLooseStretch s other ⊎ IsSoleBelow s piece other) ⊎ (other ≡ run)
 next_sole s piece run other is (inl loose) = inl (inl loose)
 next_sole s piece run other is (inr sole) = elim (cases_eq sole.is.piece piece) [
@@ -115,6 +119,7 @@ no_sole s piece other none (inr sole) = elim (cases_eq sole.is.piece piece) [
 ]
 
 -- an option that is no value is none
-pub at_none : {A : Type 0} (o : Option A) (P : Type 0) (Q : A → Type 0) → ((x : A) → o ≡ Some x → ⊥) → MatchOption o P Q → P
+pub at_none : {A : Type 0} (o : Option A) (P : Type 0) (Q : A → Type 0) → ((x : A) → o ≡ Some x → ⊥)
+    → MatchOption o P Q → P
 at_none None P Q not is = is
 at_none (Some x) P Q not is = absurd (not x refl)

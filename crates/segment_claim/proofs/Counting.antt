@@ -19,5 +19,7 @@ count-part_more xs at i v from is =
     let place : at + (i - at) ≡ i = omega arith in
     let within : i < length xs = slice_get_within xs i v is in
     let inside : i - at < length (drop at xs) = omega (arith, length-drop at xs) in
-    let value : get_or (drop at xs) (i - at) false ≡ v = get_or-drop at xs (i - at) false ∙ ap (λ n. get_or xs n false) place ∙ get_or_from_slice_get xs i v false is in
-    ap (λ n. count_of (part_at xs at n)) next ∙ sum_by_more one (drop at xs) (i - at) false inside ∙ ap (λ b. count_of (part_at xs at (i - at)) + one b) value
+    let value : get_or (drop at xs) (i - at) false ≡ v =
+    get_or-drop at xs (i - at) false ∙ ap (λ n. get_or xs n false) place ∙ get_or_from_slice_get xs i v false is in
+    ap (λ n. count_of (part_at xs at n)) next ∙ sum_by_more one (drop at xs) (i - at) false inside
+    ∙ ap (λ b. count_of (part_at xs at (i - at)) + one b) value

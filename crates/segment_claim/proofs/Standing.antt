@@ -17,7 +17,8 @@ stands_later : (first claim : Claim) (rest : List Claim) → Contains rest claim
 stands_later first claim rest later = (suc later.0, (let w = later.1 in omega arith), later.2)
 
 -- what is found is there
-pub found_stands : (p : Claim → Bool) (standing : List Claim) (claim : Claim) → Some claim ≡ find p standing → Contains standing claim
+pub found_stands : (p : Claim → Bool) (standing : List Claim) (claim : Claim) → Some claim ≡ find p standing
+    → Contains standing claim
 found_stands p [] claim is = cc
 found_stands p (first ∷ rest) claim is =
     elim (p first) as (λ (b : Bool). Some claim ≡ cond b (Some first) (find p rest) → Contains (first ∷ rest) claim) [
@@ -27,7 +28,8 @@ found_stands p (first ∷ rest) claim is =
 
 -- where a claim stands, each piece has a number
 pub full_where_stands : (total piece_len next : ℕ) (standing : List Claim) (closed : List ℕ) (claim : Claim)
-    → KeepsClaims total piece_len standing closed next → Contains standing claim → length closed ≡ pieces_of total piece_len
+    → KeepsClaims total piece_len standing closed next → Contains standing claim
+    → length closed ≡ pieces_of total piece_len
 full_where_stands total piece_len next standing closed claim kept stands = elim kept.pieces [
   | inl full ↦ full
   | inr bare ↦
@@ -57,11 +59,13 @@ full_where_some total piece_len next (claim ∷ rest) closed kept some =
     full_where_stands total piece_len next (claim ∷ rest) closed claim kept (stands_here claim claim rest refl)
 
 -- there is more room where there is more behind the claims
-pub room_more : (pieces closed before after : ℕ) → before ≤ after → room_of pieces closed before ≤ room_of pieces closed after
-room_more pieces closed before after more = elim (nat_lt closed pieces) as (λ (b : Bool). cond b 0 before ≤ cond b 0 after) [
-  | true ↦ omega arith
-  | false ↦ more
-]
+pub room_more : (pieces closed before after : ℕ) → before ≤ after
+    → room_of pieces closed before ≤ room_of pieces closed after
+room_more pieces closed before after more =
+    elim (nat_lt closed pieces) as (λ (b : Bool). cond b 0 before ≤ cond b 0 after) [
+      | true ↦ omega arith
+      | false ↦ more
+    ]
 
 -- .. and where there is room for one
 pub full_where_room : (total piece_len next pieces room : ℕ) (standing : List Claim) (closed : List ℕ)

@@ -20,14 +20,16 @@ pub record IsSeen (s : Situation) (standing : List Claim) (view : ClaimView) : T
   pub stands : Contains standing claim
   pub view_of : IsViewOf s claim view
 
-later : (s : Situation) (first : Claim) (rest : List Claim) (view : ClaimView) → IsSeen s rest view → IsSeen s (first ∷ rest) view
+later : (s : Situation) (first : Claim) (rest : List Claim) (view : ClaimView) → IsSeen s rest view
+    → IsSeen s (first ∷ rest) view
 later s first rest view seen = record {
   claim = seen.claim;
   stands = let h = seen.stands in (suc h.0, (let w = h.1 in omega arith), h.2);
   view_of = seen.view_of;
 }
 
-pub seen : (s : Situation) (standing : List Claim) (views : List ClaimView) (view : ClaimView) → AllZip (IsViewOf s) standing views
+pub seen : (s : Situation) (standing : List Claim) (views : List ClaimView) (view : ClaimView)
+    → AllZip (IsViewOf s) standing views
     → (k : ℕ) → k < length views → get_or views k view ≡ view → IsSeen s standing view
 seen s [] [] view all k within is = absurd (omega arith)
 seen s [] (other ∷ views) view all k within is = absurd all
@@ -37,13 +39,17 @@ seen s (claim ∷ standing) (other ∷ views) view all zero within is = record {
   stands = (0, omega arith, refl);
   view_of = subst (IsViewOf s claim) is all.0;
 }
-seen s (claim ∷ standing) (other ∷ views) view all (suc k) within is = later s claim standing view (seen s standing views view all.1 k (omega arith) is)
+seen s (claim ∷ standing) (other ∷ views) view all (suc k) within is =
+    later s claim standing view (seen s standing views view all.1 k (omega arith) is)
 
-seen_victim : (s : Situation) (views : List ClaimView) (now : ℕ) (steal : Steal) → AreViews s views → (is : IsSteal now views steal) → IsSeen s s.standing is.claim
-seen_victim s views now steal all is = let listed = is.is.listed in seen s s.standing views is.claim all listed.0 listed.1 listed.2
+seen_victim : (s : Situation) (views : List ClaimView) (now : ℕ) (steal : Steal) → AreViews s views
+    → (is : IsSteal now views steal) → IsSeen s s.standing is.claim
+seen_victim s views now steal all is = let listed = is.is.listed in
+    seen s s.standing views is.claim all listed.0 listed.1 listed.2
 
 -- it is of a standing claim
-pub steal_of : (book : ClaimBook) (s : Situation) (views : List ClaimView) (now : ℕ) (steal : Steal) → s.standing ≡ book.standing
+pub steal_of : (book : ClaimBook) (s : Situation) (views : List ClaimView) (now : ℕ) (steal : Steal)
+    → s.standing ≡ book.standing
     → AreViews s views → IsSteal now views steal → IsStealOf book steal
 steal_of book s views now steal same all is =
     let view : ClaimView = is.claim in
@@ -54,7 +60,8 @@ steal_of book s views now steal same all is =
     let from = own_from s claim view.own (omega arith) own in
     let to = own_to s claim view.own (omega arith) own in
     let run : steal.run ≡ later_half view.own = is.run in
-    let first : steal.run.first ≡ view.own.first + (view.own.count - view.own.count / 2) = ap (λ (r : Run). r.first) run in
+    let first : steal.run.first ≡ view.own.first + (view.own.count - view.own.count / 2) =
+    ap (λ (r : Run). r.first) run in
     let count : steal.run.count ≡ view.own.count / 2 = ap (λ (r : Run). r.count) run in
     record {
       claim = claim;
@@ -66,7 +73,8 @@ steal_of book s views now steal same all is =
     }
 
 -- and has a mirror
-pub steal_mirror : (s : Situation) (views : List ClaimView) (now : ℕ) (steal : Steal) → AreViews s views → IsSteal now views steal
+pub steal_mirror : (s : Situation) (views : List ClaimView) (now : ℕ) (steal : Steal) → AreViews s views
+    → IsSteal now views steal
     → (mirror : ℕ) × IsMirrorFor s steal.run mirror
 steal_mirror s views now steal all is =
     let view : ClaimView = is.claim in

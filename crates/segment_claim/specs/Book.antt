@@ -3,7 +3,7 @@ use Rattle.std.specs.Prelude.{ℕ, ◌+◌, ◌-◌, Bool, false, List, [], ◌�
 use Rattle.std.specs.Option.{option_and_then, option_map_or}
 use Rattle.dl_kinds.specs.Plan.{pieces_of}
 use Rattle.dl_kinds.specs.declared.claims.Claim.{Claim}
-use Rattle.segment_claim.specs.Open.{first_open_in, has_number, is_open_in, is_unfinished}
+use Rattle.segment_claim.specs.Open.{first_open_in, has_number, is_open_in, is_underway}
 
 pub record ClaimBook : Type 0 where
   pub total : ℕ  -- the bytes of the payload
@@ -54,4 +54,4 @@ first_open_under book landed id =
 
 -- the claims in which a block is open stand on
 abbrev pub swept : ClaimBook → List Bool → ℕ → ClaimBook
-swept book landed spare = kept_where (is_unfinished book.piece_len landed book.closed) spare book
+swept book landed spare = kept_where (is_underway book.piece_len landed book.closed) spare book

@@ -9,7 +9,7 @@ use Rattle.mirror_blame.specs.Choice.{IsChoice}
 use Rattle.mirror_blame.specs.Marks.{IsEligible}
 use Rattle.piece_table.specs.Changes.{is_in}
 use Rattle.segment_claim.specs.Open.{is_open_in}
-use Rattle.segment_claim.specs.Situation.{Situation, host_loads, mirrors_of}
+use Rattle.segment_claim.specs.Situation.{Situation, host_loads, mirror_count}
 
 -- the piece of a block
 abbrev pub piece_at : Situation → ℕ → ℕ
@@ -25,7 +25,8 @@ is_claimed s block = list_any (is_open_at s block) s.standing
 -- a block is free: it is wanted, it isn't landed, and no standing claim is to bring it
 abbrev pub is_free : Situation → ℕ → Bool
 is_free s block =
-    slice_index_or s.wanted (piece_at s block) false && not (slice_index_or s.landed block false) && not (is_claimed s block)
+    slice_index_or s.wanted (piece_at s block) false && not (slice_index_or s.landed block false) && not
+    (is_claimed s block)
 
 -- a free block that may stand in a stretch with others: its piece isn't sole
 abbrev pub is_loose : Situation → ℕ → Bool
@@ -34,7 +35,7 @@ is_loose s block = is_free s block && not (slice_index_or s.sole (piece_at s blo
 -- the same mirrors have a try left for both pieces
 abbrev pub AreAlike : Situation → ℕ → ℕ → Type 0
 AreAlike s piece other =
-    (mirror : ℕ) → mirror < mirrors_of s
+    (mirror : ℕ) → mirror < mirror_count s
     → IsEligible s.max_tries s.marks mirror piece ↔ IsEligible s.max_tries s.marks mirror other
 
 -- the blocks' pieces are alike
@@ -66,7 +67,7 @@ IsFreeStretch s run = IsLooseStretch s run ⊎ IsSoleStretch s run
 -- the mirror that is chosen for the pieces of a run, by the claims that stand on each mirror's host
 abbrev pub IsMirrorFor : Situation → Run → ℕ → Type 0
 IsMirrorFor s run mirror =
-    IsChoice (mirrors_of s) s.max_tries s.marks (piece_at s run.first) (piece_at s (run.first + run.count - 1))
+    IsChoice (mirror_count s) s.max_tries s.marks (piece_at s run.first) (piece_at s (run.first + run.count - 1))
     (host_loads s) s.per_host mirror
 
 -- a free stretch that a mirror is found for
@@ -90,7 +91,8 @@ cut_of s run =
       count = if slice_index_or s.sole (piece_at s run.first) false then run.count else min run.count (claim_size s);
     }
 
--- the free claim: the first blocks of the longest stretch that a mirror is found for, and of equally long ones of the lowest
+-- the free claim: the first blocks of the longest stretch that a mirror is found for, and of equally long ones of the
+-- lowest
 pub record IsFreeClaim (s : Situation) (run : Run) (mirror : ℕ) : Type 0 where
   pub stretch : Run
   pub grantable : IsGrantable s stretch mirror

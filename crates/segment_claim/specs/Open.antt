@@ -23,8 +23,8 @@ abbrev pub first_open_in : ℕ → List Bool → List ℕ → Claim → Option �
 first_open_in piece_len landed closed claim = find (is_open_in piece_len landed closed claim) (claimed_blocks claim)
 
 -- a block is open in it
-abbrev pub is_unfinished : ℕ → List Bool → List ℕ → Claim → Bool
-is_unfinished piece_len landed closed claim = is_some (first_open_in piece_len landed closed claim)
+abbrev pub is_underway : ℕ → List Bool → List ℕ → Claim → Bool
+is_underway piece_len landed closed claim = is_some (first_open_in piece_len landed closed claim)
 
 -- the claim has this number
 abbrev pub has_number : ℕ → Claim → Bool

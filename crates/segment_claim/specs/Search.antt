@@ -22,7 +22,8 @@ pub record IsOfPayload (s : Situation) (claim : Claim) : Type 0 where
   pub run : IsWithinPayload s claim.run
   pub bounded : claim.run.first + claim.run.count < 2 ^ 32
 
--- this stretch was found with its mirror, and it is preferred to each that was looked at and that a mirror is chosen for
+-- this stretch was found with its mirror, and it is preferred to each that was looked at and that a mirror is chosen
+-- for
 pub record IsBestFound (s : Situation) (Looked : Run → Type 0) (found : Found) : Type 0 where
   pub grantable : IsGrantable s found.run found.mirror
   pub within : IsWithinPayload s found.run
@@ -36,7 +37,7 @@ IsBestOf s Looked found =
     (IsBestFound s Looked)
 
 -- the run is found with its mirror, and goes before what was found so far ..
-pub record IsTaken (s : Situation) (found : Option Found) (run : Run) (after : Option Found) : Type 0 where
+pub record IsNowFound (s : Situation) (found : Option Found) (run : Run) (after : Option Found) : Type 0 where
   pub mirror : ℕ
   pub chosen : IsMirrorFor s run mirror
   pub before : MatchOption found (Unit {0}) (GoesFirst run)
@@ -48,7 +49,7 @@ pub record IsPassed (s : Situation) (found : Option Found) (run : Run) (after : 
   pub why : (mirror : ℕ) → IsMirrorFor s run mirror → ¬ MatchOption found (Unit {0}) (GoesFirst run)
 
 abbrev pub IsBetter : Situation → Option Found → Run → Option Found → Type 0
-IsBetter s found run after = IsTaken s found run after ⊎ IsPassed s found run after
+IsBetter s found run after = IsNowFound s found run after ⊎ IsPassed s found run after
 
 -- the run of a sole piece whose blocks are all free
 pub record IsFreeSole (s : Situation) (piece : ℕ) (run : Run) : Type 0 where

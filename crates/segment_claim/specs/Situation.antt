@@ -26,8 +26,8 @@ pub record Situation : Type 0 where
   pub min_blocks : ℕ  -- the least blocks of a claim where a stretch has so many
 
 -- how many mirrors there are
-abbrev pub mirrors_of : Situation → ℕ
-mirrors_of s = length s.hosts
+abbrev pub mirror_count : Situation → ℕ
+mirror_count s = length s.hosts
 
 -- the claim's mirror is on this host
 abbrev pub is_on : List ℕ → ℕ → Claim → Bool
@@ -70,6 +70,6 @@ pub record FitTogether (book : ClaimBook) (table : Progress) (marks : MarkBook) 
   pub split : rules.split ≤ MAX_SPLIT
 
 -- the table is of the claims' plan
-pub record IsTableOf (book : ClaimBook) (table : Progress) : Type 0 where
+pub record IsTableOfClaims (book : ClaimBook) (table : Progress) : Type 0 where
   pub total : table.total ≡ book.total
   pub piece_len : table.piece_len ≡ book.piece_len

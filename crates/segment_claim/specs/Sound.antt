@@ -3,7 +3,7 @@ use Rattle.std.specs.Prelude.{◌≡◌, ℕ, ◌+◌, ◌<◌, ◌≤◌, ◌^�
 use Rattle.dl_kinds.specs.Plan.{IsPlan, blocks_of, pieces_of}
 use Rattle.dl_kinds.specs.declared.claims.Claim.{Claim}
 use Rattle.segment_claim.specs.Book.{ClaimBook}
-use Rattle.segment_claim.specs.Situation.{Situation, mirrors_of}
+use Rattle.segment_claim.specs.Situation.{Situation, mirror_count}
 use Rattle.segment_claim.specs.declared.limits.TheConstants.{MAX_MIRRORS, MAX_SPLIT}
 
 -- the claim is of some blocks, all of the payload
@@ -36,5 +36,5 @@ pub record IsSituation (s : Situation) : Type 0 where
   pub sole : length s.sole ≡ pieces_of s.total s.piece_len
   pub wanted : length s.wanted ≡ pieces_of s.total s.piece_len
   pub closed : length s.closed ≡ pieces_of s.total s.piece_len
-  pub mirrors : mirrors_of s ≤ MAX_MIRRORS
+  pub mirrors : mirror_count s ≤ MAX_MIRRORS
   pub split : 1 ≤ s.split

@@ -33,7 +33,7 @@ pub record IsCoverAt (s : Situation) (at : ℕ) (cover : Cover) : Type 0 where
   pub until : at < cover.until
 
 -- some blocks of one piece from `at` on: all of them are loose, or none is
-pub record IsSpan (s : Situation) (at : ℕ) (span : Span) : Type 0 where
+pub record IsSpanOfPiece (s : Situation) (at : ℕ) (span : Span) : Type 0 where
   pub some : at < span.end
   pub within : span.end ≤ blocks_of s.total s.piece_len
   pub piece : (block : ℕ) → at ≤ block → block < span.end → piece_at s block ≡ piece_at s at

@@ -20,14 +20,15 @@ abbrev pub is_own : Situation → Claim → ℕ → Bool
 is_own s claim block = is_open_at s block claim && not (is_of_others s claim.id block)
 
 -- a run of own blocks
-abbrev pub IsOwn : Situation → Claim → Run → Type 0
-IsOwn s claim run = (block : ℕ) → is_in block run ≡ true → is_own s claim block ≡ true
+abbrev pub IsOwnBlocks : Situation → Claim → Run → Type 0
+IsOwnBlocks s claim run = (block : ℕ) → is_in block run ≡ true → is_own s claim block ≡ true
 
--- A claim's own run: the longest run of its own blocks, and of equally long ones the last. Without an own block it is the
+-- A claim's own run: the longest run of its own blocks, and of equally long ones the last. Without an own block it is
+-- the
 -- empty run at the claim's front
 pub record IsOwnRun (s : Situation) (claim : Claim) (run : Run) : Type 0 where
-  pub own : IsOwn s claim run
-  pub longest : (other : Run) → 1 ≤ other.count → IsOwn s claim other
+  pub own : IsOwnBlocks s claim run
+  pub longest : (other : Run) → 1 ≤ other.count → IsOwnBlocks s claim other
       → (other.count < run.count) ⊎ ((other.count ≡ run.count) × (other.first ≤ run.first))
   pub empty : run.count ≡ 0 → run.first ≡ claim.run.first
 
@@ -37,7 +38,8 @@ IsWithoutSole s run =
     (piece : ℕ) → piece_at s run.first ≤ piece → piece ≤ piece_at s (run.first + run.count - 1)
     → slice_index_or s.sole piece false ≡ false
 
--- A claim is able to lose blocks: none of its pieces is sole, its own run has at least two blocks, and a mirror is found
+-- A claim is able to lose blocks: none of its pieces is sole, its own run has at least two blocks, and a mirror is
+-- found
 -- for the later half of that
 pub record IsAble (s : Situation) (claim : Claim) (own : Run) : Type 0 where
   pub whole : IsWithoutSole s claim.run

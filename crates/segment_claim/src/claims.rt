@@ -4,7 +4,7 @@ ghost use Rattle.dl_kinds.specs.Plan.{blocks_of, pieces_of};
 ghost use Rattle.segment_claim.specs.Book.{granted, no_claims, kept_where, with_cleared, claim_under, is_open_under, first_open_under, swept};
 ghost use Rattle.segment_claim.specs.Open.{has_number};
 ghost use Rattle.segment_claim.specs.Free.{HasNoFreeClaim, IsFreeGrant, IsMirrorFor};
-ghost use Rattle.segment_claim.specs.Situation.{FitTogether, IsTableOf, situation_of};
+ghost use Rattle.segment_claim.specs.Situation.{FitTogether, IsTableOfClaims, situation_of};
 ghost use Rattle.segment_claim.specs.Sound.{AreClaims, IsWithinBlocks};
 ghost use Rattle.segment_claim.specs.Theft.{AreViews, IsStealOf, stolen_claim};
 ghost use Rattle.segment_claim.specs.declared.limits.TheConstants.{MAX_SPLIT};
@@ -26,8 +26,8 @@ pub struct Claims {
     plan: Plan,
     // The newest first.
     standing: Vec<Claim>,
-    // For each piece the number below which all claims had been granted when it was last cleared. Empty until room is made.
-    // A number is one above that of a claim, which may be the last of 64 bits.
+    // For each piece the number below which all claims had been granted when it was last cleared. Empty until room is
+    // made. A number is one above that of a claim, which may be the last of 64 bits.
     closed: Vec<u128>,
     next: u128,
 }
@@ -111,7 +111,7 @@ impl Claims {
 
     /// Whether a block is open in the claim that stands under a number.
     pub fn is_open(&self, id: u64, block: u32, table: &Table) -> bool
-        requires { IsTableOf self.now table.now }
+        requires { IsTableOfClaims self.now table.now }
         ensures { result ≡ is_open_under self.now table.now.landed id block }
     {
         match self.get(id) {
@@ -122,7 +122,7 @@ impl Claims {
 
     /// The first block that is open in the claim that stands under a number.
     pub fn first_open(&self, id: u64, table: &Table) -> Option<u32>
-        requires { IsTableOf self.now table.now }
+        requires { IsTableOfClaims self.now table.now }
         ensures { result ≡ first_open_under self.now table.now.landed id }
     {
         match self.get(id) {
@@ -133,7 +133,7 @@ impl Claims {
 
     /// The claims in which no block is open don't stand any more.
     pub fn sweep(&mut self, table: &Table)
-        requires { IsTableOf self.old table.now }
+        requires { IsTableOfClaims self.old table.now }
         ensures rest { self.new ≡ swept self.old table.now.landed self.new.spare }
         ensures room { self.old.spare ≤ self.new.spare }
     {
@@ -181,8 +181,8 @@ impl Claims {
         self.standing.insert(0, claim).unwrap();
     }
 
-    /// Grants the free claim: of the free stretches for which a mirror is found, the first blocks of the longest, and of
-    /// equally long ones of the lowest. None is where no mirror is found for any.
+    /// Grants the free claim: of the free stretches for which a mirror is found, the first blocks of the longest, and
+    /// of equally long ones of the lowest. None is where no mirror is found for any.
     pub fn grant_free(
         &mut self,
         id: u64,

@@ -1,7 +1,7 @@
 // Which blocks are open in claims.
 ghost use Rattle.std.specs.Prelude.{◌≡◌, ◌+◌, ◌≤◌, All, filter, length, vec_capacity};
 ghost use Rattle.dl_kinds.specs.Plan.{blocks_of, pieces_of};
-ghost use Rattle.segment_claim.specs.Open.{first_open_in, is_open_in, is_unfinished};
+ghost use Rattle.segment_claim.specs.Open.{first_open_in, is_open_in, is_underway};
 ghost use Rattle.segment_claim.specs.Sound.{IsWithinBlocks};
 
 use bit_rows::BitRow;
@@ -44,7 +44,7 @@ pub fn sweep(plan: &Plan, landed: &BitRow, closed: &[u128], standing: &mut Vec<C
     requires within { All (IsWithinBlocks (blocks_of plan.now.total plan.now.piece_len))
         standing.old.items }
     ensures rest { standing.new.items
-        ≡ filter (is_unfinished plan.now.piece_len landed.now closed.now) standing.old.items }
+        ≡ filter (is_underway plan.now.piece_len landed.now closed.now) standing.old.items }
     ensures capacity { vec_capacity standing.new ≡ vec_capacity standing.old }
 {
     let mut kept = 0;

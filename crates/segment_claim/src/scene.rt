@@ -117,7 +117,7 @@ pub fn host_loads(hosts: &[u16], standing: &[Claim]) -> [u16; MAX_MIRRORS as usi
 }
 
 impl<'a> Scene<'a> {
-    ghost use Rattle.segment_claim.specs.Spans.{IsCover, IsCoverAt, IsSpan, is_brought_by, may_be_loose};
+    ghost use Rattle.segment_claim.specs.Spans.{IsCover, IsCoverAt, IsSpanOfPiece, is_brought_by, may_be_loose};
 
     // The cover of a block and those behind it.
     fn cover_at(&self, at: u32) -> Cover
@@ -165,7 +165,7 @@ impl<'a> Scene<'a> {
     pub fn span_at(&self, at: u32, cover: Cover) -> Span
         requires within { at < blocks_of self.now.total self.now.piece_len }
         requires cover { IsCoverAt self.now at cover }
-        ensures { IsSpan self.now at result }
+        ensures { IsSpanOfPiece self.now at result }
     {
         plan_laws();
         let piece = self.plan.piece_of(at);

@@ -5,7 +5,7 @@ use Rattle.std.proofs.lemmas.Bool.{cases_lt, cases_order}
 use Rattle.std.proofs.lemmas.List.Elements.{All-push, Contains-push, Contains-append_left}
 use Rattle.std.proofs.Math.Nat.{mul-le-mul_left}
 use Rattle.dl_kinds.specs.declared.claims.ClaimView.{ClaimView}
-use Rattle.slow_steal.specs.Theft.{MayLose, IsAsSlow, IsSlower, IsStolenBefore, IsVictim, weight_of}
+use Rattle.slow_steal.specs.Theft.{MayLose, IsAsSlow, IsSlower, IsStolenBefore, IsVictim, cross_weight}
 
 -- no claim before this one is stolen of
 abbrev pub IsNotLater : ℕ → ClaimView → ClaimView → Type 0
@@ -53,18 +53,38 @@ before_all now x y z first second =
     let some_f : 1 ≤ f = omega arith in
     elim first [
       | inl slower ↦
-          let weak : c * e ≤ b * f = elim second [ inl less ↦ omega arith | inr same ↦ let e : b * f ≡ c * e = same.0 in omega arith ] in
-          inl (elim (cases_lt (c * d) (a * f)) [ inl less ↦ less | inr not ↦ absurd (beyond a b c d e f slower weak some_f not) ])
+          let weak : c * e ≤ b * f = elim second [
+            | inl less ↦ omega arith
+            | inr same ↦ let e : b * f ≡ c * e =
+                same.0 in omega arith
+          ] in
+          inl (elim (cases_lt (c * d) (a * f)) [
+            | inl less ↦ less
+            | inr not ↦
+                absurd (beyond a b c d e f slower weak some_f not)
+          ])
       | inr level_first ↦
           let same : a * e ≡ b * d = level_first.0 in
           elim second [
-            | inl slower ↦ inl (elim (cases_lt (c * d) (a * f)) [ inl less ↦ less | inr not ↦ absurd (above a b c d e f (omega arith) slower some_d not) ])
+            | inl slower ↦ inl (elim (cases_lt (c * d) (a * f)) [
+              | inl less ↦ less
+              | inr not ↦
+                  absurd (above a b c d e f (omega arith) slower some_d not)
+            ])
             | inr level_second ↦
                 let alike : b * f ≡ c * e = level_second.0 in
                 let lower : x.id < y.id = level_first.1 in
                 let low : y.id ≤ z.id = level_second.1 in
-                let up : c * d ≤ a * f = (elim (cases_lt (a * f) (c * d)) [ inl less ↦ absurd (level a b c d e f (omega arith) (omega arith) some_e less) | inr not ↦ not ]) in
-                let down : a * f ≤ c * d = (elim (cases_lt (c * d) (a * f)) [ inl less ↦ absurd (level c b a f e d (omega arith) (omega arith) some_e less) | inr not ↦ not ]) in
+                let up : c * d ≤ a * f = (elim (cases_lt (a * f) (c * d)) [
+                  | inl less ↦
+                      absurd (level a b c d e f (omega arith) (omega arith) some_e less)
+                  | inr not ↦ not
+                ]) in
+                let down : a * f ≤ c * d = (elim (cases_lt (c * d) (a * f)) [
+                  | inl less ↦
+                      absurd (level c b a f e d (omega arith) (omega arith) some_e less)
+                  | inr not ↦ not
+                ]) in
                 inr (omega arith, omega arith)
           ]
     ]
@@ -76,7 +96,8 @@ found_skip now claims claim None none not = All-push (λ (c : ClaimView). MayLos
 found_skip now claims claim (Some victim) is not = record {
   listed = Contains-append_left claims (claim ∷ []) victim is.listed;
   may = is.may;
-  slowest = All-push (λ (c : ClaimView). MayLose c → IsNotLater now victim c) claims claim is.slowest (λ may. absurd (not may));
+  slowest = All-push (λ (c : ClaimView). MayLose c → IsNotLater now victim c) claims claim is.slowest
+      (λ may. absurd (not may));
 }
 
 -- it isn't stolen of before the one that was found
@@ -85,8 +106,16 @@ pub found_stays : (now : ℕ) (claims : List ClaimView) (claim : ClaimView) (fou
     → IsFound now (claims ++ claim ∷ []) found
 found_stays now claims claim None none not = absurd (not tt)
 found_stays now claims claim (Some victim) is not =
-    let later : MayLose claim → IsNotLater now victim claim = λ _. elim (cases_order (weight_of now victim claim) (weight_of now claim victim)) [
-      | inl same ↦ inr (same, elim (cases_lt claim.id victim.id) [ inl lower ↦ absurd (not (inr (sym same, lower))) | inr high ↦ high ])
+    let later : MayLose claim → IsNotLater now victim claim =
+    λ _. elim (cases_order (cross_weight now victim claim) (cross_weight now claim victim)) [
+      | inl same ↦ inr (
+        same,
+        elim (cases_lt claim.id victim.id) [
+          | inl lower ↦
+              absurd (not (inr (sym same, lower)))
+          | inr high ↦ high
+        ],
+      )
       | inr differs ↦ elim differs [ inl less ↦ absurd (not (inl less)) | inr more ↦ inl more ]
     ] in
     record {
@@ -100,7 +129,8 @@ itself now claim = inr (refl, omega arith)
 
 -- it is
 pub found_takes : (now : ℕ) (claims : List ClaimView) (claim : ClaimView) (found : Option ClaimView)
-    → IsFound now claims found → MayLose claim → MatchOption found (Unit {0}) (λ victim. IsStolenBefore now claim victim)
+    → IsFound now claims found → MayLose claim
+    → MatchOption found (Unit {0}) (λ victim. IsStolenBefore now claim victim)
     → IsVictim now (claims ++ claim ∷ []) claim
 found_takes now claims claim None none may _ = record {
   listed = Contains-push claims claim;
@@ -112,5 +142,6 @@ found_takes now claims claim (Some victim) is may before = record {
   listed = Contains-push claims claim;
   may = may;
   slowest = All-push (λ (c : ClaimView). MayLose c → IsNotLater now claim c) claims claim
-      (λ k d less lost. before_all now claim victim (get_or claims k d) before (is.slowest k d less lost)) (λ _. itself now claim);
+      (λ k d less lost. before_all now claim victim (get_or claims k d) before (is.slowest k d less lost))
+      (λ _. itself now claim);
 }

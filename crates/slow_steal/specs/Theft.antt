@@ -9,16 +9,17 @@ pub record MayLose (claim : ClaimView) : Type 0 where
   pub able : claim.able ≡ true
   pub two : 2 ≤ claim.own.count
 
--- A claim's slowness is its unlanded blocks times the time since its grant, over its landed blocks and one more. Slownesses
+-- A claim's slowness is its unlanded blocks times the time since its grant, over its landed blocks and one more.
+-- Slownesses
 -- are compared as fractions are: each numerator times the other's denominator
-abbrev pub weight_of : ℕ → ClaimView → ClaimView → ℕ
-weight_of now claim other = claim.unlanded * (now - claim.since.0) * (other.landed + 1)
+abbrev pub cross_weight : ℕ → ClaimView → ClaimView → ℕ
+cross_weight now claim other = claim.unlanded * (now - claim.since.0) * (other.landed + 1)
 
 abbrev pub IsSlower : ℕ → ClaimView → ClaimView → Type 0
-IsSlower now claim other = weight_of now other claim < weight_of now claim other
+IsSlower now claim other = cross_weight now other claim < cross_weight now claim other
 
 abbrev pub IsAsSlow : ℕ → ClaimView → ClaimView → Type 0
-IsAsSlow now claim other = weight_of now claim other ≡ weight_of now other claim
+IsAsSlow now claim other = cross_weight now claim other ≡ cross_weight now other claim
 
 -- a claim is stolen of before another: where it is slower, or as slow with a lower number
 abbrev pub IsStolenBefore : ℕ → ClaimView → ClaimView → Type 0

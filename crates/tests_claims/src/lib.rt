@@ -1,5 +1,9 @@
-//! Worked cases of the table of a download and of the marks of its mirrors.
+//! Worked cases of the table of a download, of the marks of its mirrors and of the claims of its blocks.
 #![tactic(auto)]
 
+#[cfg(test)]
+mod grants;
+#[cfg(test)]
+mod rig;
 #[cfg(test)]
 mod tables;

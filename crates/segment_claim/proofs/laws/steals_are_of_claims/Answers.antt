@@ -1,10 +1,8 @@
-use Rattle.std.proofs.Common.{refl}
-use Rattle.segment_claim.specs.Situation.{situation_of}
 use Rattle.segment_claim.proofs.StealLemmas.{steal_mirror, steal_of}
 use Rattle.segment_claim.proofs.laws.steals_are_of_claims.Goals as goal
 
 pub returns-clause-claims : goal.returns-clause-claims
-returns-clause-claims c = λ book table marks rules views now steal seen is. steal_of book (situation_of book table marks rules) views now steal refl seen is
+returns-clause-claims c = λ book s views now steal same seen is. steal_of book s views now steal same seen is
 
 pub returns-clause-mirrors : goal.returns-clause-mirrors
 returns-clause-mirrors c = λ s views now steal seen is. steal_mirror s views now steal seen is

@@ -9,7 +9,8 @@ pub loop-block-init : goal.loop-block-init
 loop-block-init c =
     let claim = c.args.claim.now in
     let e : claim.run.count ≡ claim.run.first + claim.run.count - claim.run.first = omega arith in
-    ap (λ n. find (is_open_in c.args.plan.now.piece_len c.args.landed.now c.args.closed.now claim) (range_with_len claim.run.first n)) e
+    ap (λ n. find (is_open_in c.args.plan.now.piece_len c.args.landed.now c.args.closed.now claim)
+    (range_with_len claim.run.first n)) e
 
 pub loop-block-preserved : goal.loop-block-preserved
 loop-block-preserved c =

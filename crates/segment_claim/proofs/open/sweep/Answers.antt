@@ -16,14 +16,18 @@ loop-at-preserved c =
     elim c.if-is_some.branch [
       | then-is_some w ↦
           rw (w.standing-is, w.kept-is) (record {
-            filters = FiltersInPlace-more_set kept.filters inside (ap is_some (sym c.first_open.ensures) ∙ sym w.if-is_some.ensures) c.index.ensures;
+            filters = FiltersInPlace-more_set kept.filters inside
+                (ap is_some (sym c.first_open.ensures) ∙ sym w.if-is_some.ensures) c.index.ensures;
             within = All-set P c.loop-at.standing.items c.loop-at.kept c.index.result.now
-                (subst P (sym c.index.ensures) (All-get_or P c.loop-at.standing.items c.loop-at.at c.index.result.now inside kept.within)) kept.within;
+                (subst P (sym c.index.ensures)
+                (All-get_or P c.loop-at.standing.items c.loop-at.at c.index.result.now inside kept.within))
+                kept.within;
             capacity = kept.capacity;
           })
       | else-is_some w ↦
           rw (w.standing-is, w.kept-is) (record {
-            filters = FiltersInPlace-more_no kept.filters inside (ap is_some (sym c.first_open.ensures) ∙ sym w.if-is_some.ensures) c.index.ensures;
+            filters = FiltersInPlace-more_no kept.filters inside
+                (ap is_some (sym c.first_open.ensures) ∙ sym w.if-is_some.ensures) c.index.ensures;
             within = kept.within;
             capacity = kept.capacity;
           })

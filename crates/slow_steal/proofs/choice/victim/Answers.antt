@@ -30,7 +30,8 @@ loop-claim-preserved c =
           found_takes now (take i claims) claim found c.loop-claim.invariant
           (c.may_lose.ensures.0 w.if-may_lose.true) (w.goes_before.ensures.0 w.if-goes_before.true))
       | else-may_lose w ↦ rw w.found-is (elim w.else-may_lose.branch [
-        | else-may_lose-via-then-may_lose+else-goes_before v ↦ found_stays now (take i claims) claim found c.loop-claim.invariant
+        | else-may_lose-via-then-may_lose+else-goes_before v ↦
+            found_stays now (take i claims) claim found c.loop-claim.invariant
             (λ before. both_ways v.goes_before.result v.if-goes_before.false (v.goes_before.ensures.1 before))
         | else-may_lose-via-else-may_lose v ↦ found_skip now (take i claims) claim found c.loop-claim.invariant
             (λ may. both_ways c.may_lose.result v.if-may_lose.false (c.may_lose.ensures.1 may))

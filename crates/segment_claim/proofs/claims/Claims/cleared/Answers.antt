@@ -11,7 +11,8 @@ returns-else-not-is_empty c =
     let inside = c.self.inside in
     let closed = inside.closed.items in
     let pieces : (length closed ≡ inside.plan.pieces) ⊎ ((closed ≡ []) × (inside.next ≡ 0)) =
-    subst (λ (n : ℕ). (length closed ≡ n) ⊎ ((closed ≡ []) × (inside.next ≡ 0))) (sym inside.plan.pieces_are) c.self.invariant.pieces in
+    subst (λ (n : ℕ). (length closed ≡ n) ⊎ ((closed ≡ []) × (inside.next ≡ 0)))
+    (sym inside.plan.pieces_are) c.self.invariant.pieces in
     let none : vec_len inside.closed ≡ 0 = let e = c.if-not-is_empty.ensures in grind (arith, nat_tests) in
     let known : c.args.piece < pieces_of inside.plan.total inside.plan.piece_len =
     subst (λ (b : ClaimBook). c.args.piece < pieces_of b.total b.piece_len) (sym c.self.view_is) c.requires in

@@ -11,7 +11,8 @@ first_open-requires-clause-within c =
     let inside = c.self.inside in
     let claim = c.in-Some.claim in
     let stands : Contains inside.standing.items claim =
-    found_stands (has_number c.args.id) inside.standing.items claim (c.in-Some.ensures ∙ ap (λ (b : ClaimBook). claim_under b c.args.id) (sym c.self.view_is)) in
+    found_stands (has_number c.args.id) inside.standing.items claim
+    (c.in-Some.ensures ∙ ap (λ (b : ClaimBook). claim_under b c.args.id) (sym c.self.view_is)) in
     stands_within _ _ inside.next inside.standing.items inside.closed.items claim c.self.invariant stands
 
 pub returns-in-Some : goal.returns-in-Some
@@ -19,8 +20,10 @@ returns-in-Some c =
     let inside = c.self.inside in
     let claim = c.in-Some.claim in
     let stands : Contains inside.standing.items claim =
-    found_stands (has_number c.args.id) inside.standing.items claim (c.in-Some.ensures ∙ ap (λ (b : ClaimBook). claim_under b c.args.id) (sym c.self.view_is)) in
+    found_stands (has_number c.args.id) inside.standing.items claim
+    (c.in-Some.ensures ∙ ap (λ (b : ClaimBook). claim_under b c.args.id) (sym c.self.view_is)) in
     let full : length inside.closed.items ≡ pieces_of inside.plan.total inside.plan.piece_len =
     full_where_stands _ _ inside.next inside.standing.items inside.closed.items claim c.self.invariant stands in
     let same = closed_same inside.plan.pieces inside.closed.items (full ∙ sym inside.plan.pieces_are) in
-    rw (← c.in-Some.ensures) (rw (← c.self.view_is, same, ← c.blocks-in-Some.ensures.row, ← c.deref.ensures.value) c.first_open.ensures)
+    rw (← c.in-Some.ensures) (rw (← c.self.view_is, same, ← c.blocks-in-Some.ensures.row, ← c.deref.ensures.value)
+    c.first_open.ensures)

@@ -10,7 +10,8 @@ grant-requires-clause-blocks c =
     let inside = c.self.inside in
     let steal = c.requires.steal in
     let claim = steal.claim in
-    let stands : Contains inside.standing.items claim = subst (λ (b : ClaimBook). Contains b.standing claim) (sym c.self.view_is) steal.stands in
+    let stands : Contains inside.standing.items claim =
+    subst (λ (b : ClaimBook). Contains b.standing claim) (sym c.self.view_is) steal.stands in
     let within : claim.run.first + claim.run.count ≤ blocks_of inside.plan.total inside.plan.piece_len =
     stands_within _ _ inside.next inside.standing.items inside.closed.items claim c.self.invariant stands in
     let to = steal.to in

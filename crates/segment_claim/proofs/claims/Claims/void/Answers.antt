@@ -8,10 +8,15 @@ use Rattle.segment_claim.proofs.claims.Claims.void.Goals as goal
 
 pub invariant_of-self : goal.invariant_of-self
 invariant_of-self c =
-    let filtered : c.retain.new.self.items ≡ filter (λ (claim : Claim). not (has_number c.args.id claim)) c.self.inside.standing.items = filter_same _ _ _ (λ x b f' k. search rules) _ _ c.retain.ensures.filtered in
-    rw filtered (kept_filtered _ _ c.self.inside.standing.items _ _ (λ (claim : Claim). not (has_number c.args.id claim)) c.self.invariant)
+    let filtered : c.retain.new.self.items ≡ filter
+    (λ (claim : Claim). not (has_number c.args.id claim)) c.self.inside.standing.items =
+    filter_same _ _ _ (λ x b f' k. search rules) _ _ c.retain.ensures.filtered in
+    rw filtered (kept_filtered _ _ c.self.inside.standing.items _ _
+    (λ (claim : Claim). not (has_number c.args.id claim)) c.self.invariant)
 
 pub returns-clause-rest : goal.returns-clause-rest
 returns-clause-rest c =
-    let filtered : c.retain.new.self.items ≡ filter (λ (claim : Claim). not (has_number c.args.id claim)) c.self.inside.standing.items = filter_same _ _ _ (λ x b f' k. search rules) _ _ c.retain.ensures.filtered in
+    let filtered : c.retain.new.self.items ≡ filter
+    (λ (claim : Claim). not (has_number c.args.id claim)) c.self.inside.standing.items =
+    filter_same _ _ _ (λ x b f' k. search rules) _ _ c.retain.ensures.filtered in
     rw (← c.self.view_is, filtered) refl

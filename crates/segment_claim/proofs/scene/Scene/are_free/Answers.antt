@@ -5,6 +5,7 @@ use Rattle.segment_claim.proofs.scene.Scene.are_free.Goals as goal
 
 pub loop-block-preserved : goal.loop-block-preserved
 loop-block-preserved c = λ block from to. elim (cases_eq block c.loop-block.block) [
-  | inl same ↦ subst (λ (b : ℕ). is_free c.args.self.now b ≡ true) (sym same) (sym c.is_free.ensures ∙ c.if-not-is_free.false)
+  | inl same ↦ subst (λ (b : ℕ). is_free c.args.self.now b ≡ true) (sym same)
+      (sym c.is_free.ensures ∙ c.if-not-is_free.false)
   | inr other ↦ c.loop-block.invariant block from (omega arith)
 ]

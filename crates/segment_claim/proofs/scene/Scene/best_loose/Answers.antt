@@ -21,8 +21,10 @@ loop-run-preserved c =
       within = within;
       cover = c.in-Some.ensures.cover;
       cut = end_is_cut s run next.ends;
-      best = best_with s (λ other. IsLooseStretch s other × (other.first < c.loop-run.at)) (λ other. IsLooseStretch s other × (other.first < run.first + run.count))
-          c.loop-run.found c.better-found.result run (record { some = some; within = within }) (inl (is_stretch s c.loop-run.at run kept.cut next))
+      best = best_with s (λ other. IsLooseStretch s other × (other.first < c.loop-run.at))
+          (λ other. IsLooseStretch s other × (other.first < run.first + run.count))
+          c.loop-run.found c.better-found.result run (record { some = some; within = within })
+          (inl (is_stretch s c.loop-run.at run kept.cut next))
           (λ other looked. elim (cases_lt other.first c.loop-run.at) [
             | inl early ↦ inl (looked.0, early)
             | inr late ↦ inr (next_is_only s c.loop-run.at run other next looked.0 late looked.1)
@@ -33,7 +35,8 @@ pub returns : goal.returns
 returns c =
     let s = c.args.self.now in
     let none : NoneLoose s c.loop-run.at (blocks_of s.total s.piece_len) =
-    at_none c.next_stretch.result (NoneLoose s c.loop-run.at (blocks_of s.total s.piece_len)) (IsNextStretch s c.loop-run.at) c.in_default.not-Some c.next_stretch.ensures.stretch in
+    at_none c.next_stretch.result (NoneLoose s c.loop-run.at (blocks_of s.total s.piece_len))
+    (IsNextStretch s c.loop-run.at) c.in_default.not-Some c.next_stretch.ensures.stretch in
     best_less s (λ other. IsLooseStretch s other × (other.first < c.loop-run.at)) (IsLooseStretch s) c.loop-run.found
     (λ other stretch. (
       stretch,
@@ -42,7 +45,8 @@ returns c =
         | inr late ↦
             let some = stretch.some in
             let within = stretch.within in
-            let e : true ≡ false = sym (stretch.loose other.first (inside other.first other (omega arith) (omega arith))) ∙ none other.first late (omega arith) in
+            let e : true ≡ false = sym (stretch.loose other.first
+            (inside other.first other (omega arith) (omega arith))) ∙ none other.first late (omega arith) in
             absurd (cc)
       ]),
     )) c.loop-run.invariant.best

@@ -10,7 +10,8 @@ loop-block-preserved c =
     let landed = c.args.self.now.landed in
     let block = c.loop-block.block in
     let first = c.args.claim.now.run.first in
-    let read = λ (b : Bool) (e : slice_get c.self.inside.landed.now block ≡ Some b). subst (λ (s : Situation). slice_get s.landed block ≡ Some b) c.self.view_is e in
+    let read = λ (b : Bool) (e : slice_get c.self.inside.landed.now block ≡ Some b). subst
+    (λ (s : Situation). slice_get s.landed block ≡ Some b) c.self.view_is e in
     elim c.if-get.branch [
       | then-get w ↦
           let more = count-part_more landed first block true (omega arith) (read true w.if-get.ensures) in

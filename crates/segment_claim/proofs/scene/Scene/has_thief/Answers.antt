@@ -10,4 +10,5 @@ returns c =
     let half : Run = c.later_half.result in
     subst (λ (r : Run). IsTrue c.is_some.result ↔ (mirror : ℕ) × IsMirrorFor c.args.self.now r mirror)
     (half_is c.args.own half c.later_half.ensures.count c.later_half.ensures.end)
-    (some_is c.mirror_for.result c.is_some.result (IsMirrorFor c.args.self.now half) c.is_some.ensures c.mirror_for.ensures.chosen c.mirror_for.ensures.none)
+    (some_is c.mirror_for.result c.is_some.result
+    (IsMirrorFor c.args.self.now half) c.is_some.ensures c.mirror_for.ensures.chosen c.mirror_for.ensures.none)

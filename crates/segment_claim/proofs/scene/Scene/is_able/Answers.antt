@@ -19,6 +19,12 @@ has_thief-requires-clause-bounded c =
 pub returns-then-is_without_sole : goal.returns-then-is_without_sole
 returns-then-is_without_sole c = (
   λ yes. let found = c.has_thief.ensures.0 yes in
-      record { whole = c.is_without_sole.ensures.0 c.if-is_without_sole.true; two = c.if-own-lt2.false; mirror = found.0; found = found.1 },
+      record {
+        whole = c.is_without_sole.ensures.0 c.if-is_without_sole.true;
+        two = c.if-own-lt2.false;
+        mirror =
+            found.0;
+        found = found.1;
+      },
   λ able. c.has_thief.ensures.1 (able.mirror, able.found),
 )

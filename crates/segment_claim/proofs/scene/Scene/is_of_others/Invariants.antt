@@ -7,4 +7,5 @@ use Rattle.segment_claim.proofs.scene.Scene.is_of_others.Given as goal
 
 abbrev pub invariant-loop-other : goal.invariant-loop-other
 invariant-loop-other l =
-    list_any (λ other. not (has_number l.id other) && is_open_at l.self l.block other) (take l.other-index l.self.standing) ≡ false
+    list_any (λ other. not (has_number l.id other) && is_open_at l.self l.block other)
+    (take l.other-index l.self.standing) ≡ false

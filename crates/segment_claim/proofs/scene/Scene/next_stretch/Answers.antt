@@ -5,6 +5,7 @@ pub returns-clause-stretch : goal.returns-clause-stretch
 returns-clause-stretch c = record {
   later = c.next_loose-first.ensures.later;
   none = c.next_loose-first.ensures.none;
-  ends = run_ends c.args.self.now c.next_loose-first.result c.loose_end.result c.loose_end.ensures.some c.loose_end.ensures.within
+  ends = run_ends c.args.self.now c.next_loose-first.result c.loose_end.result c.loose_end.ensures.some
+      c.loose_end.ensures.within
       c.loose_end.ensures.loose c.loose_end.ensures.alike c.loose_end.ensures.behind;
 }

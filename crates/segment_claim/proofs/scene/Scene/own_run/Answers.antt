@@ -24,4 +24,5 @@ loop-block-preserved c =
     ]
 
 pub returns-clause-run : goal.returns-clause-run
-returns-clause-run c = all_looked_at c.args.self.now c.args.claim.now c.loop-block.block c.loop-block.run c.loop-block.longest c.loop-block.invariant c.loop-block-test.false
+returns-clause-run c = all_looked_at c.args.self.now c.args.claim.now c.loop-block.block c.loop-block.run
+    c.loop-block.longest c.loop-block.invariant c.loop-block-test.false

@@ -1,0 +1,184 @@
+// A download's table, marks and claims, and what limits them.
+ghost use Rattle.std.specs.Prelude.{◌≡◌, ◌≤◌, ◌<◌, length, vec_len, IfOk};
+ghost use Rattle.dl_kinds.specs.Plan.{blocks_of, pieces_of};
+
+use bit_rows::BitRow;
+use dl_kinds::{Code, Mark, Moment, Plan, Run};
+use mirror_blame::Marks;
+use piece_table::Table;
+use segment_claim::{Claim, Claims, Limits, Views, steals_are_of_claims};
+use slow_steal::victim;
+use std::alloc::{AllocError, Global};
+
+/// The parts of a download that claims depend on. `next` is the number of the next claim.
+#[derive(Drop)]
+pub struct Rig {
+    pub plan: Plan,
+    pub table: Table,
+    pub marks: Marks,
+    pub claims: Claims,
+    pub hosts: Vec<u16>,
+    pub wanted: BitRow,
+    pub split: u16,
+    pub per_host: u16,
+    pub min_blocks: u32,
+    pub next: u64,
+    ghost total: { table.total ≡ plan.total },
+    ghost piece_len: { table.piece_len ≡ plan.piece_len },
+    ghost claims_total: { claims.total ≡ plan.total },
+    ghost claims_piece_len: { claims.piece_len ≡ plan.piece_len },
+    ghost mirrors: { vec_len hosts ≡ marks.mirrors },
+    ghost few: { vec_len hosts ≤ 256 },
+    ghost pieces: { length wanted ≡ pieces_of plan.total plan.piece_len },
+    ghost some: { 1 ≤ split },
+    ghost most: { split ≤ 64 },
+    ghost numbered: { claims.next ≤ next },
+}
+
+// The table of a download of which nothing is landed.
+fn bare(alloc: Global, plan: Plan) -> Result<Table, AllocError>
+    ensures total { IfOk result (λ table. table.total ≡ plan.total) }
+    ensures piece_len { IfOk result (λ table. table.piece_len ≡ plan.piece_len) }
+{
+    let verified = BitRow::new(alloc, plan.pieces)?;
+    let blocks = BitRow::new(alloc, plan.blocks())?;
+    Table::new(alloc, plan, verified, blocks)
+}
+
+// A row of this length, all of it true.
+fn all(alloc: Global, len: u32) -> Result<BitRow, AllocError>
+    ensures { IfOk result (λ row. length row ≡ len) }
+{
+    let mut row = BitRow::new(alloc, len)?;
+    for place in 0..len {
+        row.set(place);
+    }
+    Ok(row)
+}
+
+impl Rig {
+    /// A download of which nothing is landed, and all is wanted, with a mirror on each of these hosts.
+    pub fn new(
+        alloc: Global,
+        plan: Plan,
+        hosts: &[u16],
+        max_tries: u8,
+        split: u16,
+        min_blocks: u32,
+    ) -> Result<Rig, AllocError>
+        requires hosts { length hosts.now ≤ 256 }
+        requires some { 1 ≤ split }
+        requires most { split ≤ 64 }
+    {
+        Ok(Rig {
+            plan,
+            table: bare(alloc, plan)?,
+            marks: Marks::new(alloc, hosts.len() as u16, max_tries),
+            claims: Claims::new(alloc, plan),
+            hosts: hosts.to_vec(alloc)?,
+            wanted: all(alloc, plan.pieces)?,
+            split,
+            per_host: 1,
+            min_blocks,
+            next: 0,
+        })
+    }
+
+    /// The free claim, where there is one.
+    pub fn free(&mut self, now: u64) -> Result<Option<Claim>, AllocError> {
+        self.claims.reserve()?;
+        if self.claims.standing() >= 64 || self.next == u64::MAX {
+            return Ok(None);
+        }
+        let limits = Limits {
+            split: self.split,
+            per_host: self.per_host,
+            min_blocks: self.min_blocks,
+            hosts: &self.hosts,
+            wanted: &self.wanted,
+        };
+        let id = self.next;
+        let claim = self
+            .claims
+            .grant_free(id, 0, &self.table, &self.marks, &limits, Moment(now));
+        self.next = id + 1;
+        Ok(claim)
+    }
+
+    /// The blocks that are stolen of the slowest claim, where there is one that is able.
+    pub fn steal(&mut self, now: u64) -> Result<Option<Claim>, AllocError> {
+        self.claims.reserve()?;
+        if self.claims.standing() >= 64 || self.next == u64::MAX {
+            return Ok(None);
+        }
+        let limits = Limits {
+            split: self.split,
+            per_host: self.per_host,
+            min_blocks: self.min_blocks,
+            hosts: &self.hosts,
+            wanted: &self.wanted,
+        };
+        let mut views = Views::new();
+        self.claims
+            .views(&self.table, &self.marks, &limits, &mut views);
+        steals_are_of_claims();
+        let Some(steal) = victim(views.as_slice(), Moment(now)) else {
+            return Ok(None);
+        };
+        let mirror = self
+            .claims
+            .mirror_for(steal.run, &self.table, &self.marks, &limits);
+        let Some(mirror) = mirror else {
+            return Ok(None);
+        };
+        let id = self.next;
+        self.next = id + 1;
+        Ok(Some(self.claims.grant_steal(id, 0, steal, mirror, Moment(now))))
+    }
+
+    /// A mirror gives some blocks, and the claims that are done don't stand any more.
+    pub fn land(&mut self, first: u32, count: u32, mirror: u16) {
+        if count <= 64 && first as u64 + count as u64 <= self.plan.blocks() as u64 {
+            self.table.land(Run { first, count }, mirror);
+            self.claims.sweep(&self.table);
+        }
+    }
+
+    /// A piece is cleared.
+    pub fn clear(&mut self, piece: u32) {
+        if piece < self.plan.pieces && !self.table.is_verified(piece) {
+            self.table.clear(piece);
+            self.claims.cleared(piece);
+        }
+    }
+
+    /// A piece is sole from now on.
+    pub fn make_sole(&mut self, piece: u32) {
+        if piece < self.plan.pieces {
+            self.table.make_sole(piece);
+        }
+    }
+
+    /// A piece isn't wanted.
+    pub fn leave_out(&mut self, piece: u32) {
+        if piece < self.plan.pieces {
+            self.wanted.clear(piece);
+        }
+    }
+
+    /// A mirror gets a mark for a piece, where it has a try left.
+    pub fn mark(&mut self, mirror: u16, piece: u32) -> Result<(), AllocError> {
+        self.marks.reserve(1)?;
+        if (mirror as usize) < self.hosts.len()
+            && piece < 1_048_576
+            && self.marks.eligible(mirror, piece, piece)
+        {
+            let mark = Mark {
+                code: Code(32),
+                count: 0,
+            };
+            self.marks.failed(mirror, piece, mark);
+        }
+        Ok(())
+    }
+}
