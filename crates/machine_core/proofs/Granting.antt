@@ -15,7 +15,7 @@ use Rattle.dl_kinds.specs.declared.runs.Run.{Run}
 use Rattle.piece_table.specs.Changes.{is_in}
 use Rattle.slow_steal.specs.Theft.{later_half}
 use Rattle.option_set.specs.Values.{OptionValues}
-use Rattle.segment_claim.specs.Free.{IsFreeGrant, IsLooseStretch, IsSoleStretch, is_free, is_open_at, is_claimed, piece_at, claim_size, cut_of}
+use Rattle.segment_claim.specs.Free.{IsFreeGrant, IsLooseStretch, IsSoleStretch, is_free, is_open_at, is_claimed, piece_at, claim_size, claim_cut}
 use Rattle.segment_claim.specs.Open.{claimed_blocks}
 use Rattle.segment_claim.specs.Situation.{Situation}
 use Rattle.segment_claim.specs.Views.{IsViewOf}
@@ -120,7 +120,7 @@ front b first count run at few inside =
 
 of_loose : (x : Scene) (claim : Claim) (stretch : Run) → IsNewClaim x.own claim → 1 ≤ (scene x).split
     → IsLooseStretch (scene x) stretch
-    → claim.run ≡ cut_of (scene x) stretch → MayClaim x.lengths.total x.lengths.piece_len x.own claim
+    → claim.run ≡ claim_cut (scene x) stretch → MayClaim x.lengths.total x.lengths.piece_len x.own claim
 of_loose x claim stretch fresh one is cut =
     let s = scene x in
     let least = is.some in
@@ -170,7 +170,7 @@ piece_some total len p some below =
     some_parts (piece_end total len p - piece_start len p) BLOCK_LEN (omega (arith, begins)) (omega arith)
 
 of_sole : (x : Scene) (claim : Claim) (stretch : Run) → IsNewClaim x.own claim → IsSoleStretch (scene x) stretch
-    → claim.run ≡ cut_of (scene x) stretch → MayClaim x.lengths.total x.lengths.piece_len x.own claim
+    → claim.run ≡ claim_cut (scene x) stretch → MayClaim x.lengths.total x.lengths.piece_len x.own claim
 of_sole x claim stretch fresh is cut =
     let s = scene x in
     let total = x.lengths.total in

@@ -84,8 +84,8 @@ abbrev pub claim_size : Situation → ℕ
 claim_size s = max (div_ceil (blocks_of s.total s.piece_len) s.split) s.min_blocks
 
 -- the first blocks of a stretch, no more than a claim has; a sole piece whole
-abbrev pub cut_of : Situation → Run → Run
-cut_of s run =
+abbrev pub claim_cut : Situation → Run → Run
+claim_cut s run =
     record {
       first = run.first;
       count = if slice_index_or s.sole (piece_at s run.first) false then run.count else min run.count (claim_size s);
@@ -97,7 +97,7 @@ pub record IsFreeClaim (s : Situation) (run : Run) (mirror : ℕ) : Type 0 where
   pub stretch : Run
   pub grantable : IsGrantable s stretch mirror
   pub preferred : (other : Run) (chosen : ℕ) → IsGrantable s other chosen → IsPreferred stretch other
-  pub cut : run ≡ cut_of s stretch
+  pub cut : run ≡ claim_cut s stretch
 
 -- no mirror is found for any free stretch
 abbrev pub HasNoFreeClaim : Situation → Type 0

@@ -3,7 +3,7 @@ ghost use Rattle.std.specs.Prelude.{◌≡◌, ◌↔◌, ℕ, ◌+◌, ◌<◌,
 ghost use Rattle.dl_kinds.specs.Plan.{blocks_of, pieces_of};
 ghost use Rattle.dl_kinds.specs.declared.runs.Run.{Run};
 ghost use Rattle.piece_table.specs.Changes.{is_in};
-ghost use Rattle.segment_claim.specs.Free.{HasNoFreeClaim, IsFreeClaim, IsFreeStretch, IsLooseStretch, IsMirrorFor, cut_of, is_claimed, is_free};
+ghost use Rattle.segment_claim.specs.Free.{HasNoFreeClaim, IsFreeClaim, IsFreeStretch, IsLooseStretch, IsMirrorFor, claim_cut, is_claimed, is_free};
 ghost use Rattle.segment_claim.specs.Search.{GoesFirst, IsBestOf, IsBetter, IsFreeSole, IsWithinPayload};
 
 use crate::open::is_open;
@@ -143,7 +143,7 @@ impl<'a> Scene<'a> {
     // The first blocks of a stretch, no more than a claim has.
     fn cut(&self, run: Run) -> Run
         requires { IsWithinPayload self.now run }
-        ensures value { result ≡ cut_of self.now run }
+        ensures value { result ≡ claim_cut self.now run }
         ensures within { IsWithinPayload self.now result }
     {
         if self.sole.get(self.plan.piece_of(run.first)) {
