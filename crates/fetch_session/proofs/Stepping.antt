@@ -261,7 +261,7 @@ module _ (fits : FetchedFits) (follow : BlocksFollow) (job : Job) (used : List S
       (cases_lt (length added) room) in
       let ends_done : got.done ≡ true → reads.brought.ending ≡ Done =
       (λ done. (whole_done fits job.parts is.is_job.parts reads.later (handed ++ new.held.items) reads.waiting reads.brought.ending fetched
-          (last_whole fits follow job used handed old is room some_room has_room reads.later new plan_is end_is first_is is_new (done_is.0 done))).0) in
+      (last_whole fits follow job used handed old is room some_room has_room reads.later new plan_is end_is first_is is_new (done_is.0 done))).0) in
       let wide = top_of fits follow job used handed old is room some_room has_room reads.later new plan_is end_is first_is is_new in
       let reach = reaches fits follow job reads.later handed new is_new in
       let far : (cut job.plan (min (new.ready.first + 64) new.end) ≤ cut job.plan new.ready.first + length new.held.items) → (got.done ≡ true) ⊎ (got.ready.count ≡ 64) =
@@ -332,7 +332,7 @@ module _ (fits : FetchedFits) (follow : BlocksFollow) (job : Job) (used : List S
           later = loses.later;
           gains = loses.gains;
           is_fetch = lost_fetch;
-            came = new.held.items;
+          came = new.held.items;
           ending = told.0;
           fetched = told.2;
           ready = ready_is ∙ lost_ready;

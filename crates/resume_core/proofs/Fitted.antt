@@ -77,8 +77,11 @@ lens_whole [] [] same each = refl
 lens_whole [] (len ∷ lens) same each = absurd (omega (arith, same))
 lens_whole (file ∷ files) [] same each = absurd (omega (arith, same))
 lens_whole (file ∷ files) (len ∷ lens) same each =
-    rw (each 0 file (omega arith), lens_whole files lens (omega (arith, same))
-        (λ j d within. each (suc j) d (omega (arith, within)))) refl
+    rw (
+      each 0 file (omega arith),
+      lens_whole files lens (omega (arith, same))
+          (λ j d within. each (suc j) d (omega (arith, within))),
+    ) refl
 
 module _ (want : Want) where
   pub has_same : (a b : Files) → files_in want b ≡ files_in want a → HasFiles want.dir want.layout a
@@ -92,19 +95,19 @@ module _ (want : Want) where
       → AreResized want.dir want.layout a c
   resized_from a b c same sized =
       All-from_recursion (λ file. IsFitted file (a (name_of want.dir file.path)) (c (name_of want.dir file.path)))
-          want.layout
+      want.layout
       (each_from want.dir IsFitted a b c want.layout same
       (recursion_from_All (λ file. IsFitted file (b (name_of want.dir file.path)) (c (name_of want.dir file.path)))
-          want.layout sized))
+      want.layout sized))
 
   resized_to : (a b c : Files) → files_in want c ≡ files_in want b → AreResized want.dir want.layout a b
       → AreResized want.dir want.layout a c
   resized_to a b c same sized =
       All-from_recursion (λ file. IsFitted file (a (name_of want.dir file.path)) (c (name_of want.dir file.path)))
-          want.layout
+      want.layout
       (each_to want.dir IsFitted a b c want.layout same
       (recursion_from_All (λ file. IsFitted file (a (name_of want.dir file.path)) (b (name_of want.dir file.path)))
-          want.layout sized))
+      want.layout sized))
 
   -- ---- what was read of a payload before and after its files get their lengths
 
@@ -163,8 +166,11 @@ module _ (want : Want) where
       → AllByRecursion (λ file. HasLen file (seen (name_of want.dir file.path))) files
       → lens_of_files want.dir files seen ≡ map (λ file. Some file.len) files
   each_whole seen [] all = refl
-  each_whole seen (file ∷ files) (here, more) = rw (len_is (seen (name_of want.dir file.path)) here, each_whole seen
-      files more) refl
+  each_whole seen (file ∷ files) (here, more) = rw (
+    len_is (seen (name_of want.dir file.path)) here,
+    each_whole seen
+        files more,
+  ) refl
     where
       len_is : (it : Option (List ℕ)) → HasLen file it → option_map length it ≡ Some file.len
       len_is None has = absurd has
@@ -186,17 +192,19 @@ module _ (want : Want) where
   fitted_each : (seen : Files) (files : List FileLen)
       → AllByRecursion (λ file. HasLen file (seen (name_of want.dir file.path))) files
       → AllByRecursion (λ file. IsFitted file (seen (name_of want.dir file.path))
-          (seen (name_of want.dir file.path))) files
+      (seen (name_of want.dir file.path))) files
   fitted_each seen [] all = tt
-  fitted_each seen (file ∷ files) (here, more) = (resized_as_is file (seen (name_of want.dir file.path)) here,
-      fitted_each seen files more)
+  fitted_each seen (file ∷ files) (here, more) = (
+    resized_as_is file (seen (name_of want.dir file.path)) here,
+    fitted_each seen files more,
+  )
 
   pub fits_as_is : (seen : Files) → HasFiles want.dir want.layout seen → FitsPayload want seen seen
   fits_as_is seen has = record {
     resized = All-from_recursion (λ file. IsFitted file (seen (name_of want.dir file.path))
         (seen (name_of want.dir file.path))) want.layout
         (fitted_each seen want.layout (recursion_from_All (λ file. HasLen file (seen (name_of want.dir file.path)))
-            want.layout has));
+        want.layout has));
     reaches = λ piece reach. reach;
     bytes = λ piece reach. refl;
   }

@@ -48,7 +48,7 @@ module _ (piece : InFlight) (len : ℕ) (was : List Bool) where
                 of.0,
                 ⊎_elim
                     (λ (same : place_of len block ≡ place). absurd
-                        (other (block_is len block piece.index place of.0.0 same)))
+                    (other (block_is len block piece.index place of.0.0 same)))
                     (λ differs. omega (arith, of.1, differs))
                     (cases_eq (place_of len block) place),
               ))

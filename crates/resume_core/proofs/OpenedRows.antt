@@ -59,7 +59,7 @@ pub same_plan : (want : Want) (control : Control) → foreign want control ≡ N
     → (control.piece_len ≡ want.plan.piece_len) × (control.total ≡ want.plan.total)
 same_plan want control none =
     let tests = last_two (bytes_eq control.info_hash (hash_bytes want.info_hash))
-        (control.piece_len == want.plan.piece_len)
+    (control.piece_len == want.plan.piece_len)
     (control.total == want.plan.total) (not_foreign want control none) in
     (eqb-true control.piece_len want.plan.piece_len tests.0, eqb-true control.total want.plan.total tests.1)
 
@@ -90,8 +90,12 @@ pub in_piece_below : (total len : ℕ) → 1 ≤ len → (block piece : ℕ) →
     total len
     → place_of len block < blocks_of_piece total len piece → block < blocks_of total len
 in_piece_below total len some block piece of below within =
-    omega (arith, blocks_within total len piece some below, block_is len block piece (place_of len block) of refl,
-        within)
+    omega (
+      arith,
+      blocks_within total len piece some below,
+      block_is len block piece (place_of len block) of refl,
+      within,
+    )
 
 -- ---- the rows as a start
 
@@ -106,11 +110,15 @@ rows_start want is verified blocks pieces count given = record {
   full = λ piece set k d within.
       let total = want.plan.total in
       let len = want.plan.piece_len in
-      let below : piece < pieces_of total len = omega (arith, slice_get_within verified piece true set, pieces,
-          is.pieces) in
+      let below : piece < pieces_of total len = omega (
+        arith,
+        slice_get_within verified piece true set,
+        pieces,
+        is.pieces,
+      ) in
       let room = blocks_within total len piece is.plan.some below in
       let fits : piece * full_blocks len + blocks_of_piece total len piece ≤ length blocks = omega
-          (arith, room, count) in
+      (arith, room, count) in
       let inside : k < blocks_of_piece total len piece =
       omega (arith, within, length-part blocks (piece * full_blocks len) (blocks_of_piece total len piece) fits) in
       let at = number total len piece k is.plan.some inside in
@@ -145,7 +153,7 @@ module _ (control : Control) (total len : ℕ) (some : 1 ≤ len) (rules : IsRea
       → (piece.index < pieces_of total len) × (length piece.blocks ≡ blocks_of_piece total len piece.index)
   flight_rules piece contains =
       let of : IsInFlight control piece = All-contains (IsInFlight control) control.flight piece rules.fields.flight
-          contains in (
+      contains in (
         omega (
           arith,
           slice_get_within control.pieces piece.index false of.unverified,
@@ -173,7 +181,7 @@ module _ (control : Control) (total len : ℕ) (some : 1 ≤ len) (rules : IsRea
 pub one_more : (flight : List InFlight) (k : ℕ) (piece : InFlight) (len block : ℕ) → k < length flight
     → piece ≡ get_or flight k piece
     → IsBlockOfOne (take (k + 1) flight) len block ↔ (IsBlockOfOne (take k flight) len block ⊎ IsBlockIn piece len
-        block)
+    block)
 one_more flight k piece len block within is =
     let more : take (k + 1) flight ≡ take k flight ++ piece ∷ [] =
     take_more flight k piece within ∙ ap (λ (p : InFlight). take k flight ++ p ∷ []) (sym is) in (
@@ -181,12 +189,20 @@ one_more flight k piece len block within is =
           (λ before. inl (one.0, before, one.2))
           (λ (last : piece ≡ one.0). inr (subst (λ (p : InFlight). IsBlockIn p len block) (sym last) one.2))
           (Contains-push_cases (take k flight) piece one.0 (subst (λ (l : List InFlight). Contains l one.0) more
-              one.1)),
+          one.1)),
       λ either. ⊎_elim
-          (λ before. (before.0, subst (λ (l : List InFlight). Contains l before.0) (sym more)
-              (Contains-append_left (take k flight) (piece ∷ []) before.0 before.1), before.2))
-          (λ last. (piece, subst (λ (l : List InFlight). Contains l piece) (sym more)
-              (Contains-push (take k flight) piece), last))
+          (λ before. (
+            before.0,
+            subst (λ (l : List InFlight). Contains l before.0) (sym more)
+                (Contains-append_left (take k flight) (piece ∷ []) before.0 before.1),
+            before.2,
+          ))
+          (λ last. (
+            piece,
+            subst (λ (l : List InFlight). Contains l piece) (sym more)
+                (Contains-push (take k flight) piece),
+            last,
+          ))
           either,
     )
 
@@ -267,7 +283,7 @@ module _ (want : Want) (is : IsWant want) (seen : Files) (survey : Survey) (surv
             let given : PieceResumed want (Used control) (files_in want seen) piece =
             subst (λ (f : Found). PieceResumed want f (files_in want seen) piece) (sym used) gives in
             let listed : slice_get control.pieces piece ≡ Some true = ⊎_elim (λ lists. lists)
-                (λ hashed. absurd hashed) given.1 in (
+            (λ hashed. absurd hashed) given.1 in (
               omega (arith, slice_get_within control.pieces piece true listed, many control of),
               (listed, (piece_stands_is piece).1 given.0),
             ),
@@ -276,7 +292,7 @@ module _ (want : Want) (is : IsWant want) (seen : Files) (survey : Survey) (surv
   pub opens_listed : (compared : Bool) → IfSome survey.control (IsControlOf want)
       → hashes want survey.control compared ≡ false → (piece : ℕ)
       → ((piece < want.plan.pieces) × IsListedPiece want survey.lens.items survey.control piece) ↔ OpensPiece
-          compared want seen piece
+      compared want seen piece
   opens_listed true of test piece = absurd (false≢true (sym test))
   opens_listed false of test piece = listed_given survey.control surveyed.control of test piece
 
@@ -292,7 +308,7 @@ module _ (want : Want) (is : IsWant want) (seen : Files) (survey : Survey) (surv
         → IsRowWhere (blocks_of want.plan.total want.plan.piece_len) (IsFlyingBlock want control false) flying
         → (block : ℕ)
         → ((block < blocks_of want.plan.total want.plan.piece_len) × BlockGiven want survey.lens.items verified
-            flying block)
+        flying block)
         ↔ ResumesBlock want seen block
     resumed_block None usable of pieces flies block =
         let absent = sym (absent_found want (seen (control_name want)) usable) in (
@@ -303,7 +319,7 @@ module _ (want : Want) (is : IsWant want) (seen : Files) (survey : Survey) (surv
           λ gives. ⊎_elim
               (λ of_piece. (of_piece.0, inl ((pieces (piece_of want.plan.piece_len block)).1 of_piece.1)))
               (λ in_flight. absurd (subst (λ (f : Found). ListsInFlight want.plan.piece_len f block) (sym absent)
-                  in_flight.1))
+              in_flight.1))
               gives,
         )
     resumed_block (Some control) usable of pieces flies block =
@@ -322,7 +338,7 @@ module _ (want : Want) (is : IsWant want) (seen : Files) (survey : Survey) (surv
               let lists : IsBlockInFlight control want.plan.piece_len block =
               subst (λ (f : Found). ListsInFlight want.plan.piece_len f block) (sym used) in_flight.1 in
               let below = flight_below control want.plan.total want.plan.piece_len is.plan.some of.rules plan.1
-                  plan.0 block lists in
+              plan.0 block lists in
               (below, inr ((flies.exact block).1 (below, lists), (block_stands_is block).1 in_flight.0)))
               gives,
         )
@@ -332,7 +348,7 @@ module _ (want : Want) (is : IsWant want) (seen : Files) (survey : Survey) (surv
         → IsRowWhere (blocks_of want.plan.total want.plan.piece_len) (IsFlyingBlock want survey.control compared) flying
         → (block : ℕ)
         → ((block < blocks_of want.plan.total want.plan.piece_len) × BlockGiven want survey.lens.items verified
-            flying block)
+        flying block)
         ↔ OpensBlock compared want seen block
     opens_block false of pieces flies block = resumed_block survey.control surveyed.control of pieces flies block
     opens_block true of pieces flies block = (
@@ -347,7 +363,7 @@ module _ (want : Want) (is : IsWant want) (seen : Files) (survey : Survey) (surv
         → ((piece : ℕ) → (slice_get verified piece ≡ Some true) ↔ OpensPiece compared want seen piece)
         → IsRowWhere (blocks_of want.plan.total want.plan.piece_len) (IsFlyingBlock want survey.control compared) flying
         → IsRowWhere (blocks_of want.plan.total want.plan.piece_len)
-            (BlockGiven want survey.lens.items verified flying) blocks
+        (BlockGiven want survey.lens.items verified flying) blocks
         → OpensJust compared want seen (record { verified = verified; blocks = blocks })
     opens_just compared of pieces flies given = record {
       pieces = pieces;

@@ -217,8 +217,12 @@ module _ (want : Want) where
         let from = performs.passes.images left.0 image left.1 left.2 left.3 in (
           from.0,
           from.1,
-          record { want_is = is; stands = stands_found (from.0 (control_name want)) (held from.0 from.1); files =
-              from.2 },
+          record {
+            want_is = is;
+            stands = stands_found (from.0 (control_name want)) (held from.0 from.1);
+            files =
+                from.2;
+          },
         )
 
     pub fit_besides : KeepsBesides want a b
@@ -281,35 +285,35 @@ module _ (want : Want) where
   module _ (back : WrittenIsReadBack) (is : IsWant want) (control : Control) (nothing : ListsNothing want control)
       (a b : DiskState)
       (performs : Performs (PutsOrKeeps (temporary_name want) (control_name want) (control_bytes Big control)) a b)
-          where
-    abbrev bytes : List ℕ
-    bytes = control_bytes Big control
+    where
+      abbrev bytes : List ℕ
+      bytes = control_bytes Big control
 
-    pub put_payload : SamePayload want a b
-    put_payload = files_put want bytes is a.seen b.seen performs.seen
+      pub put_payload : SamePayload want a b
+      put_payload = files_put want bytes is a.seen b.seen performs.seen
 
-    pub put_besides : KeepsBesides want a b
-    put_besides = besides_of (PutsOrKeeps (temporary_name want) (control_name want) bytes) a b
-        (λ x y puts name beside. puts.others name beside.temporary beside.control) performs
+      pub put_besides : KeepsBesides want a b
+      put_besides = besides_of (PutsOrKeeps (temporary_name want) (control_name want) bytes) a b
+          (λ x y puts name beside. puts.others name beside.temporary beside.control) performs
 
-    pub put_sound : KeepsSound want a b
-    put_sound = record {
-      agrees = λ image agrees. agrees_seen want a.seen b.seen image put_payload agrees;
-      sound = λ were image left.
-          let from = performs.passes.images left.0 image left.1 left.2 left.3 in
-          let was = were from.0 from.1 in
-          ⊎_elim
-          (λ keeps.
-          let as_it : SameFor want from.0 image = record {
-            control = keeps;
-            files = files_put want bytes is from.0 image from.2;
-          } in (
-            sound_same want from.0 image as_it was.0,
-            agrees_seen want a.seen b.seen image put_payload (agrees_same want a.seen from.0 image as_it was.1),
-          ))
-          (λ put. (empty_sound back control nothing image put, empty_agrees back control nothing image put b.seen))
-          from.2.file;
-    }
+      pub put_sound : KeepsSound want a b
+      put_sound = record {
+        agrees = λ image agrees. agrees_seen want a.seen b.seen image put_payload agrees;
+        sound = λ were image left.
+            let from = performs.passes.images left.0 image left.1 left.2 left.3 in
+            let was = were from.0 from.1 in
+            ⊎_elim
+            (λ keeps.
+            let as_it : SameFor want from.0 image = record {
+              control = keeps;
+              files = files_put want bytes is from.0 image from.2;
+            } in (
+              sound_same want from.0 image as_it was.0,
+              agrees_seen want a.seen b.seen image put_payload (agrees_same want a.seen from.0 image as_it was.1),
+            ))
+            (λ put. (empty_sound back control nothing image put, empty_agrees back control nothing image put b.seen))
+            from.2.file;
+      }
 
   -- ---- the control file that lists what is opened
 
@@ -373,7 +377,7 @@ module _ (want : Want) where
             let from = performs.passes.images left.0 image left.1 left.2 left.3 in
             let was = were from.0 from.1 in
             let saving : SavesListing want control a.seen from.0 image = record
-                { want_is = is; listing = lists.listing; files = has; saves = from.2 } in (
+            { want_is = is; listing = lists.listing; files = has; saves = from.2 } in (
               sound_either back want control a.seen from.0 image saving listed_right was.0,
               agrees_seen want a.seen b.seen image saved_payload
                   (agrees_either back want control a.seen from.0 image saving was.1),

@@ -60,7 +60,7 @@ opens_same want true x y opened same opens = record {
 }
 opens_same want false x y opened same opens =
     let give = give_same want x y (record { control = same (control_name want); files = files_kept want x y same })
-        in record {
+    in record {
       pieces = λ piece. (
         λ set. (give.pieces piece).1 ((opens.pieces piece).0 set),
         λ gives. (opens.pieces piece).1 ((give.pieces piece).0 gives),

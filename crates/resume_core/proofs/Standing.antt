@@ -31,8 +31,11 @@ false_is_true is = absurd cc
 
 in_list : (bytes : List ℕ) (i : ℕ) → IsSome (slice_get bytes i) ↔ IsTrue (nat_lt i (length bytes))
 in_list bytes i = elim (cases_lt i (length bytes)) [
-  | inl below ↦ (λ some. lt-ltb i (length bytes) below, λ is. subst (λ (o : Option ℕ). IsSome o)
-      (sym (slice_get-get_or bytes i 0 below)) refl)
+  | inl below ↦ (
+    λ some. lt-ltb i (length bytes) below,
+    λ is. subst (λ (o : Option ℕ). IsSome o)
+        (sym (slice_get-get_or bytes i 0 below)) refl,
+  )
   | inr past ↦ (
     λ some. none_is_some (subst (λ (o : Option ℕ). IsSome o) (slice_get_past bytes i past) some),
     λ is. absurd (omega (arith, past, below_is i (length bytes) is)),
@@ -88,7 +91,7 @@ module _ (all : List (Option ℕ)) (low high : ℕ) where
   next_from : (s : Option ℕ) (lens : List (Option ℕ)) (n : ℕ) → From n (s ∷ lens) → From (n + 1) lens
   next_from s lens n from j inside =
       ap (λ (k : ℕ). get_or all k None) (let e : n + 1 + j ≡ n + suc j = omega arith in e) ∙ from (suc j)
-          (omega (arith, inside))
+      (omega (arith, inside))
 
   here_from : (s : Option ℕ) (lens : List (Option ℕ)) (n : ℕ) → From n (s ∷ lens) → get_or all n None ≡ s
   here_from s lens n from = ap (λ (k : ℕ). get_or all k None) (let e : n ≡ n + 0 = omega arith in e) ∙ from 0
@@ -121,16 +124,16 @@ module _ (all : List (Option ℕ)) (low high : ℕ) where
             let is = here_from s lens n from in
             let most : (first x files n start).at + (first x files n start).len ≤ unwrap_or s 0 =
             subst (λ (o : Option ℕ). (first x files n start).at + (first x files n start).len ≤ unwrap_or o 0) is
-                head in
+            head in
             (in_first x files s lens (i - start) (omega (arith, after, inside))).1
-                (omega (arith, most, after, inside, before))
+            (omega (arith, most, after, inside, before))
         | inr past ↦
             (behind_first x files s lens (i - start) (omega (arith, past))).1
             (subst (λ (k : ℕ). IsTrue (has_byte_at files lens k)) minus
             (elim (cases_lt (max start low) (min (start + x.len) high)) [
               | inl meet ↦ rest (All-tail (PartStands all) (first x files n start) (others x files n start)
                   (subst (All (PartStands all)) (with_part x files n start meet) has)) i (omega (arith, after, past))
-                      before (omega (arith, within, total))
+                  before (omega (arith, within, total))
               | inr apart ↦ rest (subst (All (PartStands all)) (without_part x files n start apart) has) i
                   (omega (arith, after, past)) before (omega (arith, within, total))
             ]))
@@ -159,7 +162,7 @@ module _ (all : List (Option ℕ)) (low high : ℕ) where
             let head : PartStands all (first x files n start) =
             subst (λ (o : Option ℕ). (first x files n start).at + (first x files n start).len ≤ unwrap_or o 0) (sym is)
             (let most : (first x files n start).at + (first x files n start).len ≤ unwrap_or s 0 = omega
-                (arith, below, meet) in most) in
+            (arith, below, meet) in most) in
             subst (All (PartStands all)) (sym (with_part x files n start meet))
             (All-cons (PartStands all) (first x files n start) (others x files n start) head rest)
         | inr apart ↦ subst (All (PartStands all)) (sym (without_part x files n start apart)) rest
@@ -173,11 +176,11 @@ parts_stand want lens at len same within = (
       let minus : at + i - 0 ≡ at + i = omega arith in
       subst (λ (k : ℕ). IsTrue (has_byte_at want.layout lens k)) minus
       (to_stand lens at (at + len) want.layout lens 0 0 same (λ j inside. ap (λ (k : ℕ). get_or lens k None)
-          (let e : 0 + j ≡ j = omega arith in e))
+      (let e : 0 + j ≡ j = omega arith in e))
       has (at + i) (omega arith) below (omega (arith, below, within))),
   λ stands.
       from_stand lens at (at + len) want.layout lens 0 0 same
-          (λ j inside. ap (λ (k : ℕ). get_or lens k None) (let e : 0 + j ≡ j = omega arith in e))
+      (λ j inside. ap (λ (k : ℕ). get_or lens k None) (let e : 0 + j ≡ j = omega arith in e))
       (λ i after before inside.
       let plus : at + (i - at) ≡ i - 0 = omega (arith, after) in
       subst (λ (k : ℕ). IsTrue (has_byte_at want.layout lens k)) plus (stands (i - at) (omega (arith, before, after)))),

@@ -40,7 +40,7 @@ module _ (want : Want) (file : Option (List ℕ)) (standing : Option ℕ) where
   refused_none None usable free = ap (λ (f : Option (List ℕ)). refused_over want f standing) usable ∙ free refl
   refused_none (Some control) usable free =
       ap (λ (f : Option (List ℕ)). refused_over want f standing) usable.1 ∙ ap (control_refusal want) usable.2 ∙
-          usable.3
+      usable.3
 
   pub refused_some : (control : Option Control) (err : OpenErr) → IsOurControl want control file → control ≡ None
       → in_the_way want standing ≡ Some err → refused_over want file standing ≡ Some err
@@ -57,7 +57,7 @@ whole_read (Some bytes) into rest n m len size all reads =
     let many : m ≡ length bytes = same_Some m (length bytes) len in
     let is : into ≡ bytes = reads.bytes ∙ take_all (length into) bytes (omega (arith, size, many)) in
     ap (λ (l : List ℕ). Some l) (take-append-le n into rest (omega (arith, size, all)) ∙ take_all n into
-        (omega (arith, size, all)) ∙ is)
+    (omega (arith, size, all)) ∙ is)
 
 -- what an error says by two facts
 pub err_both : {T E : Type 0} (result : Result T E) (A B C : E → Type 0) → ((e : E) → A e → B e → C e)

@@ -109,7 +109,7 @@ pub record KeepsSound (want : Want) (old new : DiskState) : Type 0 where
 abbrev pub GivesMoreOrOpened : Want → Opened → DiskState → DiskState → Type 0
 GivesMoreOrOpened want opened old new =
     (image : Files) → LeftSince new old.moment image → GivesAtLeast want old.may_leave image ⊎ GivesOpened want
-        opened image
+    opened image
 
 -- each file has its length, and the bytes that it had within it; a piece that stood has its bytes
 pub record FitsPayload (want : Want) (old new : Files) : Type 0 where

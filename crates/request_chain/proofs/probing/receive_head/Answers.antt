@@ -33,7 +33,6 @@ returns-in_err-count-clause-answered g c told url others before opened few old w
     c.receive.ensures.answered told before (top_later before others _ awaits.stream awaits.on_top few) old
     (c.turns.invariant.answered told url others before opened few old were)
 
-
 pub returns-in-Bad-clause-heads : goal.returns-in-Bad-clause-heads
 returns-in-Bad-clause-heads g c told url before opened =
     let awaits = c.in_ok-count.ensures.receives told url before (c.turns.invariant.awaits told url before opened) in

@@ -12,9 +12,9 @@ returns-clause-performs g c told =
     let want = c.args.want.now in
     let step = PutsOrKeeps (temporary_name want) (control_name want) c.args.bytes.now in
     performs_on IsSame step step (d.state c.args.disk.now) (d.state c.sync_standing.new.disk)
-        (d.state c.put_file.new.disk)
+    (d.state c.put_file.new.disk)
     (puts_none (temporary_name want) (control_name want) c.args.bytes.now)
     (puts_after (temporary_name want) (control_name want) c.args.bytes.now)
     (c.sync_standing.ensures.performs told)
     (rw (c.as_str.ensures.value, c.in_ok-temporary.ensures, c.as_str-2.ensures.value, c.in_ok-name.ensures) at
-        c.put_file.ensures.performs told)
+    c.put_file.ensures.performs told)

@@ -26,7 +26,7 @@ pub returns-clause-payload : goal.returns-clause-payload
 returns-clause-payload g c told =
     let d = g.D.Disk in
     put_payload c.args.want.now c.control_files_are_read.ensures.back c.requires.want c.in_ok-control.control
-        c.in_ok-control.ensures
+    c.in_ok-control.ensures
     (d.state c.args.disk.now) (d.state c.put_beside.new.disk)
     (rw (c.deref.ensures.value ∙ c.in_ok-bytes.ensures.spelled) at c.put_beside.ensures.performs told)
 
@@ -34,7 +34,7 @@ pub returns-clause-besides : goal.returns-clause-besides
 returns-clause-besides g c told =
     let d = g.D.Disk in
     put_besides c.args.want.now c.control_files_are_read.ensures.back c.requires.want c.in_ok-control.control
-        c.in_ok-control.ensures
+    c.in_ok-control.ensures
     (d.state c.args.disk.now) (d.state c.put_beside.new.disk)
     (rw (c.deref.ensures.value ∙ c.in_ok-bytes.ensures.spelled) at c.put_beside.ensures.performs told)
 
@@ -42,6 +42,6 @@ pub returns-clause-sound : goal.returns-clause-sound
 returns-clause-sound g c told =
     let d = g.D.Disk in
     put_sound c.args.want.now c.control_files_are_read.ensures.back c.requires.want c.in_ok-control.control
-        c.in_ok-control.ensures
+    c.in_ok-control.ensures
     (d.state c.args.disk.now) (d.state c.put_beside.new.disk)
     (rw (c.deref.ensures.value ∙ c.in_ok-bytes.ensures.spelled) at c.put_beside.ensures.performs told)

@@ -29,8 +29,14 @@ returns c =
     let files = c.args.want.now.layout in (
       λ is. lens_whole files c.args.lens.now c.requires
           (λ j d within.
-          c.loop-index.invariant j d (omega (arith, within, c.requires, c.loop-index-test.false, ap
-              (λ (l : List FileLen). length l) c.files-files.ensures.value))
+          c.loop-index.invariant j d (omega (
+            arith,
+            within,
+            c.requires,
+            c.loop-index-test.false,
+            ap
+                (λ (l : List FileLen). length l) c.files-files.ensures.value,
+          ))
           ∙ ap (λ (l : List FileLen). Some (get_or l j d).len) c.files-files.ensures.value),
       λ whole. refl,
     )

@@ -35,7 +35,7 @@ returns c =
     let items = c.deref-part-items.ensures.value ∙ c.in_ok-parts.ensures.parts in (
       λ is. law.0 (subst (λ (l : List Part). All (PartStands c.args.lens.now) l)
           (take_all c.loop-part.part-index c.deref-part-items.result.now c.loop-part-test.false ∙ items)
-              c.loop-part.invariant),
+          c.loop-part.invariant),
       λ stands. refl,
     )
 
@@ -43,5 +43,5 @@ pub loop-part-preserved : goal.loop-part-preserved
 loop-part-preserved c =
     let no_part : Part = record { file = 0; at = 0; len = 0 } in
     All-more (PartStands c.args.lens.now) c.deref-part-items.result.now c.loop-part.part-index no_part
-        c.loop-part-test.true
+    c.loop-part-test.true
     c.loop-part.invariant (c.part_stands.ensures.0 c.if-not-part_stands.false)

@@ -17,7 +17,7 @@ is_matching-requires-clause-lens g c told =
     let d = g.D.Disk in
     c.requires.lens told
     ∙ lens_same c.args.want.now.dir c.args.want.now.layout (d.state c.args.disk.now).seen
-        (d.state c.loop-piece.disk).seen
+    (d.state c.loop-piece.disk).seen
     (c.loop-piece.invariant.looks told).stays.seen
 
 pub returns-in_err-is_matching-clause-looks : goal.returns-in_err-is_matching-clause-looks

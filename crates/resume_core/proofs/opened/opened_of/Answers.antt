@@ -15,7 +15,7 @@ returns-clause-opened g c told =
     let want = c.args.want.now in
     let seen = (g.D.Disk.state c.args.disk.now).seen in
     subst (λ (compared : Bool). OpensJust compared want seen (record
-        { verified = c.in_ok-verified.verified; blocks = c.in_ok-blocks.blocks }))
+    { verified = c.in_ok-verified.verified; blocks = c.in_ok-blocks.blocks }))
     c.is_compared-compared.ensures
     (opens_just want c.requires.want seen c.args.survey.now (c.requires.survey told) c.in_ok-verified.verified
     c.in_ok-flying.flying c.in_ok-blocks.blocks c.is_compared-compared.result c.requires.control

@@ -22,7 +22,7 @@ pub returns-clause-besides : goal.returns-clause-besides
 returns-clause-besides g c told =
     let d = g.D.Disk in
     besides_on c.args.want.now (d.state c.args.disk.now) (d.state c.fit_payload.new.disk)
-        (d.state c.put_opened.new.disk)
+    (d.state c.put_opened.new.disk)
     (c.fit_payload.ensures.besides told) (c.put_opened.ensures.besides told)
 
 pub returns-clause-sound : goal.returns-clause-sound

@@ -10,7 +10,7 @@ returns-clause-kept g c =
     on_ok_weaker c.fit_held.result
     (λ sized told. fits_stretched c.args.want.now (d.state c.args.disk.now).seen (d.state c.hold_control.new.disk).seen
     (d.state c.fit_held.new.disk).seen (c.hold_control.ensures.payload told) (sized told)
-        (c.fit_held.ensures.seen told))
+    (c.fit_held.ensures.seen told))
     c.fit_held.ensures.resized
 
 pub returns-clause-besides : goal.returns-clause-besides

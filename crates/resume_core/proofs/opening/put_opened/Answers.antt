@@ -33,7 +33,7 @@ returns-clause-verified g c =
     let d = g.D.Disk in
     on_ok_weaker c.put_listing.result
     (λ saved told right. saved_verified c.args.want.now c.control_files_are_read.ensures.back c.requires.want
-        c.args.opened.now
+    c.args.opened.now
     c.in_ok-control.control c.in_ok-control.ensures (d.state c.args.disk.now) (d.state c.put_listing.new.disk)
     (c.requires.files told) (c.put_listing.ensures.performs told) right (saved told))
     c.put_listing.ensures.saved

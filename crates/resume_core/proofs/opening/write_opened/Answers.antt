@@ -42,7 +42,7 @@ returns-clause-besides g c told =
     let d = g.D.Disk in
     let made = c.make_folders.ensures.performs told in
     besides_on c.args.want.now (d.state c.args.disk.now) (d.state c.make_folders.new.disk)
-        (d.state c.fit_and_put.new.disk)
+    (d.state c.fit_and_put.new.disk)
     (besides_same c.args.want.now (d.state c.args.disk.now) (d.state c.make_folders.new.disk) made.seen made.passes)
     (c.fit_and_put.ensures.besides told)
 
@@ -51,13 +51,13 @@ returns-clause-sound g c told right =
     let d = g.D.Disk in
     let made = c.make_folders.ensures.performs told in
     sound_on c.args.want.now (d.state c.args.disk.now) (d.state c.make_folders.new.disk)
-        (d.state c.fit_and_put.new.disk)
+    (d.state c.fit_and_put.new.disk)
     (besides_same c.args.want.now (d.state c.args.disk.now) (d.state c.make_folders.new.disk) made.seen made.passes)
     (c.fit_and_put.ensures.besides told)
     (sound_same_step c.args.want.now (d.state c.args.disk.now) (d.state c.make_folders.new.disk) made.seen made.passes)
     (c.fit_and_put.ensures.sound told
     (matches_same c.args.want.now c.args.opened.now (d.state c.args.disk.now).seen
-        (d.state c.make_folders.new.disk).seen made.seen right))
+    (d.state c.make_folders.new.disk).seen made.seen right))
 
 pub returns-clause-verified : goal.returns-clause-verified
 returns-clause-verified g c =
@@ -65,7 +65,7 @@ returns-clause-verified g c =
     on_ok_weaker c.fit_and_put.result
     (λ verified told right. verified told
     (matches_same c.args.want.now c.args.opened.now (d.state c.args.disk.now).seen
-        (d.state c.make_folders.new.disk).seen
+    (d.state c.make_folders.new.disk).seen
     (c.make_folders.ensures.performs told).seen right))
     c.fit_and_put.ensures.verified
 
@@ -84,7 +84,7 @@ pub returns-clause-folders : goal.returns-clause-folders
 returns-clause-folders g c =
     on_ok_weaker c.fit_and_put.result
     (λ kept told. rw (c.fit_and_put.ensures.folders told, sym c.as_str.ensures)
-        (c.in_ok-make_folders.ensures.folders told))
+    (c.in_ok-make_folders.ensures.folders told))
     c.fit_and_put.ensures.kept
 
 pub returns-clause-stay : goal.returns-clause-stay

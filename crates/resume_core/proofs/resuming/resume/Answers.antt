@@ -51,7 +51,7 @@ opened_of-requires-clause-survey g c told =
     let s0 = d.state c.args.disk.now in
     let s1 = d.state c.look_up.new.disk in
     survey_same want c.in_ok-survey.survey s0.seen s1.seen (c.look_up.ensures.looks told).stays.seen
-        (c.in_ok-survey.ensures.survey told)
+    (c.in_ok-survey.ensures.survey told)
 
 pub returns-in_err-opened-clause-refuses : goal.returns-in_err-opened-clause-refuses
 returns-in_err-opened-clause-refuses g c told =
@@ -62,7 +62,7 @@ pub returns-in_err-opened-clause-refused : goal.returns-in_err-opened-clause-ref
 returns-in_err-opened-clause-refused g c =
     let d = g.D.Disk in
     told_plain c.from_residual-in_err-opened.result _ _ (λ told. plain_store c.from_residual-in_err-opened.result
-        c.in_err-opened.field-0.0
+    c.in_err-opened.field-0.0
     (λ err. Stays (d.state c.args.disk.now) (d.state c.opened_of.new.disk)) c.from_residual-in_err-opened.ensures.1)
 
 pub returns-in_err-opened-clause-besides : goal.returns-in_err-opened-clause-besides
@@ -73,7 +73,7 @@ returns-in_err-opened-clause-besides g c told =
     let s1 = d.state c.look_up.new.disk in
     let s2 = d.state c.opened_of.new.disk in
     let looks = looked_both (IsNoControl want) (IsOther want.dir want.layout) s0 s1 s2 (c.look_up.ensures.looks told)
-        (c.opened_of.ensures.looks told) in
+    (c.opened_of.ensures.looks told) in
     looked_besides want s0 s2 looks
 
 pub returns-in_err-opened-clause-sound : goal.returns-in_err-opened-clause-sound
@@ -84,7 +84,7 @@ returns-in_err-opened-clause-sound g c told =
     let s1 = d.state c.look_up.new.disk in
     let s2 = d.state c.opened_of.new.disk in
     let looks = looked_both (IsNoControl want) (IsOther want.dir want.layout) s0 s1 s2 (c.look_up.ensures.looks told)
-        (c.opened_of.ensures.looks told) in
+    (c.opened_of.ensures.looks told) in
     (looked_sound want s0 s2 looks).sound
 
 pub returns-in_err-opened-clause-gives : goal.returns-in_err-opened-clause-gives
@@ -95,7 +95,7 @@ returns-in_err-opened-clause-gives g c told stood plain =
     let s1 = d.state c.look_up.new.disk in
     let s2 = d.state c.opened_of.new.disk in
     let looks = looked_both (IsNoControl want) (IsOther want.dir want.layout) s0 s1 s2 (c.look_up.ensures.looks told)
-        (c.opened_of.ensures.looks told) in
+    (c.opened_of.ensures.looks told) in
     looked_given want s0 s2 looks
 
 pub returns-in_err-opened-clause-pieces : goal.returns-in_err-opened-clause-pieces
@@ -106,7 +106,7 @@ returns-in_err-opened-clause-pieces g c told stood sound =
     let s1 = d.state c.look_up.new.disk in
     let s2 = d.state c.opened_of.new.disk in
     let looks = looked_both (IsNoControl want) (IsOther want.dir want.layout) s0 s1 s2 (c.look_up.ensures.looks told)
-        (c.opened_of.ensures.looks told) in
+    (c.opened_of.ensures.looks told) in
     given_pieces want s0 s2 (looked_given want s0 s2 looks)
 
 pub returns-in_err-opened-clause-whole : goal.returns-in_err-opened-clause-whole
@@ -117,7 +117,7 @@ returns-in_err-opened-clause-whole g c told lacks has =
     let s1 = d.state c.look_up.new.disk in
     let s2 = d.state c.opened_of.new.disk in
     let looks = looked_both (IsNoControl want) (IsOther want.dir want.layout) s0 s1 s2 (c.look_up.ensures.looks told)
-        (c.opened_of.ensures.looks told) in
+    (c.opened_of.ensures.looks told) in
     looked_given want s0 s2 looks
 
 pub returns-in_err-opened-clause-unread : goal.returns-in_err-opened-clause-unread
@@ -138,7 +138,7 @@ write_opened-requires-clause-survey g c told =
     let s1 = d.state c.look_up.new.disk in
     let s2 = d.state c.opened_of.new.disk in
     let looks = looked_both (IsNoControl want) (IsOther want.dir want.layout) s0 s1 s2 (c.look_up.ensures.looks told)
-        (c.opened_of.ensures.looks told) in
+    (c.opened_of.ensures.looks told) in
     survey_same want c.in_ok-survey.survey s0.seen s2.seen looks.stays.seen (c.in_ok-survey.ensures.survey told)
 
 pub returns-in_err-write_opened-clause-besides : goal.returns-in_err-write_opened-clause-besides
@@ -149,7 +149,7 @@ returns-in_err-write_opened-clause-besides g c told =
     let s1 = d.state c.look_up.new.disk in
     let s2 = d.state c.opened_of.new.disk in
     let looks = looked_both (IsNoControl want) (IsOther want.dir want.layout) s0 s1 s2 (c.look_up.ensures.looks told)
-        (c.opened_of.ensures.looks told) in
+    (c.opened_of.ensures.looks told) in
     let s3 = d.state c.write_opened.new.disk in
     let opened = c.in_ok-opened.opened in
     whole_besides want s0 s2 s3 looks (c.write_opened.ensures.besides told)
@@ -162,7 +162,7 @@ returns-in_err-write_opened-clause-sound g c told were =
     let s1 = d.state c.look_up.new.disk in
     let s2 = d.state c.opened_of.new.disk in
     let looks = looked_both (IsNoControl want) (IsOther want.dir want.layout) s0 s1 s2 (c.look_up.ensures.looks told)
-        (c.opened_of.ensures.looks told) in
+    (c.opened_of.ensures.looks told) in
     let s3 = d.state c.write_opened.new.disk in
     let opened = c.in_ok-opened.opened in
     let opens = opens_same want (is_compared want c.args.check) s1.seen s0.seen opened
@@ -179,14 +179,14 @@ returns-in_err-write_opened-clause-gives g c told stood plain =
     let s1 = d.state c.look_up.new.disk in
     let s2 = d.state c.opened_of.new.disk in
     let looks = looked_both (IsNoControl want) (IsOther want.dir want.layout) s0 s1 s2 (c.look_up.ensures.looks told)
-        (c.opened_of.ensures.looks told) in
+    (c.opened_of.ensures.looks told) in
     let s3 = d.state c.write_opened.new.disk in
     let opened = c.in_ok-opened.opened in
     let opens = opens_same want (is_compared want c.args.check) s1.seen s0.seen opened
     (λ name. sym ((c.look_up.ensures.looks told).stays.seen name)) (c.in_ok-opened.ensures.opened told) in
     whole_given want s0 s2 s3 looks (c.write_opened.ensures.besides told) opened
     (c.write_opened.ensures.gives told (inl (survey_stood want c.in_ok-survey.survey s0.seen
-        (c.in_ok-survey.ensures.survey told) stood)))
+    (c.in_ok-survey.ensures.survey told) stood)))
     (covers want s0.seen opened (is_compared want c.args.check) plain opens)
 
 pub returns-in_err-write_opened-clause-pieces : goal.returns-in_err-write_opened-clause-pieces
@@ -197,16 +197,16 @@ returns-in_err-write_opened-clause-pieces g c told stood were =
     let s1 = d.state c.look_up.new.disk in
     let s2 = d.state c.opened_of.new.disk in
     let looks = looked_both (IsNoControl want) (IsOther want.dir want.layout) s0 s1 s2 (c.look_up.ensures.looks told)
-        (c.opened_of.ensures.looks told) in
+    (c.opened_of.ensures.looks told) in
     let s3 = d.state c.write_opened.new.disk in
     let opened = c.in_ok-opened.opened in
     let opens = opens_same want (is_compared want c.args.check) s1.seen s0.seen opened
     (λ name. sym ((c.look_up.ensures.looks told).stays.seen name)) (c.in_ok-opened.ensures.opened told) in
     whole_pieces want s0 s2 s3 looks (c.write_opened.ensures.besides told) opened
     (c.write_opened.ensures.gives told (inl (survey_stood want c.in_ok-survey.survey s0.seen
-        (c.in_ok-survey.ensures.survey told) stood)))
+    (c.in_ok-survey.ensures.survey told) stood)))
     (covers_pieces want s0.seen opened c.requires (is_compared want c.args.check) (compared_listed want c.args.check)
-        opens
+    opens
     (were s0.seen s0.own_image).0)
 
 pub returns-in_err-write_opened-clause-whole : goal.returns-in_err-write_opened-clause-whole
@@ -217,14 +217,14 @@ returns-in_err-write_opened-clause-whole g c told lacks has =
     let s1 = d.state c.look_up.new.disk in
     let s2 = d.state c.opened_of.new.disk in
     let looks = looked_both (IsNoControl want) (IsOther want.dir want.layout) s0 s1 s2 (c.look_up.ensures.looks told)
-        (c.opened_of.ensures.looks told) in
+    (c.opened_of.ensures.looks told) in
     let s3 = d.state c.write_opened.new.disk in
     let opened = c.in_ok-opened.opened in
     let opens = opens_same want (is_compared want c.args.check) s1.seen s0.seen opened
     (λ name. sym ((c.look_up.ensures.looks told).stays.seen name)) (c.in_ok-opened.ensures.opened told) in
     whole_given want s0 s2 s3 looks (c.write_opened.ensures.besides told) opened
     (c.write_opened.ensures.gives told (survey_whole want c.in_ok-survey.survey s0.seen
-        (c.in_ok-survey.ensures.survey told) has))
+    (c.in_ok-survey.ensures.survey told) has))
     (covers_absent want s0.seen opened lacks (is_compared want c.args.check) opens)
 
 pub returns-in_err-write_opened-clause-unread : goal.returns-in_err-write_opened-clause-unread
@@ -256,7 +256,7 @@ returns-clause-besides g c told =
     let s1 = d.state c.look_up.new.disk in
     let s2 = d.state c.opened_of.new.disk in
     let looks = looked_both (IsNoControl want) (IsOther want.dir want.layout) s0 s1 s2 (c.look_up.ensures.looks told)
-        (c.opened_of.ensures.looks told) in
+    (c.opened_of.ensures.looks told) in
     let s3 = d.state c.write_opened.new.disk in
     let opened = c.in_ok-opened.opened in
     whole_besides want s0 s2 s3 looks (c.write_opened.ensures.besides told)
@@ -269,7 +269,7 @@ returns-clause-sound g c told were =
     let s1 = d.state c.look_up.new.disk in
     let s2 = d.state c.opened_of.new.disk in
     let looks = looked_both (IsNoControl want) (IsOther want.dir want.layout) s0 s1 s2 (c.look_up.ensures.looks told)
-        (c.opened_of.ensures.looks told) in
+    (c.opened_of.ensures.looks told) in
     let s3 = d.state c.write_opened.new.disk in
     let opened = c.in_ok-opened.opened in
     let opens = opens_same want (is_compared want c.args.check) s1.seen s0.seen opened
@@ -286,14 +286,14 @@ returns-clause-gives g c told stood plain =
     let s1 = d.state c.look_up.new.disk in
     let s2 = d.state c.opened_of.new.disk in
     let looks = looked_both (IsNoControl want) (IsOther want.dir want.layout) s0 s1 s2 (c.look_up.ensures.looks told)
-        (c.opened_of.ensures.looks told) in
+    (c.opened_of.ensures.looks told) in
     let s3 = d.state c.write_opened.new.disk in
     let opened = c.in_ok-opened.opened in
     let opens = opens_same want (is_compared want c.args.check) s1.seen s0.seen opened
     (λ name. sym ((c.look_up.ensures.looks told).stays.seen name)) (c.in_ok-opened.ensures.opened told) in
     whole_given want s0 s2 s3 looks (c.write_opened.ensures.besides told) opened
     (c.write_opened.ensures.gives told (inl (survey_stood want c.in_ok-survey.survey s0.seen
-        (c.in_ok-survey.ensures.survey told) stood)))
+    (c.in_ok-survey.ensures.survey told) stood)))
     (covers want s0.seen opened (is_compared want c.args.check) plain opens)
 
 pub returns-clause-pieces : goal.returns-clause-pieces
@@ -304,16 +304,16 @@ returns-clause-pieces g c told stood were =
     let s1 = d.state c.look_up.new.disk in
     let s2 = d.state c.opened_of.new.disk in
     let looks = looked_both (IsNoControl want) (IsOther want.dir want.layout) s0 s1 s2 (c.look_up.ensures.looks told)
-        (c.opened_of.ensures.looks told) in
+    (c.opened_of.ensures.looks told) in
     let s3 = d.state c.write_opened.new.disk in
     let opened = c.in_ok-opened.opened in
     let opens = opens_same want (is_compared want c.args.check) s1.seen s0.seen opened
     (λ name. sym ((c.look_up.ensures.looks told).stays.seen name)) (c.in_ok-opened.ensures.opened told) in
     whole_pieces want s0 s2 s3 looks (c.write_opened.ensures.besides told) opened
     (c.write_opened.ensures.gives told (inl (survey_stood want c.in_ok-survey.survey s0.seen
-        (c.in_ok-survey.ensures.survey told) stood)))
+    (c.in_ok-survey.ensures.survey told) stood)))
     (covers_pieces want s0.seen opened c.requires (is_compared want c.args.check) (compared_listed want c.args.check)
-        opens
+    opens
     (were s0.seen s0.own_image).0)
 
 pub returns-clause-whole : goal.returns-clause-whole
@@ -324,14 +324,14 @@ returns-clause-whole g c told lacks has =
     let s1 = d.state c.look_up.new.disk in
     let s2 = d.state c.opened_of.new.disk in
     let looks = looked_both (IsNoControl want) (IsOther want.dir want.layout) s0 s1 s2 (c.look_up.ensures.looks told)
-        (c.opened_of.ensures.looks told) in
+    (c.opened_of.ensures.looks told) in
     let s3 = d.state c.write_opened.new.disk in
     let opened = c.in_ok-opened.opened in
     let opens = opens_same want (is_compared want c.args.check) s1.seen s0.seen opened
     (λ name. sym ((c.look_up.ensures.looks told).stays.seen name)) (c.in_ok-opened.ensures.opened told) in
     whole_given want s0 s2 s3 looks (c.write_opened.ensures.besides told) opened
     (c.write_opened.ensures.gives told (survey_whole want c.in_ok-survey.survey s0.seen
-        (c.in_ok-survey.ensures.survey told) has))
+    (c.in_ok-survey.ensures.survey told) has))
     (covers_absent want s0.seen opened lacks (is_compared want c.args.check) opens)
 
 pub returns-clause-unread : goal.returns-clause-unread
@@ -374,16 +374,16 @@ pub returns-in_err-write_opened-clause-refused : goal.returns-in_err-write_opene
 returns-in_err-write_opened-clause-refused g c =
     let d = g.D.Disk in
     told_plain c.from_residual-in_err-write_opened.result _ _
-        (λ told. plain_disk c.from_residual-in_err-write_opened.result c.in_err-write_opened.field-0.0
+    (λ told. plain_disk c.from_residual-in_err-write_opened.result c.in_err-write_opened.field-0.0
     (λ err. Stays (d.state c.args.disk.now) (d.state c.write_opened.new.disk))
-        c.from_residual-in_err-write_opened.ensures.1)
+    c.from_residual-in_err-write_opened.ensures.1)
 
 pub returns-in_err-write_opened-clause-cause : goal.returns-in_err-write_opened-clause-cause
 returns-in_err-write_opened-clause-cause g c =
     disk_cause_moved _ _ _ c.in_err-write_opened.field-0.0 c.from_residual-in_err-write_opened.result
-        c.in_err-write_opened.ensures.cause
+    c.in_err-write_opened.ensures.cause
     (c.in_ok-opened.ensures.cause.done ∙ c.in_ok-survey.ensures.cause.done)
-        c.from_residual-in_err-write_opened.ensures.1
+    c.from_residual-in_err-write_opened.ensures.1
 
 pub returns-clause-opened : goal.returns-clause-opened
 returns-clause-opened g c told =
@@ -404,10 +404,10 @@ returns-clause-fits g c told =
     let s1 = d.state c.look_up.new.disk in
     let s2 = d.state c.opened_of.new.disk in
     let looks = looked_both (IsNoControl want) (IsOther want.dir want.layout) s0 s1 s2 (c.look_up.ensures.looks told)
-        (c.opened_of.ensures.looks told) in
+    (c.opened_of.ensures.looks told) in
     let s3 = d.state c.write_opened.new.disk in
     fits_from want s0.seen s2.seen s3.seen (files_kept want s0.seen s2.seen looks.stays.seen)
-        (c.in_ok-write_opened.ensures.kept told)
+    (c.in_ok-write_opened.ensures.kept told)
 
 pub returns-clause-compared : goal.returns-clause-compared
 returns-clause-compared g c told is =
@@ -417,7 +417,7 @@ returns-clause-compared g c told is =
     let s1 = d.state c.look_up.new.disk in
     let s2 = d.state c.opened_of.new.disk in
     let looks = looked_both (IsNoControl want) (IsOther want.dir want.layout) s0 s1 s2 (c.look_up.ensures.looks told)
-        (c.opened_of.ensures.looks told) in
+    (c.opened_of.ensures.looks told) in
     let s3 = d.state c.write_opened.new.disk in
     let opened = c.in_ok-opened.opened in
     let opens = opens_same want (is_compared want c.args.check) s1.seen s0.seen opened

@@ -20,9 +20,9 @@ loop-piece-preserved c =
     let contains : Contains control.flight piece =
     subst (λ (l : List InFlight). Contains l piece) c.items-piece-items.ensures
     (subst (λ (p : InFlight). Contains items p) (sym c.piece-item.is)
-        (Contains-get_or items k piece c.loop-piece-test.true)) in
+    (Contains-get_or items k piece c.loop-piece-test.true)) in
     let rules = flight_rules control plan.total plan.piece_len some c.requires.control c.requires.total
-        c.requires.piece_len piece contains in
+    c.requires.piece_len piece contains in
     let more = λ (block : ℕ). one_more items k piece plan.piece_len block c.loop-piece-test.true c.piece-item.is in
     record {
       len = c.set_blocks.ensures.len ∙ c.loop-piece.invariant.len;
@@ -49,7 +49,7 @@ returns c =
     let some : 1 ≤ plan.piece_len = omega (arith, c.requires.control.fields.plan.some, c.requires.piece_len) in
     let all : take c.loop-piece.piece-index c.items-piece-items.result.now ≡ control.flight =
     take_all c.loop-piece.piece-index c.items-piece-items.result.now c.loop-piece-test.false ∙
-        c.items-piece-items.ensures in
+    c.items-piece-items.ensures in
     record {
       len = c.loop-piece.invariant.len;
       exact = λ block. (
@@ -63,7 +63,7 @@ returns c =
           lower.0,
           subst (λ (l : List InFlight). IsBlockOfOne l plan.piece_len block) (sym all)
               (one_of_flying control plan.total plan.piece_len some c.requires.control c.requires.total
-                  c.requires.piece_len block lower.1),
+              c.requires.piece_len block lower.1),
         ),
       );
     }

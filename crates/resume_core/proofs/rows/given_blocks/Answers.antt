@@ -12,7 +12,7 @@ loop-block-preserved c =
       | then-branch w ↦
           let on = row_on c.loop-block.row c.if-branch.row c.loop-block.block at c.loop-block.invariant.exact
           (omega (arith, c.loop-block-test.true, c.loop-block.invariant.len))
-              (c.in_ok-is_given.ensures.0 w.if-branch.true) (w.row-is ∙ w.set.ensures) in
+          (c.in_ok-is_given.ensures.0 w.if-branch.true) (w.row-is ∙ w.set.ensures) in
           record { len = on.0 ∙ c.loop-block.invariant.len; exact = on.1 }
       | else-branch w ↦
           let on = row_past c.loop-block.row c.if-branch.row c.loop-block.block at c.loop-block.invariant.exact

@@ -18,8 +18,13 @@ loop-place-preserved c =
         exact = set_on piece plan.piece_len c.args.row.now c.loop-place.row c.if-get.row place
             c.loop-place.invariant.exact
             (c.blocks_in-place-end.ensures.numbers place c.loop-place-test.true)
-            (omega (arith, c.blocks_in-place-end.ensures.within, c.loop-place-test.true, c.loop-place.invariant.len,
-                c.requires.row))
+            (omega (
+              arith,
+              c.blocks_in-place-end.ensures.within,
+              c.loop-place-test.true,
+              c.loop-place.invariant.len,
+              c.requires.row,
+            ))
             w.if-get.ensures
             (w.row-is ∙ w.set.ensures
             ∙ ap (λ (n : ℕ). set c.loop-place.row (piece.index * n + place) true) c.div_ceil.ensures);
@@ -38,7 +43,16 @@ returns-clause-exact c block =
       λ now. ⊎_elim (λ before. inl before) (λ of. inr of.0) ((c.loop-place.invariant.exact block).0 now),
       λ either. (c.loop-place.invariant.exact block).1 (⊎_elim
           (λ before. inl before)
-          (λ of. inr (of, omega (arith, slice_get_within c.args.piece.now.blocks (place_of plan.piece_len block) true
-              of.1, c.requires.blocks, c.blocks_in-place-end.ensures.value, c.loop-place-test.false)))
+          (λ of. inr (
+            of,
+            omega (
+              arith,
+              slice_get_within c.args.piece.now.blocks (place_of plan.piece_len block) true
+                  of.1,
+              c.requires.blocks,
+              c.blocks_in-place-end.ensures.value,
+              c.loop-place-test.false,
+            ),
+          ))
           either),
     )

@@ -12,7 +12,7 @@ loop-piece-preserved c =
       | then-branch w ↦
           let on = row_on c.loop-piece.row c.if-branch.row c.loop-piece.piece at c.loop-piece.invariant.exact
           (omega (arith, c.loop-piece-test.true, c.loop-piece.invariant.len))
-              (c.in_ok-is_standing.ensures.0 w.if-branch.true) (w.row-is ∙ w.set.ensures) in
+          (c.in_ok-is_standing.ensures.0 w.if-branch.true) (w.row-is ∙ w.set.ensures) in
           record { len = on.0 ∙ c.loop-piece.invariant.len; exact = on.1 }
       | else-branch w ↦
           let on = row_past c.loop-piece.row c.if-branch.row c.loop-piece.piece at c.loop-piece.invariant.exact

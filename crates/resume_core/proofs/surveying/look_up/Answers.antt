@@ -14,7 +14,7 @@ pub returns-in_err-lens-clause-looks : goal.returns-in_err-lens-clause-looks
 returns-in_err-lens-clause-looks g c told =
     let d = g.D.Disk in
     past_on (IsNoControl c.args.want.now) (d.state c.args.disk.now) (d.state c.read_control.new.disk)
-        (d.state c.file_lens.new.disk)
+    (d.state c.file_lens.new.disk)
     (c.read_control.ensures.looks told)
     (past_fewer AnyFile (IsNoControl c.args.want.now) (d.state c.read_control.new.disk) (d.state c.file_lens.new.disk)
     (λ name is. tt) (c.file_lens.ensures.looks told))
@@ -30,7 +30,7 @@ returns-clause-survey g c =
       control = c.in_ok-control.ensures.usable told;
       lens = rw c.as_str-2.ensures at c.in_ok-lens.ensures.lens told
           ∙ sym (lens_same want.dir want.layout seen (d.state c.read_control.new.disk).seen
-              (c.read_control.ensures.looks told).stays.seen);
+          (c.read_control.ensures.looks told).stays.seen);
     }))
     c.guarded.ensures.survey
 
@@ -38,7 +38,7 @@ pub returns-clause-looks : goal.returns-clause-looks
 returns-clause-looks g c told =
     let d = g.D.Disk in
     past_on (IsNoControl c.args.want.now) (d.state c.args.disk.now) (d.state c.read_control.new.disk)
-        (d.state c.file_lens.new.disk)
+    (d.state c.file_lens.new.disk)
     (c.read_control.ensures.looks told)
     (past_fewer AnyFile (IsNoControl c.args.want.now) (d.state c.read_control.new.disk) (d.state c.file_lens.new.disk)
     (λ name is. tt) (c.file_lens.ensures.looks told))
@@ -54,7 +54,7 @@ returns-clause-refuses g c told =
     let lens : c.in_ok-lens.lens.items ≡ lens_in want seen =
     rw c.as_str-2.ensures at c.in_ok-lens.ensures.lens told
     ∙ sym (lens_same want.dir want.layout seen (d.state c.read_control.new.disk).seen
-        (c.read_control.ensures.looks told).stays.seen) in
+    (c.read_control.ensures.looks told).stays.seen) in
     record {
       opened = on_ok_weaker c.guarded.result
           (λ free. refused_none want file standing c.in_ok-control.control usable
