@@ -1,3 +1,4 @@
+pub mod Behind
 pub mod Flights
 pub mod Found
 pub mod Numbers

@@ -2,3 +2,4 @@ pub mod Laws
 pub mod Reading
 pub mod Spelling
 pub mod Unread
+pub mod Wants

@@ -3,7 +3,8 @@ use Rattle.std.proofs.Common.{◌≡◌, ◌≢◌, ℕ, List, [], ◌∷◌, �
 use Rattle.std.proofs.lemmas.List.{length-append, drop_at}
 use Rattle.payload_files.specs.Names.{root_of, path_text, IsOther}
 use Rattle.control_file.specs.declared.want.Want.{Want}
-use Rattle.resume_core.specs.Wants.{IsWant, payload_name, control_name, temporary_name}
+use Rattle.control_file.specs.Wants.{IsWant}
+use Rattle.resume_core.specs.Wants.{payload_name, control_name, temporary_name}
 
 cut : (front a b : List ℕ) → front ++ a ≡ front ++ b → a ≡ b
 cut front a b same = sym (drop_at front a (length front) refl) ∙ ap (drop (length front)) same

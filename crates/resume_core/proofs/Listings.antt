@@ -14,7 +14,7 @@ use Rattle.control_file.specs.declared.want.Want.{Want}
 use Rattle.resume_core.specs.Found.{hash_bytes}
 use Rattle.resume_core.specs.Listing.{BlockListed}
 use Rattle.resume_core.specs.Tables.{IsPartial, ArePartial, ListsJust}
-use Rattle.resume_core.specs.Wants.{IsWant}
+use Rattle.control_file.specs.Wants.{IsWant}
 use Rattle.resume_core.proofs.Places.{part_bit}
 
 abbrev control_with : Want → List Bool → ℕ → List ℕ → List InFlight → Control

@@ -26,7 +26,8 @@ use Rattle.resume_core.specs.Refusals.{foreign}
 use Rattle.resume_core.specs.Resume.{ReachesPiece, ReachesBlock, HasDigest, PieceResumed, BlockResumed, ResumesPiece, ResumesBlock, IsHashed}
 use Rattle.resume_core.specs.Rows.{IsRowWhere, ListedStands, IsBlockIn, IsBlockOfOne, BlockGiven, IsOurControl, IsControlOf, IsListedPiece, IsFlyingBlock, hashes, ListsNothing, IsSurvey}
 use Rattle.resume_core.specs.Tables.{ListsJust}
-use Rattle.resume_core.specs.Wants.{IsWant, IsListedWant, control_name, files_in}
+use Rattle.control_file.specs.Wants.{IsWant, IsListedWant}
+use Rattle.resume_core.specs.Wants.{control_name, files_in}
 use Rattle.resume_core.specs.declared.refusing.OpenErr.{OpenErr}
 use Rattle.resume_core.specs.declared.refusing.OpenErr.TheVariants.{InfoHash, Length, PieceLength}
 use Rattle.resume_core.specs.declared.surveying.Survey.{Survey}

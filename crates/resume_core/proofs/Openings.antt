@@ -25,7 +25,8 @@ use Rattle.resume_core.specs.States.{SamePayload}
 use Rattle.resume_core.specs.Steps.{SameFor, SameBesides, PutsOrKeeps, Saves, IsSaved, AreSaved}
 use Rattle.resume_core.specs.StretchLaws.{StretchedUnder}
 use Rattle.resume_core.specs.Tables.{ListsJust}
-use Rattle.resume_core.specs.Wants.{IsWant, control_name, temporary_name, files_in}
+use Rattle.control_file.specs.Wants.{IsWant}
+use Rattle.resume_core.specs.Wants.{control_name, temporary_name, files_in}
 use Rattle.resume_core.proofs.Filed.{files_kept}
 use Rattle.resume_core.proofs.Fitted.{has_same}
 use Rattle.resume_core.proofs.Same.{give_same, sound_same, agrees_same, agrees_seen}

@@ -18,7 +18,8 @@ use Rattle.resume_core.specs.Openings.{KeepsBesides, KeepsSound, KeepsGiven, Kee
 use Rattle.resume_core.specs.Resume.{Sound, AreSound, ResumesPiece, ResumesBlock, PieceResumed, BlockResumed, GivesAtLeast}
 use Rattle.resume_core.specs.Rows.{IsSurvey, IsOurControl, StoodOrWhole, hashes}
 use Rattle.resume_core.specs.Steps.{SameFor, SameBesides}
-use Rattle.resume_core.specs.Wants.{IsWant, IsListedWant, control_name, files_in}
+use Rattle.control_file.specs.Wants.{IsWant, IsListedWant}
+use Rattle.resume_core.specs.Wants.{control_name, files_in}
 use Rattle.resume_core.specs.declared.surveying.Survey.{Survey}
 use Rattle.resume_core.proofs.Filed.{files_kept}
 use Rattle.resume_core.proofs.Fitted.{files_whole}

@@ -20,7 +20,8 @@ use Rattle.payload_files.specs.Payload.{contents_in}
 use Rattle.payload_files.specs.Reading.{HasPart, ReadsParts}
 use Rattle.control_file.specs.declared.want.Want.{Want}
 use Rattle.resume_core.specs.Resume.{byte_at, Reach, payload_bytes}
-use Rattle.resume_core.specs.Wants.{IsWant, files_in}
+use Rattle.control_file.specs.Wants.{IsWant}
+use Rattle.resume_core.specs.Wants.{files_in}
 
 module _ (contents : List (List ℕ)) (low high : ℕ) where
   -- what stands of the files from one on

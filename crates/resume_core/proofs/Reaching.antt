@@ -14,7 +14,8 @@ use Rattle.payload_files.specs.Names.{name_of}
 use Rattle.payload_files.specs.Payload.{HasFiles}
 use Rattle.control_file.specs.declared.want.Want.{Want}
 use Rattle.resume_core.specs.Resume.{byte_at, Reach, ReachesPiece, ReachesBlock}
-use Rattle.resume_core.specs.Wants.{IsWant, files_in}
+use Rattle.control_file.specs.Wants.{IsWant}
+use Rattle.resume_core.specs.Wants.{files_in}
 
 byte_within : (file : Option (List ℕ)) (len i : ℕ) → IsSomeAnd file (λ bytes. length bytes ≡ len) → i < len
     → IsSome (slice_get (file_bytes file) i)

@@ -14,7 +14,7 @@ use Rattle.resume_core.specs.Found.{Used, is_control_of, judged, found, found_in
 use Rattle.resume_core.specs.Listing.{IsListingOf, GivesJust, MatchesListed}
 use Rattle.resume_core.specs.Resume.{Sound, Agrees}
 use Rattle.resume_core.specs.Steps.{IsSaved}
-use Rattle.resume_core.specs.Wants.{IsWant}
+use Rattle.control_file.specs.Wants.{IsWant}
 use Rattle.resume_core.proofs.Reaching.{reach_piece, reach_block}
 
 all_three : (a b c : Bool) → a ≡ true → b ≡ true → c ≡ true → (a && b && c) ≡ true

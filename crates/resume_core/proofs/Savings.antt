@@ -9,7 +9,8 @@ use Rattle.payload_files.specs.Names.{name_of}
 use Rattle.payload_files.specs.Payload.{AreDurable}
 use Rattle.control_file.specs.declared.want.Want.{Want}
 use Rattle.resume_core.specs.Steps.{SameBut, PutsOrKeeps, AreSaved, Saves}
-use Rattle.resume_core.specs.Wants.{IsWant, control_name, temporary_name, files_in}
+use Rattle.control_file.specs.Wants.{IsWant}
+use Rattle.resume_core.specs.Wants.{control_name, temporary_name, files_in}
 use Rattle.resume_core.proofs.Apart.{control_other, temporary_other}
 use Rattle.resume_core.proofs.Filed.{files_same, files_kept}
 

@@ -8,7 +8,7 @@ use Rattle.piece_table.proofs.Parts.{get_or-part}
 use Rattle.control_file.specs.declared.control.Control.{Control}
 use Rattle.control_file.specs.declared.want.Want.{Want}
 use Rattle.resume_core.specs.Tables.{IsTableOf, IsListedRow, ListsJust, ListsTable}
-use Rattle.resume_core.specs.Wants.{IsWant}
+use Rattle.control_file.specs.Wants.{IsWant}
 use Rattle.resume_core.proofs.Places.{part_bit}
 use Rattle.resume_core.proofs.Listings.{fits, part_long}
 

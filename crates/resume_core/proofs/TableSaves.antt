@@ -14,7 +14,8 @@ use Rattle.resume_core.specs.Listing.{GivesJust, MatchesListed}
 use Rattle.resume_core.specs.Resume.{AreSound}
 use Rattle.resume_core.specs.Steps.{AreSaved, Saves}
 use Rattle.resume_core.specs.Tables.{ListsTable, GivesTable, MatchesTable, IsTableSaved, SavesTable, AreTableSaved, GiveTable, GiveOldOrTable}
-use Rattle.resume_core.specs.Wants.{IsWant, files_in}
+use Rattle.control_file.specs.Wants.{IsWant}
+use Rattle.resume_core.specs.Wants.{files_in}
 use Rattle.resume_core.proofs.Same.{give_same, sound_same, agrees_same, agrees_seen}
 use Rattle.resume_core.proofs.Saved.{gives_just, sound_saved, agrees_saved}
 

@@ -18,7 +18,8 @@ use Rattle.resume_core.specs.Found.{Found, Absent, Refused, Used, found, found_i
 use Rattle.resume_core.specs.Resume.{PieceResumed, BlockResumed, ResumesPiece, ResumesBlock, IsHashed, Reach, piece_payload, ReachesPiece, ReachesBlock, Sound, GiveSame, Agrees, byte_at}
 use Rattle.resume_core.specs.RunLaws.{TornUnder}
 use Rattle.resume_core.specs.Runs.{IsBlockOf, IsControlUsed, TornRun, ListsWithin, run_len}
-use Rattle.resume_core.specs.Wants.{IsWant, control_name, files_in}
+use Rattle.control_file.specs.Wants.{IsWant}
+use Rattle.resume_core.specs.Wants.{control_name, files_in}
 use Rattle.resume_core.proofs.Apart.{control_other}
 use Rattle.resume_core.proofs.Reaching.{reach_piece, reach_block}
 use Rattle.resume_core.proofs.RunBytes.{IsInBlock, IsInPiece, one_piece, one_block, piece_of_block, run_has_bytes, block_in_run}

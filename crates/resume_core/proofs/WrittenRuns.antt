@@ -8,7 +8,7 @@ use Rattle.control_file.specs.declared.want.Want.{Want}
 use Rattle.resume_core.specs.Resume.{AreSound}
 use Rattle.resume_core.specs.RunLaws.{TornUnder, TornKeepPieces, TornKeepBlocks, TornGiveTheSame, TornAreSound, TornAgree}
 use Rattle.resume_core.specs.Runs.{LackRun, TornRun, ListWithin, AllAgree, GiveAsBefore, GiveAtLeast}
-use Rattle.resume_core.specs.Wants.{IsWant}
+use Rattle.control_file.specs.Wants.{IsWant}
 use Rattle.resume_core.proofs.Torn.{sound_within}
 
 module _ (want : Want) (run : Run) (a b : DiskState) (want_is : IsWant want) (run_is : IsRun want.plan run)

@@ -10,7 +10,8 @@ use Rattle.resume_core.specs.Found.{found, Used}
 use Rattle.resume_core.specs.Listing.{IsListingOf, GivesJust, MatchesListed}
 use Rattle.resume_core.specs.Resume.{Sound, Agrees, GiveSame}
 use Rattle.resume_core.specs.Steps.{SameFor, IsSaved}
-use Rattle.resume_core.specs.Wants.{IsWant, files_in}
+use Rattle.control_file.specs.Wants.{IsWant}
+use Rattle.resume_core.specs.Wants.{files_in}
 
 -- the same files of a want give the same, as soundly
 abbrev pub SameGiveTheSame : Type 0

@@ -7,7 +7,8 @@ use Rattle.control_file.specs.declared.control.Control.{Control}
 use Rattle.control_file.specs.declared.want.Want.{Want}
 use Rattle.resume_core.specs.Found.{IsBlockInFlight, hash_bytes}
 use Rattle.resume_core.specs.Resume.{ResumesPiece, ResumesBlock, HasDigest}
-use Rattle.resume_core.specs.Wants.{IsListedWant, files_in}
+use Rattle.control_file.specs.Wants.{IsListedWant}
+use Rattle.resume_core.specs.Wants.{files_in}
 
 -- a control file of the want, as a writer has it
 pub record IsListingOf (want : Want) (control : Control) : Type 0 where

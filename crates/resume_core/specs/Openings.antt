@@ -19,7 +19,8 @@ use Rattle.resume_core.specs.Runs.{GiveAtLeast}
 use Rattle.resume_core.specs.States.{StaysSound}
 use Rattle.resume_core.specs.Steps.{SameBesides, IsSaved}
 use Rattle.resume_core.specs.Tables.{ListsJust}
-use Rattle.resume_core.specs.Wants.{IsListedWant, control_name, files_in}
+use Rattle.control_file.specs.Wants.{IsListedWant}
+use Rattle.resume_core.specs.Wants.{control_name, files_in}
 use Rattle.resume_core.specs.declared.refusing.OpenErr.{OpenErr}
 use Rattle.resume_core.specs.declared.refusing.OpenErr.TheVariants.{Disk}
 

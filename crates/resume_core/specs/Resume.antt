@@ -7,7 +7,8 @@ use Rattle.dl_kinds.specs.Plan.{blocks_of, block_start, block_end, piece_start, 
 use Rattle.span_map.specs.declared.files.FileLen.{FileLen}
 use Rattle.control_file.specs.declared.want.Want.{Want}
 use Rattle.resume_core.specs.Found.{Found, Absent, Refused, Used, found_in, ListsPiece, ListsInFlight}
-use Rattle.resume_core.specs.Wants.{IsListedWant, files_in}
+use Rattle.control_file.specs.Wants.{IsListedWant}
+use Rattle.resume_core.specs.Wants.{files_in}
 
 -- the byte at a place of the payload, where the files have one there
 abbrev pub byte_at : List FileLen → List (Option (List ℕ)) → ℕ → Option ℕ

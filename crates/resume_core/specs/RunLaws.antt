@@ -7,7 +7,7 @@ use Rattle.payload_files.specs.Payload.{HasFiles}
 use Rattle.control_file.specs.declared.want.Want.{Want}
 use Rattle.resume_core.specs.Resume.{Sound, Agrees, GiveSame, ResumesPiece, ResumesBlock}
 use Rattle.resume_core.specs.Runs.{LacksRun, TornRun, ListsWithin}
-use Rattle.resume_core.specs.Wants.{IsWant}
+use Rattle.control_file.specs.Wants.{IsWant}
 
 -- a run that an image lacks is written to its files, whole or cut short
 pub record TornUnder (want : Want) (run : Run) (old new : Files) : Type 0 where

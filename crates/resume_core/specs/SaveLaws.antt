@@ -9,7 +9,7 @@ use Rattle.control_file.specs.declared.want.Want.{Want}
 use Rattle.resume_core.specs.Listing.{IsListingOf, GivesJust, MatchesListed}
 use Rattle.resume_core.specs.Resume.{Sound, Agrees, GiveSame}
 use Rattle.resume_core.specs.Steps.{Saves, IsFinished}
-use Rattle.resume_core.specs.Wants.{IsWant}
+use Rattle.control_file.specs.Wants.{IsWant}
 
 -- a save of this control file, while each payload file has its length as the disk reads it
 pub record SavesListing (want : Want) (control : Control) (seen before image : Files) : Type 0 where

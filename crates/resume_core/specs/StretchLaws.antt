@@ -5,7 +5,7 @@ use Rattle.payload_files.specs.Changes.{Stretches}
 use Rattle.control_file.specs.declared.want.Want.{Want}
 use Rattle.resume_core.specs.Found.{ControlStands, found_in}
 use Rattle.resume_core.specs.Resume.{Sound, Agrees, GiveSame, ResumesPiece, ResumesBlock}
-use Rattle.resume_core.specs.Wants.{IsWant}
+use Rattle.control_file.specs.Wants.{IsWant}
 
 -- the files change so, where a control file stands, which is the same after it
 pub record StretchedUnder (want : Want) (old new : Files) : Type 0 where

@@ -12,7 +12,8 @@ use Rattle.control_file.specs.declared.want.Want.{Want}
 use Rattle.resume_core.specs.Listing.{IsListingOf, BlockListed}
 use Rattle.resume_core.specs.Resume.{ResumesPiece, ResumesBlock, HasDigest, GiveSame}
 use Rattle.resume_core.specs.Steps.{SameBesides, SameFor, IsSaved}
-use Rattle.resume_core.specs.Wants.{IsListedWant, files_in}
+use Rattle.control_file.specs.Wants.{IsListedWant}
+use Rattle.resume_core.specs.Wants.{files_in}
 
 -- the table is one of the want's plan
 pub record IsTableOf (want : Want) (table : Progress) : Type 0 where

@@ -1,4 +1,4 @@
--- What a store is to keep of a download, and where.
+-- Where a store keeps a download.
 use Rattle.std.specs.Prelude.{◌≡◌, ℕ, List, [], ◌∷◌, ◌++◌, length, map, codes, Option, None, IfSome, All, IsSome}
 use Rattle.dl_disk.specs.Files.{Files}
 use Rattle.dl_kinds.specs.Plan.{IsPlan, pieces_of}
@@ -17,22 +17,6 @@ control_name want = payload_name want ++ codes ".aria2"
 -- where a control file is written before it takes the place of the other
 abbrev pub temporary_name : Want → List ℕ
 temporary_name want = payload_name want ++ codes ".aria2__temp"
-
--- a listed want has digests
-abbrev pub IsListedWant : Want → Type 0
-IsListedWant want = IsSome want.info_hash
-
--- The plan is that of the files, each listed piece has a digest, and each path begins with `base`, so that the control
--- file and the temporary one are no files of the payload.
-pub record IsWant (want : Want) : Type 0 where
-  pub layout : IsLayout want.layout
-  pub total : total_of want.layout ≡ want.plan.total
-  pub plan : IsPlan want.plan.total want.plan.piece_len
-  pub pieces : want.plan.pieces ≡ pieces_of want.plan.total want.plan.piece_len
-  pub hash : IfSome want.info_hash (λ hash. length hash ≡ 20)
-  pub digests : IsListedWant want → length want.digests ≡ want.plan.pieces
-  pub unlisted : want.info_hash ≡ None → want.digests ≡ []
-  pub behind : All (λ file. (rest : List (List ℕ)) × (file.path ≡ want.base ∷ rest)) want.layout
 
 -- what stands of each file
 abbrev pub files_in : Want → Files → List (Option (List ℕ))

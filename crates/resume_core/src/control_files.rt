@@ -7,7 +7,8 @@ ghost use Rattle.dl_disk.specs.Passes.{Performs};
 ghost use Rattle.control_file.specs.Spelling.{IsWritableControl, control_bytes};
 ghost use Rattle.control_file.specs.declared.fields.ByteOrder.TheVariants.{Big};
 ghost use Rattle.resume_core.specs.Steps.{SameBut, Saves, AreSaved};
-ghost use Rattle.resume_core.specs.Wants.{IsWant, control_name, temporary_name};
+ghost use Rattle.control_file.specs.Wants.{IsWant};
+ghost use Rattle.resume_core.specs.Wants.{control_name, temporary_name};
 
 use crate::names::{control_text, temporary_text};
 use crate::whole_files::put_file;

@@ -6,7 +6,8 @@ ghost use Rattle.dl_disk.specs.Calls.{Stays};
 ghost use Rattle.resume_core.specs.Causes.{HasStoreCause};
 ghost use Rattle.resume_core.specs.States.{PerformsFinish, SamePayload, StaysSound};
 ghost use Rattle.resume_core.specs.Steps.{AreFinished};
-ghost use Rattle.resume_core.specs.Wants.{IsWant, control_name};
+ghost use Rattle.control_file.specs.Wants.{IsWant};
+ghost use Rattle.resume_core.specs.Wants.{control_name};
 ghost use Rattle.resume_core.specs.declared.fault.StoreErr.TheVariants.{NoMemory};
 
 use crate::fault::StoreErr;

@@ -9,7 +9,8 @@ ghost use Rattle.resume_core.specs.Openings.{HasControl, HaveControl, KeepsBesid
 ghost use Rattle.resume_core.specs.Rows.{ListsNothing};
 ghost use Rattle.resume_core.specs.States.{SamePayload};
 ghost use Rattle.resume_core.specs.Steps.{PutsOrKeeps};
-ghost use Rattle.resume_core.specs.Wants.{IsWant, control_name, temporary_name};
+ghost use Rattle.control_file.specs.Wants.{IsWant};
+ghost use Rattle.resume_core.specs.Wants.{control_name, temporary_name};
 
 use crate::listing::control_of;
 use crate::names::{control_text, temporary_text};

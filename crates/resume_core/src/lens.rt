@@ -6,7 +6,7 @@ ghost use Rattle.span_map.specs.Layout.{total_of};
 ghost use Rattle.payload_files.specs.Names.{name_of};
 ghost use Rattle.resume_core.specs.Lens.{lens_of_files, first_len, AreWhole, PartStands, SpanStands, PieceStands, BlockStands};
 ghost use Rattle.resume_core.specs.Openings.{LooksPast, AnyFile};
-ghost use Rattle.resume_core.specs.Wants.{IsWant};
+ghost use Rattle.control_file.specs.Wants.{IsWant};
 
 use control_file::Want;
 use dl_disk::Disk;

@@ -4,7 +4,7 @@ ghost use Rattle.dl_kinds.specs.Plan.{blocks_of};
 ghost use Rattle.piece_table.specs.Progress.{IsStart, piece_part};
 ghost use Rattle.resume_core.specs.Found.{hash_bytes};
 ghost use Rattle.resume_core.specs.Tables.{ArePartial, IsListedRow, IsTableOf, ListsJust, ListsTable};
-ghost use Rattle.resume_core.specs.Wants.{IsWant};
+ghost use Rattle.control_file.specs.Wants.{IsWant};
 
 use bit_rows::BitRow;
 use control_file::{Control, InFlight, InFlights, Want};

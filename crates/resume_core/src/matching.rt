@@ -6,7 +6,8 @@ ghost use Rattle.resume_core.specs.Causes.{HasStoreCause};
 ghost use Rattle.resume_core.specs.Lens.{lens_in};
 ghost use Rattle.resume_core.specs.Openings.{LooksPast, MatchesPiece};
 ghost use Rattle.resume_core.specs.Resume.{HasDigest};
-ghost use Rattle.resume_core.specs.Wants.{IsWant, files_in};
+ghost use Rattle.control_file.specs.Wants.{IsWant};
+ghost use Rattle.resume_core.specs.Wants.{files_in};
 
 use crate::fault::StoreErr;
 use crate::lens::piece_stands;

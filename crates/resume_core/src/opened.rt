@@ -5,7 +5,7 @@ ghost use Rattle.payload_files.specs.Names.{IsOther};
 ghost use Rattle.resume_core.specs.Causes.{HasStoreCause};
 ghost use Rattle.resume_core.specs.Openings.{AnyFile, AreOpenedRows, LooksPast, OpensJust, OpensPiece, is_compared};
 ghost use Rattle.resume_core.specs.Rows.{IsControlOf, IsFlyingBlock, IsListedPiece, IsRowWhere, IsSurvey, hashes};
-ghost use Rattle.resume_core.specs.Wants.{IsListedWant, IsWant};
+ghost use Rattle.control_file.specs.Wants.{IsListedWant, IsWant};
 
 use crate::fault::StoreErr;
 use crate::matching::matching_pieces;

@@ -9,7 +9,7 @@ ghost use Rattle.resume_core.specs.Openings.{AreOpenedIn, AreOpenedRows, FitsPay
 ghost use Rattle.resume_core.specs.Resume.{AreSound};
 ghost use Rattle.resume_core.specs.States.{SamePayload};
 ghost use Rattle.resume_core.specs.Rows.{IsSurvey, StoodOrWhole};
-ghost use Rattle.resume_core.specs.Wants.{IsWant};
+ghost use Rattle.control_file.specs.Wants.{IsWant};
 
 use crate::control_files::put_listing;
 use crate::holding::hold_control;

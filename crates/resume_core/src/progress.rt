@@ -6,7 +6,7 @@ ghost use Rattle.payload_files.specs.Payload.{HasFiles};
 ghost use Rattle.resume_core.specs.Causes.{HasStoreCause};
 ghost use Rattle.resume_core.specs.States.{PerformsSave, SamePayload, GivesOldOrTable, StaysSound, LeavesTemporary};
 ghost use Rattle.resume_core.specs.Tables.{IsTableOf, AreTableSaved, GiveTable, MatchesTable};
-ghost use Rattle.resume_core.specs.Wants.{IsWant};
+ghost use Rattle.control_file.specs.Wants.{IsWant};
 ghost use Rattle.resume_core.specs.declared.fault.StoreErr.TheVariants.{NoMemory};
 
 use crate::control_files::put_listing;

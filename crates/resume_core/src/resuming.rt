@@ -7,7 +7,7 @@ ghost use Rattle.resume_core.specs.Openings.{AreOpenedIn, AreOpenedRows, FitsPay
 ghost use Rattle.resume_core.specs.Refusals.{IsRefusal, RefusesJust};
 ghost use Rattle.resume_core.specs.Resume.{AreSound};
 ghost use Rattle.resume_core.specs.States.{StaysSound};
-ghost use Rattle.resume_core.specs.Wants.{IsWant};
+ghost use Rattle.control_file.specs.Wants.{IsWant};
 
 use crate::opened::opened_of;
 use crate::opening::write_opened;

@@ -4,7 +4,7 @@ ghost use Rattle.dl_kinds.specs.Plan.{blocks_of, blocks_of_piece};
 ghost use Rattle.control_file.specs.Spelling.{IsReadableControl};
 ghost use Rattle.resume_core.specs.Found.{IsBlockInFlight};
 ghost use Rattle.resume_core.specs.Rows.{BlockGiven, IsBlockIn, IsRowWhere, ListedStands};
-ghost use Rattle.resume_core.specs.Wants.{IsWant};
+ghost use Rattle.control_file.specs.Wants.{IsWant};
 
 use crate::lens::{block_stands, piece_stands};
 use bit_rows::BitRow;

@@ -9,7 +9,7 @@ ghost use Rattle.payload_files.specs.Reading.{ReadsOnly, ReadsSlice};
 ghost use Rattle.resume_core.specs.Causes.{HasStoreCause};
 ghost use Rattle.resume_core.specs.Resume.{AreSound};
 ghost use Rattle.resume_core.specs.Runs.{run_len, LackRun, TornRun, WritesRun, HoldsRun, ListWithin, AllAgree, GiveAsBefore, GiveAtLeast, ReadsPiece, len_of_piece};
-ghost use Rattle.resume_core.specs.Wants.{IsWant};
+ghost use Rattle.control_file.specs.Wants.{IsWant};
 
 use crate::fault::StoreErr;
 use crate::laws::torn_files_keep_what_is_given;

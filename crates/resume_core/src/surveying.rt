@@ -8,7 +8,8 @@ ghost use Rattle.resume_core.specs.Lens.{first_len};
 ghost use Rattle.resume_core.specs.Openings.{HasOpenCause, IsNoControl, LooksPast};
 ghost use Rattle.resume_core.specs.Refusals.{IsRefusal, RefusesJust, foreign, in_the_way, refused_over, control_refusal};
 ghost use Rattle.resume_core.specs.Rows.{IsControlOf, IsSurvey, IsOurControl};
-ghost use Rattle.resume_core.specs.Wants.{IsWant, control_name};
+ghost use Rattle.control_file.specs.Wants.{IsWant};
+ghost use Rattle.resume_core.specs.Wants.{control_name};
 ghost use Rattle.resume_core.specs.declared.refusing.OpenErr.TheVariants.{Disk as Unopened, NoMemory as NoRoom};
 
 use crate::lens::{file_lens, first_len};
