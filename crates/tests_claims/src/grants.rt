@@ -43,6 +43,10 @@ fn the_later_half_of_what_is_left(rt: HostRuntime) -> Result<(), Fail> {
     rig.land(0, 10, 0);
     assert_eq!(rt; shown(rig.free(5)?), None);
     assert_eq!(rt; shown(rig.steal(5)?), Some((37, 27, 1)));
+    assert_eq!(rt; shown(rig.claims.get(2)), Some((37, 27, 1)));
+    rig.give_up(2);
+    assert_eq!(rt; shown(rig.claims.get(2)), None);
+    assert_eq!(rt; rig.claims.standing(), 1);
     Ok(())
 }
 

@@ -144,6 +144,11 @@ impl Rig {
         }
     }
 
+    /// The claim under a number is given up.
+    pub fn give_up(&mut self, id: u64) {
+        self.claims.void(id);
+    }
+
     /// A piece is cleared.
     pub fn clear(&mut self, piece: u32) {
         if piece < self.plan.pieces && !self.table.is_verified(piece) {
