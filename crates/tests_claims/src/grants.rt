@@ -1,7 +1,9 @@
 // Grants of claims, in worked cases.
 use crate::rig::Rig;
+use crate::slow::{Payload, payload_of};
 use dl_kinds::Plan;
 use segment_claim::Claim;
+use std::alloc::Global;
 use std::test::Fail;
 
 // The first block, how many blocks and the mirror of a claim.
@@ -84,12 +86,30 @@ fn three_hosts_with_one_claim_each(rt: HostRuntime) -> Result<(), Fail> {
     Ok(())
 }
 
+// The free claim of a payload that no worker has claimed of yet.
+fn granted(alloc: Global, payload: &Payload) -> Result<Option<(u32, u32, u16)>, Fail> {
+    let plan = Plan::new(262_144, 32_768).ok_or("plan")?;
+    let mut rig = Rig::new(alloc, plan, &[0, 1], 1, 1, 1)?;
+    for block in 0..16u32 {
+        if payload.blocks[block as usize] == b'x' {
+            rig.land(block, 1, 0);
+        }
+    }
+    for piece in 0..8u32 {
+        match payload.pieces[piece as usize] {
+            b's' => rig.make_sole(piece),
+            b'u' => rig.leave_out(piece),
+            b'm' => rig.mark(0, piece)?,
+            _ => {}
+        }
+    }
+    Ok(shown(rig.free(0)?))
+}
+
 #[test]
 fn stretches(rt: HostRuntime) -> Result<(), Fail> {
     let alloc = rt.alloc();
-    // Eight pieces of two blocks. Of the blocks an x is landed; of the pieces an s is sole, a u isn't wanted, and an m
-    // has a mark of mirror 0, which has one try.
-    let table: [(&[u8], &[u8], (u32, u32, u16)); 9] = [
+    let table: [(&[u8; 16], &[u8; 8], (u32, u32, u16)); 9] = [
         (b"................", b"--------", (0, 16, 0)),
         (b"......x.........", b"--------", (7, 9, 0)),
         (b"........x.......", b"--------", (0, 8, 0)),
@@ -101,24 +121,21 @@ fn stretches(rt: HostRuntime) -> Result<(), Fail> {
         (b"xxxxxxxx......xx", b"----mm--", (8, 4, 1)),
     ];
     for (blocks, pieces, want) in table {
-        let plan = Plan::new(262_144, 32_768).ok_or("plan")?;
-        let mut rig = Rig::new(alloc, plan, &[0, 1], 1, 1, 1)?;
-        for (block, state) in blocks.iter().enumerate() {
-            if *state == b'x' && block < 16 {
-                rig.land(block as u32, 1, 0);
-            }
-        }
-        for (piece, state) in pieces.iter().enumerate() {
-            if piece < 8 {
-                match *state {
-                    b's' => rig.make_sole(piece as u32),
-                    b'u' => rig.leave_out(piece as u32),
-                    b'm' => rig.mark(0, piece as u32)?,
-                    _ => {}
-                }
-            }
-        }
-        assert_eq!(rt; shown(rig.free(0)?), Some(want));
+        let payload = Payload {
+            blocks: *blocks,
+            pieces: *pieces,
+        };
+        assert_eq!(rt; granted(alloc, &payload)?, Some(want));
+        assert_eq!(rt; payload.free_claim(), Some(want));
+    }
+    Ok(())
+}
+
+#[test]
+fn stretches_beside_a_slow_program(rt: HostRuntime) -> Result<(), Fail> {
+    for seed in 0..300 {
+        let payload = payload_of(seed);
+        assert_eq!(rt; granted(rt.alloc(), &payload)?, payload.free_claim());
     }
     Ok(())
 }

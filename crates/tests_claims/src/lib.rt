@@ -6,4 +6,6 @@ mod grants;
 #[cfg(test)]
 mod rig;
 #[cfg(test)]
+mod slow;
+#[cfg(test)]
 mod tables;
