@@ -3,7 +3,8 @@ use Rattle.std.proofs.Common.{zero, suc, ◌≡◌, ℕ, ◌+◌, ◌-◌, ◌*�
 use Rattle.std.specs.Prelude.{◌&&◌, not, nat_le, All, Contains}
 use Rattle.std.specs.Int.{div_ceil}
 use Rattle.std.specs.List.{AllZip}
-use Rattle.std.proofs.Math.Nat.{mul-le-mul_right}
+use Rattle.std.proofs.Math.Nat.{div-mul-le_self, mul-le-mul_right}
+use Rattle.std.proofs.lemmas.Nat.{le-div}
 use Rattle.std.proofs.lemmas.List.FromFn.{length-range_with_len, get_or-range_with_len}
 use Rattle.std.proofs.lemmas.Bool.{cases_lt}
 use Rattle.std.proofs.lemmas.Grind.{div_ceil_times}
@@ -45,6 +46,10 @@ some_parts n split some one =
     absurd (omega (arith, c, e)))
     (λ (more : 1 ≤ div_ceil n split). more)
     (cases_lt (div_ceil n split) 1)
+
+div-mono : (a b k : ℕ) → 1 ≤ k → a ≤ b → a / k ≤ b / k
+div-mono a b k some below =
+    le-div (a / k) b k (omega arith) (let m : a / k * k ≤ a = div-mul-le_self a k in omega (arith, m, below))
 
 -- an opened download, and what is kept of it
 pub record Scene : Type 0 where
@@ -289,15 +294,11 @@ of_theft x claim fresh g =
           let inside = in_victim b h in
           let low = from_first b victim.run inside in
           let high = before_end b victim.run inside in
-          let place = b - victim.run.first in
-          let number : get_or (claimed_blocks victim) place b ≡ b =
-          get_or-range_with_len victim.run.first victim.run.count place b (omega arith) ∙ omega arith in
-          let long : place < length (claimed_blocks victim) =
-          let l = length-range_with_len victim.run.first victim.run.count in omega arith in
-          let no = none_passes (λ block. get_or x.kept.progress.sole (piece_of len block) false)
-          (claimed_blocks victim) able.whole place b long in
-          sym (sole_same x b (below b h))
-          ∙ subst (λ (n : ℕ). get_or x.kept.progress.sole (piece_of len n) false ≡ false) number no);
+          let full : 1 ≤ full_blocks len = some_parts len BLOCK_LEN x.plan.some (omega arith) in
+          let from : piece_of len victim.run.first ≤ piece_of len b = div-mono victim.run.first b (full_blocks len) full low in
+          let to : piece_of len b ≤ piece_of len (victim.run.first + victim.run.count - 1) =
+          div-mono b (victim.run.first + victim.run.count - 1) (full_blocks len) full (omega arith) in
+          sym (sole_same x b (below b h)) ∙ able.whole (piece_of len b) from to);
     }
 
 -- ---- the choice
