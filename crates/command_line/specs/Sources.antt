@@ -4,8 +4,8 @@ use Rattle.std.specs.Borrow.{Bor}
 use Rattle.std.specs.List.{ends_with}
 use Rattle.url.specs.Parser.{parse_url}
 use Rattle.url.specs.declared.error.ParseError.{ParseError}
+use Rattle.dl_kinds.specs.declared.claims.TheConstants.{MAX_MIRRORS}
 use Rattle.link_source.specs.Endpoint.{IsUsable}
-use Rattle.command_line.specs.declared.source.TheConstants.{MAX_URIS}
 use Rattle.command_line.specs.declared.source.Source.{Source}
 use Rattle.command_line.specs.declared.source.Source.TheVariants.{Console, Metainfo, Mirrors}
 
@@ -20,7 +20,7 @@ pub record IsMetainfoName (word : List ℕ) : Type 0 where
 
 pub record AreUris (words : List (List ℕ)) : Type 0 where
   pub usable : All IsUsable words
-  pub few : length words ≤ MAX_URIS
+  pub few : length words ≤ MAX_MIRRORS
 
 -- The words name a metainfo file and further mirrors, or the mirrors of one file, or nothing where the console is to add
 -- downloads.

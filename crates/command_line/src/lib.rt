@@ -7,5 +7,5 @@ mod options;
 mod source;
 
 pub use line::{CommandLine, read};
-pub use source::{MAX_URIS, Source};
+pub use source::Source;
 pub use std::alloc::AllocError as NoMemory;

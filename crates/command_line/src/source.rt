@@ -4,12 +4,9 @@ ghost use Rattle.link_source.specs.Endpoint.{IsUsable};
 ghost use Rattle.command_line.specs.Sources.{AreUris, IsFirst, IsMetainfoName, IsNoUrl, IsSource, words_of};
 
 use crate::NoMemory;
-use dl_kinds::{Text, Texts};
+use dl_kinds::{MAX_MIRRORS, Text, Texts};
 use link_source::{EndErr, Endpoint};
 use std::alloc::Global;
-
-/// The most URIs of a command line.
-pub const MAX_URIS: usize = 256;
 
 /// What is to be downloaded.
 #[derive(Debug, Drop)]
@@ -48,7 +45,7 @@ fn uris_of(alloc: Global, words: &[&str]) -> Result<Option<Texts>, NoMemory>
         (AreUris (map (λ word. word.now) words.now) → ⊥)
         (λ uris. (uris ≡ map (λ word. word.now) words.now) × AreUris uris)) }
 {
-    if words.len() > MAX_URIS {
+    if words.len() > MAX_MIRRORS as usize {
         return Ok(None);
     }
     let mut uris = Texts::new(alloc);

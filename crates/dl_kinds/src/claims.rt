@@ -1,6 +1,9 @@
 // Claims of blocks, and what a choice among them looks at.
 use crate::{Moment, Run};
 
+/// The most mirrors of a download. They are numbered from 0.
+pub const MAX_MIRRORS: u16 = 256;
+
 /// Blocks that a worker has claimed of a mirror. `victim` is the claim that they were stolen of, where they were.
 #[derive(Clone, Copy, Debug, PartialEq, Eq)]
 pub struct Claim {

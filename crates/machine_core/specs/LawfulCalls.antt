@@ -1,5 +1,6 @@
 -- Which calls are lawful.
 use Rattle.std.specs.Prelude.{◌≡◌, ◌+◌, ◌≤◌, ℕ, true, List, All, length, box_value}
+use Rattle.dl_kinds.specs.declared.claims.TheConstants.{MAX_MIRRORS}
 use Rattle.link_source.specs.Endpoint.{IsUsable}
 use Rattle.metainfo.specs.Info.{info_of}
 use Rattle.metainfo.specs.Rules.{IsMetaOfSome}
@@ -10,12 +11,11 @@ use Rattle.option_set.specs.Values.{is_of_downloads}
 use Rattle.option_set.specs.declared.setting.Assigned.{Assigned}
 use Rattle.machine_core.specs.declared.calls.Call.{Call}
 use Rattle.machine_core.specs.declared.calls.Call.TheVariants.{AddUri, AddTorrent, ChangeOption, ChangeGlobalOption}
-use Rattle.machine_core.specs.declared.calls.TheConstants.{MAX_URIS}
 
 -- 1 to 256 mirrors, each an `http` URL
 pub record AreMirrors (count : ℕ) (uris : List (List ℕ)) : Type 0 where
   pub some : 1 ≤ count
-  pub few : count ≤ MAX_URIS
+  pub few : count ≤ MAX_MIRRORS
   pub usable : All IsUsable uris
 
 -- options of downloads

@@ -4,9 +4,6 @@ use dl_queue::How;
 use metainfo::Meta;
 use option_set::Settings;
 
-/// The most mirrors of a download.
-pub const MAX_URIS: u16 = 256;
-
 /// What a console session or the command line asks of the run (aria2 manual, "RPC interface").
 #[derive(Debug, Drop)]
 pub enum Call {

@@ -6,7 +6,7 @@ mod ends;
 mod events;
 mod laws;
 
-pub use calls::{Call, MAX_URIS};
+pub use calls::Call;
 pub use ends::End;
 pub use events::Event;
 pub use laws::{

@@ -4,6 +4,7 @@ use Rattle.std.specs.Prelude.{◌≡◌, ℕ, ◌/◌, ◌%◌, ◌==◌, zero, 
 use Rattle.std.specs.List.{list_all}
 use Rattle.dl_words.specs.Lists.{part_at}
 use Rattle.dl_kinds.specs.Plan.{pieces_of}
+use Rattle.dl_kinds.specs.declared.claims.TheConstants.{MAX_MIRRORS}
 use Rattle.dl_kinds.specs.declared.plan.TheConstants.{MAX_PAYLOAD_LEN, MAX_PIECE_LEN}
 use Rattle.sha1.specs.Sha1.{sha1}
 use Rattle.bencode_core.specs.Value as values
@@ -16,7 +17,6 @@ use Rattle.metainfo.specs.declared.refusals.Key.TheVariants.{Info, Name, PieceLe
 use Rattle.metainfo.specs.declared.refusals.MetaErr.{MetaErr}
 use Rattle.metainfo.specs.declared.refusals.MetaErr.TheVariants.{Bencode, Lacks, BadKind, BadPath, DigestCount, TooLarge, BadSeed}
 use Rattle.metainfo.specs.declared.rules.TheConstants.{DIGEST_LEN}
-use Rattle.metainfo.specs.declared.seeds.TheConstants.{MAX_SEEDS}
 use Rattle.metainfo.specs.Info as info
 use Rattle.metainfo.specs.Refusals.{◌>>=◌, or_refusal, sought, value_in, string_in, integer_in}
 use Rattle.metainfo.specs.Tests.{is_part, bad_file, is_plan, is_seed, is_dict, is_list, is_string}
@@ -181,7 +181,7 @@ urls_by found None =
     else Err (BadKind UrlList)
 
 abbrev pub seeds_among : List (List ℕ) → List (List ℕ)
-seeds_among urls = take MAX_SEEDS (filter is_seed urls)
+seeds_among urls = take MAX_MIRRORS (filter is_seed urls)
 
 unfoldable pub seeds_of : Placed → Result (List (List ℕ)) MetaErr
 seeds_of found = do

@@ -17,5 +17,4 @@ pub use laws::{metainfo_is_sound, tests_say_what_holds};
 pub use meta::Meta;
 pub use refusals::{Key, MetaErr};
 pub use rules::DIGEST_LEN;
-pub use seeds::MAX_SEEDS;
 pub use std::alloc::AllocError as NoMemory;

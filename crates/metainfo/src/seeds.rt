@@ -10,12 +10,9 @@ ghost use Rattle.metainfo.specs.Tests.{is_seed};
 use crate::fields::{is_list, sought};
 use crate::{Key, MetaErr, NoMemory};
 use bencode_core::BenSlice;
-use dl_kinds::{Text, Texts};
+use dl_kinds::{MAX_MIRRORS, Text, Texts};
 use link_source::is_usable;
 use std::alloc::Global;
-
-/// The most seeds of a metainfo file.
-pub const MAX_SEEDS: usize = 256;
 
 // The text of the URL of a mirror that can be asked.
 #[tactic(auto, using(crate::proofs::Usable::seed_found, crate::proofs::Usable::no_seed, crate::proofs::Usable::no_text))]
@@ -36,10 +33,10 @@ fn seed_text(alloc: Global, url: &[u8]) -> Result<Option<&str>, NoMemory>
 // Adds the URL, if it is one, as long as there is room.
 #[tactic(auto, using(crate::proofs::Usable::full, crate::proofs::Usable::added, crate::proofs::Usable::not_added))]
 fn push_seed(alloc: Global, seeds: &mut Texts, url: &[u8]) -> Result<(), NoMemory>
-    requires { length seeds.old ≤ MAX_SEEDS }
-    ensures { OnOk result (seeds.new ≡ take MAX_SEEDS (seeds.old ++ filter is_seed (url.now ∷ []))) }
+    requires { length seeds.old ≤ MAX_MIRRORS }
+    ensures { OnOk result (seeds.new ≡ take MAX_MIRRORS (seeds.old ++ filter is_seed (url.now ∷ []))) }
 {
-    if seeds.len() == MAX_SEEDS {
+    if seeds.len() == MAX_MIRRORS as usize {
         return Ok(());
     }
     match seed_text(alloc, url)? {

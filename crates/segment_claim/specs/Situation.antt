@@ -8,7 +8,8 @@ use Rattle.mirror_blame.specs.declared.blame.Blame.{Blame}
 use Rattle.piece_table.specs.Progress.{Progress}
 use Rattle.segment_claim.specs.Book.{ClaimBook}
 use Rattle.segment_claim.specs.Rules.{Rules}
-use Rattle.segment_claim.specs.declared.limits.TheConstants.{MAX_MIRRORS, MAX_SPLIT}
+use Rattle.dl_kinds.specs.declared.claims.TheConstants.{MAX_MIRRORS}
+use Rattle.segment_claim.specs.declared.limits.TheConstants.{MAX_SPLIT}
 
 pub record Situation : Type 0 where
   pub total : ℕ  -- the bytes of the payload

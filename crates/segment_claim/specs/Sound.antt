@@ -4,7 +4,8 @@ use Rattle.dl_kinds.specs.Plan.{IsPlan, blocks_of, pieces_of}
 use Rattle.dl_kinds.specs.declared.claims.Claim.{Claim}
 use Rattle.segment_claim.specs.Book.{ClaimBook}
 use Rattle.segment_claim.specs.Situation.{Situation, mirror_count}
-use Rattle.segment_claim.specs.declared.limits.TheConstants.{MAX_MIRRORS, MAX_SPLIT}
+use Rattle.dl_kinds.specs.declared.claims.TheConstants.{MAX_MIRRORS}
+use Rattle.segment_claim.specs.declared.limits.TheConstants.{MAX_SPLIT}
 
 -- the claim is of some blocks, all of the payload
 pub record IsWithinBlocks (blocks : ℕ) (claim : Claim) : Type 0 where

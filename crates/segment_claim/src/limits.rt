@@ -5,9 +5,6 @@ use std::marker::Model;
 /// The most claims of a download that stand together.
 pub const MAX_SPLIT: u16 = 64;
 
-/// The most mirrors of a download.
-pub const MAX_MIRRORS: u16 = 256;
-
 /// What limits the claims of a download.
 #[derive(Debug, Drop)]
 pub struct Limits<'a> {

@@ -1,12 +1,12 @@
 // What the choice of a claim looks at.
 ghost use Rattle.std.specs.Prelude.{◌≡◌, ◌↔◌, ◌+◌, ◌<◌, ◌≤◌, Some, IsTrue, count_by, length, slice_get, take};
+ghost use Rattle.dl_kinds.specs.declared.claims.TheConstants.{MAX_MIRRORS};
 ghost use Rattle.dl_kinds.specs.Plan.{blocks_of, pieces_of};
 ghost use Rattle.segment_claim.specs.Situation.{is_on, loads_of};
-ghost use Rattle.segment_claim.specs.declared.limits.TheConstants.{MAX_MIRRORS, MAX_SPLIT};
+ghost use Rattle.segment_claim.specs.declared.limits.TheConstants.{MAX_SPLIT};
 
-use crate::limits::MAX_MIRRORS;
 use bit_rows::BitRow;
-use dl_kinds::{Claim, Plan, plan_laws};
+use dl_kinds::{Claim, MAX_MIRRORS, Plan, plan_laws};
 use mirror_blame::Marks;
 use std::marker::Model;
 

@@ -5,7 +5,7 @@ use Rattle.segment_claim.specs.Book.{ClaimBook}
 use Rattle.segment_claim.specs.Kept.{room_of}
 use Rattle.segment_claim.specs.Rules.{Rules}
 use Rattle.segment_claim.specs.Situation.{loads_of}
-use Rattle.segment_claim.specs.declared.limits.TheConstants.{MAX_MIRRORS}
+use Rattle.dl_kinds.specs.declared.claims.TheConstants.{MAX_MIRRORS}
 use Rattle.segment_claim.proofs.Standing.{closed_same, full_where_room, full_where_some}
 use Rattle.segment_claim.proofs.claims.Claims.scene.Goals as goal
 use Rattle.segment_claim.proofs.claims.Claims.scene.Goals.{After-way_told-1}
