@@ -1,13 +1,13 @@
 -- What a call that a disk in memory noted does to its state.
-use Rattle.std.proofs.Common.{◌⊎◌, inl, inr, sym, None, ◌≡◌, ◌≢◌, ◌∙◌, ◌↔◌, ◌≤◌, ap, ℕ, ◌+◌, Bool, true, false, cond, List, [], ◌∷◌, ◌++◌, length, take, Result, Ok, Err, OnOk, OnErr, IsErrOf, refl, count_by, add-zero, arith, length-append}
+use Rattle.std.proofs.Common.{inl, inr, sym, Option, Some, None, is_some, IsSome, IsTrue, ◌≡◌, ◌≢◌, ◌∙◌, ◌↔◌, ◌≤◌, ap, ℕ, ◌+◌, Bool, true, false, cond, List, [], ◌∷◌, ◌++◌, length, take, Result, Ok, Err, OnOk, OnErr, IsErrOf, refl, count_by, add-zero, arith, length-append}
 use Rattle.std.proofs.lemmas.List.{take-append-le, reverse-append}
 use Rattle.dl_kinds.specs.declared.outside.IoErr.{IoErr}
 use Rattle.dl_kinds.specs.declared.outside.IoErr.TheVariants.{Fault, NoMemory}
-use Rattle.dl_disk.specs.Calls.{Stays, Elapses, Looks, LooksInto, CountsRead, ReadsNothing, Alters, IsTaken, MakesFolder}
+use Rattle.dl_disk.specs.Calls.{Stays, Elapses, Looks, LooksInto, CountsRead, ReadsNothing, Alters, IsTaken, NeedsFile, MakesFolder}
 use Rattle.dl_disk.specs.Contents.{files_of}
 use Rattle.dl_disk.specs.Files.{Files, IsSame, Changes, MayMake, Moved, Removes, MayBe, Follows}
 use Rattle.dl_disk.specs.Edit.{MayEdit, EditsFile}
-use Rattle.dl_disk.specs.Record.{changed, moved, reads, makes_folder, folders_made, Leaves}
+use Rattle.dl_disk.specs.Record.{can_do, changed, moved, reads, makes_folder, folders_made, LeavesTried, Leaves}
 use Rattle.dl_disk.specs.MemDisk.{calls_of, reading, reading_at, IsImage, IsImageAt, read_count, Notes}
 use Rattle.dl_disk.specs.MemState.{state_of}
 use Rattle.dl_disk.specs.State.{IsDurable}
@@ -295,8 +295,47 @@ module _ (name : List ℕ) (edit : Edit) where
       by_case true image left = left
       by_case false image left = left
 
+-- a step that was tried is taken or not
+may_be_left : (file : Option (List ℕ)) (step : Files → Files → Type 0) (before : Files → Type 0) (image : Files) → LeavesTried file step before image
+    → (old : Files) × before old × MayBe step old image
+may_be_left None step before image left = (image, left, inl (λ other. refl))
+may_be_left (Some file) step before image left = left
+
+-- where the file that it needs isn't there it isn't
+not_tried : (file : Option (List ℕ)) (step : Files → Files → Type 0) (before : Files → Type 0) (image : Files) → file ≡ None → LeavesTried file step before image → before image
+not_tried None step before image none left = left
+not_tried (Some file) step before image none left = cc none
+
+is_there : (file : Option (List ℕ)) → IsTrue (is_some file) → IsSome file
+is_there file is = is
+
+not_there : (file : Option (List ℕ)) → IsTrue (is_some file) → file ≡ None → ⊥
+not_there None is none = cc is
+not_there (Some file) is none = cc none
+
+-- a call that needs a file
+module _ (old new : MemDisk) (name : List ℕ) (action : Action) (step : Files → Files → Type 0)
+    (needs : can_do (reading old) name action ≡ is_some (reading old name))
+    (tried : (image : Files) → Leaves (reading old) (IsImage old) name action false image → LeavesTried (reading old name) step (IsImage old) image) where
+  missing_failed : reading old name ≡ None → files_of new.start ≡ files_of old.start
+      → calls_of new ≡ calls_of old ++ record { name = name; action = action; done = false } ∷ [] → Stays (state_of old) (state_of new)
+  missing_failed none start pushed =
+      let call : Call = record { name = name; action = action; done = false } in
+      record {
+        seen = seen_pushed old new call start pushed;
+        images = λ image is. not_tried (reading old name) step (IsImage old) image none (tried image (left_pushed old new call start pushed image is));
+      }
+
+  pub needs_file : (result : Result (Unit {0}) IoErr) → Notes old new name action result → OnOk result (IsTrue (can_do (reading old) name action)) → NeedsFile name (state_of old) (state_of new) result
+  needs_file (Ok x) notes possible = record {
+    there = is_there (reading old name) (rw needs at possible);
+    missing = λ none. absurd (not_there (reading old name) (rw needs at possible) none);
+  }
+  needs_file (Err Fault) notes possible = record { there = tt; missing = λ none. missing_failed none notes.start (notes.failed refl) }
+  needs_file (Err NoMemory) notes possible = record { there = tt; missing = λ none. stays_unmade old new notes.start (notes.none refl) }
+
 -- a file that was moved
-is_moved : (from to : List ℕ) (old new : Files) → IsSame (moved old from to) new → Moved from to old new
+pub is_moved : (from to : List ℕ) (old new : Files) → IsSame (moved old from to) new → Moved from to old new
 is_moved from to old new same = record {
   here = same to ∙ rw (bytes_eq-same to) refl;
   gone = λ differs. same from ∙ rw (bytes_eq-other to from differs, bytes_eq-same from) refl;
@@ -313,12 +352,15 @@ module _ (old new : MemDisk) (from to : List ℕ) where
       }
   moves (Err e) notes = tt
 
+  pub move_needs : (result : Result (Unit {0}) IoErr) → Notes old new from (Replace to) result → OnOk result (IsTrue (can_do (reading old) from (Replace to))) → NeedsFile from (state_of old) (state_of new) result
+  move_needs = needs_file old new from (Replace to) (Moved from to) refl (λ image left. left)
+
   pub may_move : (result : Result (Unit {0}) IoErr) → Notes old new from (Replace to) result → Alters (MayBe (Moved from to)) (state_of old) (state_of new) result
   may_move result notes = alters old new from (Replace to) (MayBe (Moved from to)) (λ before after same. inr (is_moved from to before after same)) (λ before after same. inl same) by_case (λ other done. refl) (λ done. refl) result notes
     where
       by_case : (done : Bool) (image : Files) → Leaves (reading old) (IsImage old) from (Replace to) done image → (before : Files) × IsImage old before × MayBe (Moved from to) before image
       by_case true image left = (left.0, left.1, inr left.2)
-      by_case false image left = left
+      by_case false image left = may_be_left (reading old from) (Moved from to) (IsImage old) image left
 
 -- a file that was taken away
 is_removed : (name : List ℕ) (old new : Files) → IsSame (changed old name Remove) new → Removes name old new
@@ -337,9 +379,12 @@ module _ (old new : MemDisk) (name : List ℕ) where
       }
   removes (Err e) notes = tt
 
+  pub remove_needs : (result : Result (Unit {0}) IoErr) → Notes old new name Remove result → OnOk result (IsTrue (can_do (reading old) name Remove)) → NeedsFile name (state_of old) (state_of new) result
+  remove_needs = needs_file old new name Remove (Removes name) refl (λ image left. left)
+
   pub may_remove : (result : Result (Unit {0}) IoErr) → Notes old new name Remove result → Alters (MayBe (Removes name)) (state_of old) (state_of new) result
   may_remove result notes = alters old new name Remove (MayBe (Removes name)) (λ before after same. inr (is_removed name before after same)) (λ before after same. inl same) by_case (λ other done. refl) (λ done. refl) result notes
     where
       by_case : (done : Bool) (image : Files) → Leaves (reading old) (IsImage old) name Remove done image → (before : Files) × IsImage old before × MayBe (Removes name) before image
       by_case true image left = (left.0, left.1, inr left.2)
-      by_case false image left = left
+      by_case false image left = may_be_left (reading old name) (Removes name) (IsImage old) image left

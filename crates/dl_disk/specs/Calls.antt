@@ -1,5 +1,5 @@
 -- What each call does to a disk, from the state before it to the state after it.
-use Rattle.std.specs.Prelude.{◌≡◌, ◌≢◌, ◌≤◌, ◌↔◌, ℕ, ◌+◌, List, ◌∷◌, Result, OnOk, OnErr, IsErrOf}
+use Rattle.std.specs.Prelude.{◌≡◌, ◌≢◌, ◌≤◌, ◌↔◌, ℕ, ◌+◌, List, ◌∷◌, None, IsSome, Result, OnOk, OnErr, IsErrOf}
 use Rattle.dl_kinds.specs.declared.outside.IoErr.{IoErr}
 use Rattle.dl_kinds.specs.declared.outside.IoErr.TheVariants.{Fault, NoMemory}
 use Rattle.dl_disk.specs.Files.{Files, Follows}
@@ -59,6 +59,11 @@ pub record Alters (step : Files → Files → Type 0) (old new : DiskState) (res
 pub record IsTaken (step : Files → Files → Type 0) (old new : DiskState) : Type 0 where
   pub seen : step old.seen new.seen
   pub images : Follows step old.may_leave new.may_leave
+
+-- a call that needs this file: where it isn't there the call isn't done, and changes nothing
+pub record NeedsFile (name : List ℕ) (old new : DiskState) (result : Result (Unit {0}) IoErr) : Type 0 where
+  pub there : OnOk result (IsSome (old.seen name))
+  pub missing : old.seen name ≡ None → Stays old new
 
 -- a call that makes a folder, and changes no file
 pub record MakesFolder (name : List ℕ) (old new : DiskState) (result : Result (Unit {0}) IoErr) : Type 0 where

@@ -1,11 +1,11 @@
 -- What a crash leaves of a disk in memory, by a choice for each change that it may lose.
-use Rattle.std.specs.Prelude.{◌≡◌, ℕ, ◌+◌, ◌-◌, Bool, true, false, ◌&&◌, ◌||◌, not, ◌==◌, List, [], ◌∷◌, ◌++◌, length, take, drop, replicate, Option, Some, None, get_or, if◌then◌else◌}
+use Rattle.std.specs.Prelude.{◌≡◌, ℕ, ◌+◌, ◌-◌, Bool, false, ◌&&◌, ◌||◌, not, ◌==◌, List, [], ◌∷◌, ◌++◌, length, take, drop, replicate, Option, Some, None, is_some, get_or, if◌then◌else◌}
 use Rattle.std.specs.Str.{bytes_eq}
 use Rattle.dl_disk.specs.Files.{Files, file_bytes, replaced}
 use Rattle.dl_disk.specs.Edit.{fits, edited}
 use Rattle.dl_disk.specs.Contents.{files_of}
 use Rattle.dl_disk.specs.MemDisk.{calls_of, failed_calls, failing_calls, next_call, IsFresh}
-use Rattle.dl_disk.specs.Record.{changed, moved}
+use Rattle.dl_disk.specs.Record.{moved}
 use Rattle.dl_disk.specs.declared.edits.Edit.{Edit}
 use Rattle.dl_disk.specs.declared.edits.Edit.TheVariants.{Write, Resize}
 use Rattle.dl_disk.specs.declared.record.Action.{Action}
@@ -27,15 +27,16 @@ lasts_by name [] = false
 lasts_by name (call ∷ later) =
     if call.done then lasts_from name call.name call.action (λ other. lasts_by other later) else lasts_by name later
 
--- Whether a crash may lose what a call changed, where these calls came after it, or may find it done though it failed.
-abbrev pub may_lose : List ℕ → Action → Bool → List Call → Bool
-may_lose name (Change edit) done later = not (lasts_by name later)
-may_lose name (Replace to) done later = not done && not (lasts_by name later || lasts_by to later)
-may_lose name Remove done later = not done && not (lasts_by name later)
-may_lose name action done later = false
+-- Whether a crash may lose what a call changed of these files, where these calls came after it, or may find it done
+-- though it failed.
+abbrev pub may_lose : Files → List ℕ → Action → Bool → List Call → Bool
+may_lose files name (Change edit) done later = not (lasts_by name later)
+may_lose files name (Replace to) done later = not done && is_some (files name) && not (lasts_by name later || lasts_by to later)
+may_lose files name Remove done later = not done && is_some (files name) && not (lasts_by name later)
+may_lose files name action done later = false
 
-abbrev pub is_pending : Call → List Call → Bool
-is_pending call later = may_lose call.name call.action call.done later
+abbrev pub is_pending : Files → Call → List Call → Bool
+is_pending files call later = may_lose files call.name call.action call.done later
 
 -- old, with this byte up to this length where it is shorter
 abbrev pub filled_up : ℕ → List ℕ → ℕ → List ℕ
@@ -60,24 +61,33 @@ remains_by choice name (Replace to) left other = if choice == 0 then left other 
 remains_by choice name Remove left other = if choice == 0 then left other else if bytes_eq name other then None else left other
 remains_by choice name action left other = left other
 
--- the choice for a call before these ones: the next one given where a crash may lose it, and otherwise as it was
-abbrev pub choice_of : List ℕ → Call → List Call → ℕ
-choice_of choices call later = if is_pending call later then get_or choices 0 0 else if call.done then 1 else 0
+-- the choice of a call as it was: kept where it was done, and dropped where it failed
+abbrev pub as_it_was : Call → ℕ
+as_it_was call = if call.done then 1 else 0
+
+-- the files as a read gives them after a call
+abbrev pub read_after : Files → Call → Files
+read_after files call = remains_by (as_it_was call) call.name call.action files
+
+-- the choice for a call of these files, before these ones: the next one given where a crash may lose it, and otherwise
+-- as it was
+abbrev pub choice_of : Files → List ℕ → Call → List Call → ℕ
+choice_of files choices call later = if is_pending files call later then get_or choices 0 0 else as_it_was call
 
 -- the choices that are left for the calls after it
-abbrev pub choices_after : List ℕ → Call → List Call → List ℕ
-choices_after choices call later = if is_pending call later then drop 1 choices else choices
+abbrev pub choices_after : Files → List ℕ → Call → List Call → List ℕ
+choices_after files choices call later = if is_pending files call later then drop 1 choices else choices
 
--- What a crash leaves after these calls, from the oldest on. The choices are those of the changes that it may lose, in
--- their order; one that is missing is 0.
-abbrev pub crashed : Files → List ℕ → List Call → Files
-crashed left choices [] = left
-crashed left choices (call ∷ later) =
-    crashed (remains_by (choice_of choices call later) call.name call.action left) (choices_after choices call later) later
+-- What a crash leaves after these calls, from the oldest on, of the files that a read gives before them and of what is
+-- left of those before. The choices are those of the changes that it may lose, in their order; one that is missing is 0.
+abbrev pub crashed : Files → Files → List ℕ → List Call → Files
+crashed files left choices [] = left
+crashed files left choices (call ∷ later) =
+    crashed (read_after files call) (remains_by (choice_of files choices call later) call.name call.action left) (choices_after files choices call later) later
 
 -- what a crash of this disk leaves
 abbrev pub crash_of : MemDisk → List ℕ → Files
-crash_of disk choices = crashed (files_of disk.start) choices (calls_of disk)
+crash_of disk choices = crashed (files_of disk.start) (files_of disk.start) choices (calls_of disk)
 
 -- the disk after a crash: what it left is all durable, and the calls are numbered on
 pub record IsCrashed (old : MemDisk) (choices : List ℕ) (new : MemDisk) : Type 0 where

@@ -1,12 +1,12 @@
 -- The state of a disk in memory, with its laws.
-use Rattle.std.specs.Prelude.{◌≡◌, ℕ, List, [], ◌∷◌, Bool, true, false, refl, ◌↔◌, reverse, length, take}
-use Rattle.std.proofs.Common.{ap, sym, subst, cond, inl, inr}
+use Rattle.std.specs.Prelude.{◌≡◌, ℕ, List, [], ◌∷◌, Bool, true, false, Option, Some, None, refl, ◌↔◌, reverse, length, take}
+use Rattle.std.proofs.Common.{ap, sym, subst, cond, inl}
 use Rattle.std.proofs.Math.Seq.{take-length}
 use Rattle.std.proofs.lemmas.Bool.{false_from_ne_true}
 use Rattle.std.proofs.lemmas.Slice.Eq.{bytes_eq-Decides}
 use Rattle.std.specs.Str.{bytes_eq}
-use Rattle.dl_disk.specs.Files.{Files}
-use Rattle.dl_disk.specs.Record.{changed, files_after, Leaves, IsLeftAfter, reading_after, IsImageAfter, folders_made}
+use Rattle.dl_disk.specs.Files.{Files, Moved, Removes}
+use Rattle.dl_disk.specs.Record.{changed, files_after, LeavesTried, Leaves, IsLeftAfter, reading_after, IsImageAfter, folders_made}
 use Rattle.dl_disk.specs.Contents.{files_of}
 use Rattle.dl_disk.specs.MemDisk.{calls_of, reading, IsImage, reading_at, IsImageAt, read_count}
 use Rattle.dl_disk.specs.State.{DiskState}
@@ -15,6 +15,12 @@ use Rattle.dl_disk.specs.declared.record.Call.{Call}
 use Rattle.dl_disk.specs.declared.record.Action.{Action}
 use Rattle.dl_disk.specs.declared.record.Action.TheVariants.{Look, Read, Change, Sync, MakeDir, Replace, Remove}
 use Rattle.dl_disk.specs.declared.memory.MemDisk.{MemDisk}
+
+-- a step that is only tried may be left undone
+left_undone : (file : Option (List ℕ)) (step : Files → Files → Type 0) (before : Files → Type 0) (files : Files) → before files
+    → LeavesTried file step before files
+left_undone None step before files was = was
+left_undone (Some file) step before files was = (files, was, inl (λ other. refl))
 
 -- a call leaves the files as they are after it, where a crash might have left them as they were before
 leaves_files : (files : Files) (before : Files → Type 0) (name : List ℕ) (action : Action) (done : Bool) → before files
@@ -38,7 +44,7 @@ leaves_files files before name (Replace to) true was = (
     ) refl;
   },
 )
-leaves_files files before name (Replace to) false was = (files, was, inl (λ other. refl))
+leaves_files files before name (Replace to) false was = left_undone (files name) (Moved name to) before files was
 leaves_files files before name Remove true was = (
   files,
   was,
@@ -47,7 +53,7 @@ leaves_files files before name Remove true was = (
     others = λ other differs. rw (false_from_ne_true (bytes_eq name other) (λ same. differs (sym ((bytes_eq-Decides name other).0 same)))) refl;
   },
 )
-leaves_files files before name Remove false was = (files, was, inl (λ other. refl))
+leaves_files files before name Remove false was = left_undone (files name) (Removes name) before files was
 leaves_files files before name Sync true was = (was, refl)
 leaves_files files before name Sync false was = was
 leaves_files files before name MakeDir true was = was

@@ -39,14 +39,20 @@ files_after start [] = start
 files_after start (call ∷ calls) =
     if call.done then changed (files_after start calls) call.name call.action else files_after start calls
 
+-- what a failed try of a step leaves to a crash: the step is taken or not where the file that it needs is there
+abbrev pub LeavesTried : Option (List ℕ) → (Files → Files → Type 0) → (Files → Type 0) → Files → Type 0
+LeavesTried None step before image = before image
+LeavesTried (Some file) step before image = (old : Files) × before old × MayBe step old image
+
 -- What a call leaves to a crash, from what it might have left before; the files are those before the call. A change may
--- be cut short, what was synced stays, and a file that was moved or removed with Ok is so for good.
+-- be cut short, what was synced stays, and a file that was moved or removed with Ok is so for good. A file that isn't
+-- there is neither moved nor removed.
 abbrev pub Leaves : Files → (Files → Type 0) → List ℕ → Action → Bool → Files → Type 0
 Leaves files before name (Change edit) done image = (old : Files) × before old × Changes name (MayMake (MayEdit edit)) old image
 Leaves files before name (Replace to) true image = (old : Files) × before old × Moved name to old image
-Leaves files before name (Replace to) false image = (old : Files) × before old × MayBe (Moved name to) old image
+Leaves files before name (Replace to) false image = LeavesTried (files name) (Moved name to) before image
 Leaves files before name Remove true image = (old : Files) × before old × Removes name old image
-Leaves files before name Remove false image = (old : Files) × before old × MayBe (Removes name) old image
+Leaves files before name Remove false image = LeavesTried (files name) (Removes name) before image
 Leaves files before name Sync true image = before image × (image name ≡ files name)
 Leaves files before name action done image = before image
 

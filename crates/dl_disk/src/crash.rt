@@ -1,7 +1,7 @@
 // What a crash leaves of a disk in memory.
 ghost use Rattle.std.specs.Prelude.{◌≡◌, ◌+◌, ◌<◌, length, drop, IfOk, OnOk, IsTrue};
 ghost use Rattle.dl_disk.specs.Contents.{files_of};
-ghost use Rattle.dl_disk.specs.Crash.{lasts_by, is_pending, chosen, flooded, remains_by, choice_of, choices_after, crashed};
+ghost use Rattle.dl_disk.specs.Crash.{lasts_by, is_pending, chosen, flooded, remains_by, as_it_was, choice_of, choices_after, crashed};
 ghost use Rattle.dl_disk.specs.Edit.{fits};
 ghost use Rattle.dl_disk.specs.Files.{IsSame, Puts};
 
@@ -31,19 +31,28 @@ fn lasts_by(name: &str, later: &[Call]) -> bool
 }
 
 impl Call {
-    // Whether a crash may lose what the call changed, where these calls came after it.
-    fn is_pending(&self, later: &[Call]) -> bool
-        ensures { result ≡ is_pending self.now later.now }
+    // Whether a crash may lose what the call changed of these files, where these calls came after it.
+    fn is_pending(&self, files: &Contents, later: &[Call]) -> bool
+        ensures { result ≡ is_pending (files_of files.now) self.now later.now }
     {
         let name = self.name.as_str();
         match &self.action {
             Action::Change(_) => !lasts_by(name, later),
             Action::Replace { to } => {
-                !self.done && !(lasts_by(name, later) || lasts_by(to.as_str(), later))
+                !self.done
+                    && files.get(name).is_some()
+                    && !(lasts_by(name, later) || lasts_by(to.as_str(), later))
             }
-            Action::Remove => !self.done && !lasts_by(name, later),
+            Action::Remove => { !self.done && files.get(name).is_some() && !lasts_by(name, later) }
             Action::Look | Action::Read { .. } | Action::Sync | Action::MakeDir => false,
         }
+    }
+
+    // The choice of the call as it was.
+    fn as_it_was(&self) -> u8
+        ensures { result ≡ as_it_was self.now }
+    {
+        if self.done { 1 } else { 0 }
     }
 
     // Makes of the files what a crash leaves of the call by this choice.
@@ -110,13 +119,15 @@ impl Edit {
     }
 }
 
-// The choice for a call before these ones, and the choices that are left for them.
-fn choose<'a>(choices: &'a [u8], call: &Call, later: &[Call]) -> (u8, &'a [u8])
-    ensures choice { result.0 ≡ choice_of choices.now call.now later.now }
-    ensures rest { result.1.now ≡ choices_after choices.now call.now later.now }
+// The choice for a call of these files before these calls, and the choices that are left for them.
+fn choose<'a>(files: &Contents, choices: &'a [u8], call: &Call, later: &[Call]) -> (u8, &'a [u8])
+    ensures choice { result.0
+        ≡ choice_of (files_of files.now) choices.now call.now later.now }
+    ensures rest { result.1.now
+        ≡ choices_after (files_of files.now) choices.now call.now later.now }
 {
-    if !call.is_pending(later) {
-        return (if call.done { 1 } else { 0 }, choices);
+    if !call.is_pending(files, later) {
+        return (call.as_it_was(), choices);
     }
     match choices.split_first() {
         Some((choice, rest)) => (*choice, rest),
@@ -138,14 +149,17 @@ pub fn survivors(
     calls: &[Call],
     choices: &[u8],
 ) -> Result<Contents, AllocError>
-    ensures { IfOk result (λ left. IsSame (crashed (files_of start.now) choices.now calls.now)
+    ensures { IfOk result (λ left. IsSame
+        (crashed (files_of start.now) (files_of start.now) choices.now calls.now)
         (files_of left)) }
 {
+    let mut files = start.copy()?;
     let mut left = start.copy()?;
     let mut choices = choices;
     for (index, call) in calls.iter().enumerate() {
-        let (choice, rest) = choose(choices, call, behind(calls, index));
+        let (choice, rest) = choose(&files, choices, call, behind(calls, index));
         call.leave(alloc, choice, &mut left)?;
+        call.leave(alloc, call.as_it_was(), &mut files)?;
         choices = rest;
     }
     Ok(left)

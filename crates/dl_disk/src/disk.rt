@@ -2,7 +2,7 @@
 ghost use Rattle.std.specs.Prelude.{◌≡◌, Bool, ℕ, length, option_map, IsTrue, IfOk, OnOk};
 ghost use Rattle.dl_kinds.specs.Causes.{HasCause};
 ghost use Rattle.dl_disk.specs.State.{DiskState, IsDurable};
-ghost use Rattle.dl_disk.specs.Calls.{Looks, LooksInto, Alters, IsTaken, MakesFolder};
+ghost use Rattle.dl_disk.specs.Calls.{Looks, LooksInto, Alters, IsTaken, NeedsFile, MakesFolder};
 ghost use Rattle.dl_disk.specs.Files.{ReadsAt, Writes, TornWrite, Resizes, TornResize, Moved, Removes, MayBe};
 
 use dl_kinds::IoErr;
@@ -65,18 +65,22 @@ pub trait Disk {
         ensures looks { IsTrue tells → Looks (state self.old) (state self.new) result }
         ensures cause { HasCause (faults self.old) (faults self.new) result };
 
-    /// Puts the file of one name in the place of another.
+    /// Puts the file of one name in the place of another. Where the first isn't there it is a fault.
     fn replace(&mut self, from: &str, to: &str) -> Result<(), IoErr>
         ensures moved { OnOk result (IsTrue tells
             → IsTaken (Moved from.now to.now) (state self.old) (state self.new)) }
+        ensures needs { IsTrue tells
+            → NeedsFile from.now (state self.old) (state self.new) result }
         ensures alters { IsTrue tells
             → Alters (MayBe (Moved from.now to.now)) (state self.old) (state self.new) result }
         ensures cause { HasCause (faults self.old) (faults self.new) result };
 
-    /// Takes the file away.
+    /// Takes the file away. Where it isn't there it is a fault.
     fn remove(&mut self, name: &str) -> Result<(), IoErr>
         ensures removed { OnOk result (IsTrue tells
             → IsTaken (Removes name.now) (state self.old) (state self.new)) }
+        ensures needs { IsTrue tells
+            → NeedsFile name.now (state self.old) (state self.new) result }
         ensures alters { IsTrue tells
             → Alters (MayBe (Removes name.now)) (state self.old) (state self.new) result }
         ensures cause { HasCause (faults self.old) (faults self.new) result };

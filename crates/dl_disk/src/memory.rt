@@ -48,8 +48,8 @@ fn reaches(file: Option<&[u8]>, at: u64, len: u64) -> bool
 impl MemDisk {
     ghost use Rattle.std.specs.Prelude.{length};
     ghost use Rattle.dl_disk.specs.Files.{ReadsAt};
-    ghost use Rattle.dl_disk.specs.MemDisk.{reading, failing_calls, next_call, will_do, IsFresh, Notes, IsNumbered};
-    ghost use Rattle.dl_disk.specs.Crash.{IsCrashed, IsHealed};
+    ghost use Rattle.dl_disk.specs.MemDisk.{reading, IsImage, failing_calls, next_call, will_do, IsFresh, Notes, IsNumbered};
+    ghost use Rattle.dl_disk.specs.Crash.{crash_of, IsCrashed, IsHealed};
 
     /// A disk with these files, all of them durable; of one name the last counts. The calls of the numbers in
     /// `failing` will fail.
@@ -82,10 +82,11 @@ impl MemDisk {
 
     /// What a crash leaves, by a choice for each change that it may lose, in their order: 0, also where it is missing,
     /// drops the change, 1 keeps it, and another number keeps it with that byte for each new one. Such changes are the
-    /// edits of a file that wasn't synced since, and the moves and removals that failed and may be done all the same. All
-    /// that is left is durable; the calls are numbered on.
+    /// edits of a file that wasn't synced since, and the moves and removals that failed, of a file that was there, and may
+    /// be done all the same. What is left is one of the images and is all durable; the calls are numbered on.
     pub fn crash(self, alloc: Global, choices: &[u8]) -> Result<Self, AllocError>
-        ensures { IfOk result (IsCrashed self choices.now) }
+        ensures crashed { IfOk result (IsCrashed self choices.now) }
+        ensures image { OnOk result (IsImage self (crash_of self choices.now)) }
     {
         let start = survivors(alloc, &self.start, &self.calls, choices)?;
         Ok(MemDisk {
@@ -165,7 +166,7 @@ impl MemDisk {
 impl Disk for MemDisk {
     ghost use Rattle.std.specs.Prelude.{true, length, option_map};
     ghost use Rattle.dl_disk.specs.State.{IsDurable};
-    ghost use Rattle.dl_disk.specs.Calls.{Looks, LooksInto, Alters, IsTaken, MakesFolder};
+    ghost use Rattle.dl_disk.specs.Calls.{Looks, LooksInto, Alters, IsTaken, NeedsFile, MakesFolder};
     ghost use Rattle.dl_disk.specs.Files.{ReadsAt, Writes, TornWrite, Resizes, TornResize, Moved, Removes, MayBe};
     ghost use Rattle.dl_disk.specs.MemDisk.{reading, failed_calls, Notes, IsNumbered};
     ghost use Rattle.dl_disk.specs.MemState.{state_of};
@@ -243,6 +244,7 @@ impl Disk for MemDisk {
     fn replace(&mut self, from: &str, to: &str) -> Result<(), IoErr>
         ensures moved { OnOk result (IsTaken (Moved from.now to.now) (state_of self.old)
             (state_of self.new)) }
+        ensures needs { NeedsFile from.now (state_of self.old) (state_of self.new) result }
         ensures alters { Alters (MayBe (Moved from.now to.now)) (state_of self.old)
             (state_of self.new) result }
         ensures cause { HasCause (failed_calls self.old) (failed_calls self.new) result }
@@ -256,6 +258,7 @@ impl Disk for MemDisk {
     fn remove(&mut self, name: &str) -> Result<(), IoErr>
         ensures removed { OnOk result (IsTaken (Removes name.now) (state_of self.old)
             (state_of self.new)) }
+        ensures needs { NeedsFile name.now (state_of self.old) (state_of self.new) result }
         ensures alters { Alters (MayBe (Removes name.now)) (state_of self.old)
             (state_of self.new) result }
         ensures cause { HasCause (failed_calls self.old) (failed_calls self.new) result }
