@@ -1,2 +1,3 @@
 mod Stretches
 mod Waits
+pub mod Levels

@@ -1,6 +1,7 @@
 // A token bucket.
-ghost use Rattle.std.specs.Prelude.{◌≡◌, ◌↔◌, ℕ, ◌-◌, ◌^◌, ◌<◌, ◌≤◌, max, List, [], ◌∷◌};
-ghost use Rattle.rate_tokens.specs.Calls.{BucketCall, Taken, RateSet, capacity_of, refilled, credit_at, answer_at, IsHold, IfGo, IfHold};
+ghost use Rattle.std.specs.Prelude.{◌≡◌, ◌↔◌, ◌-◌, ◌^◌, ◌<◌, ◌≤◌, max};
+ghost use Rattle.rate_tokens.specs.Calls.{Taken, RateSet, capacity_of, IsHold, IfGo, IfHold};
+ghost use Rattle.rate_tokens.specs.Level.{answer_in, credit_in, full_level, held_in, level_by, wait_in};
 
 use dl_kinds::Moment;
 use std::marker::Model;
@@ -49,12 +50,10 @@ impl Model for Bucket {
 }
 
 impl Bucket {
-    ghost use Rattle.rate_tokens.specs.Level.{IsAfter};
-
     /// A full bucket.
     pub fn new(rate: u64, now: Moment) -> Self
         requires { rate < 2 ^ 32 }
-        ensures { IsAfter rate now.0 [] result }
+        ensures { result ≡ full_level rate now.0 }
     {
         Bucket {
             rate,
@@ -65,7 +64,7 @@ impl Bucket {
 
     // What it holds at this moment.
     fn held_at(&self, now: Moment) -> u128
-        ensures { result ≡ refilled self.now.rate self.now.held (now.0 - self.now.moment) }
+        ensures { result ≡ held_in self.now now.0 }
     {
         let passed = now.0.saturating_sub(self.moment.0);
         capacity(self.rate).min(self.held + self.rate as u128 * passed as u128)
@@ -75,8 +74,7 @@ impl Bucket {
     fn pass(&mut self, now: Moment)
         ensures rate { self.new.rate ≡ self.old.rate }
         ensures moment { self.new.moment ≡ max self.old.moment now.0 }
-        ensures held { self.new.held
-            ≡ refilled self.old.rate self.old.held (now.0 - self.old.moment) }
+        ensures held { self.new.held ≡ held_in self.old now.0 }
     {
         self.held = self.held_at(now);
         self.moment = Moment(self.moment.0.max(now.0));
@@ -84,8 +82,7 @@ impl Bucket {
 
     /// The whole bytes that may go at this moment. Without a limit they are 2^64 - 1.
     pub fn credit(&self, now: Moment) -> u64
-        ensures { (first begun : ℕ) (calls : List BucketCall) → IsAfter first begun calls self.now
-            → result ≡ credit_at first begun calls now.0 }
+        ensures { result ≡ credit_in self.now now.0 }
     {
         if self.rate == 0 {
             return u64::MAX;
@@ -93,21 +90,27 @@ impl Bucket {
         (self.held_at(now) / THOUSAND) as u64
     }
 
+    /// In how many milliseconds, from this moment on, a byte may go: in none, where one may go now.
+    pub fn wait(&self, now: Moment) -> u64
+        ensures value { result ≡ wait_in self.now now.0 }
+        ensures none { (result ≡ 0) ↔ (1 ≤ credit_in self.now now.0) }
+    {
+        let held = self.held_at(now);
+        if self.rate == 0 || held >= THOUSAND {
+            return 0;
+        }
+        (THOUSAND - held).div_ceil(self.rate as u128) as u64
+    }
+
     /// Takes the bytes that may go at this moment, at most `want` of them. It holds exactly where the credit is less than
     /// one byte, and then takes nothing.
     pub fn take(&mut self, want: u32, now: Moment) -> Take
         requires { 1 ≤ want }
-        ensures answer { (first begun : ℕ) (calls : List BucketCall)
-            → IsAfter first begun calls self.old
-            → result ≡ answer_at first begun calls want now.0 }
-        ensures hold { (first begun : ℕ) (calls : List BucketCall)
-            → IsAfter first begun calls self.old
-            → (IsHold result ↔ (credit_at first begun calls now.0 ≡ 0)) }
+        ensures answer { result ≡ answer_in self.old want now.0 }
+        ensures hold { IsHold result ↔ (credit_in self.old now.0 ≡ 0) }
+        ensures level { self.new ≡ level_by (Taken want now.0) self.old }
         ensures bytes { IfGo result (λ bytes. (1 ≤ bytes) × (bytes ≤ want)) }
         ensures wait { IfHold result (λ wait. (1 ≤ wait) × (wait ≤ 1000)) }
-        ensures after { (first begun : ℕ) (calls : List BucketCall)
-            → IsAfter first begun calls self.old
-            → IsAfter first begun (Taken want now.0 ∷ calls) self.new }
     {
         self.pass(now);
         if self.rate == 0 {
@@ -125,8 +128,7 @@ impl Bucket {
     /// raised, but where there was no limit the bucket starts full.
     pub fn set_rate(&mut self, rate: u64, now: Moment)
         requires { rate < 2 ^ 32 }
-        ensures { (first begun : ℕ) (calls : List BucketCall) → IsAfter first begun calls self.old
-            → IsAfter first begun (RateSet rate now.0 ∷ calls) self.new }
+        ensures { self.new ≡ level_by (RateSet rate now.0) self.old }
     {
         self.pass(now);
         let most = capacity(rate);

@@ -5,4 +5,4 @@ mod bucket;
 mod laws;
 
 pub use bucket::{Bucket, Take};
-pub use laws::{rate_is_kept, waits_are_exact};
+pub use laws::{levels_follow_calls, rate_is_kept, waits_are_exact};
