@@ -1,0 +1,4 @@
+pub mod Beside
+pub mod Holding
+pub mod Listings
+pub mod Promised

@@ -1,0 +1,6 @@
+pub mod Held
+pub mod Promises
+pub mod Sharing
+pub mod HeldLaws
+pub mod PromiseLaws
+pub mod SharingLaws
