@@ -1,5 +1,5 @@
 -- What is stolen of the views of standing claims.
-use Rattle.std.proofs.Common.{◌≡◌, ℕ, zero, suc, ◌+◌, ◌-◌, ◌/◌, ◌<◌, ◌≤◌, true, List, [], ◌∷◌, length, get_or, refl, sym, ap, ◌∙◌, subst, arith}
+use Rattle.std.proofs.Common.{◌≡◌, ℕ, zero, suc, ◌+◌, ◌-◌, ◌/◌, ◌<◌, List, [], ◌∷◌, length, get_or, refl, sym, ap, ◌∙◌, subst, arith}
 use Rattle.std.specs.Prelude.{Contains}
 use Rattle.std.specs.List.{AllZip}
 use Rattle.dl_kinds.specs.declared.claims.Claim.{Claim}
@@ -9,7 +9,7 @@ use Rattle.slow_steal.specs.Theft.{IsSteal, later_half}
 use Rattle.slow_steal.specs.declared.theft.Steal.{Steal}
 use Rattle.segment_claim.specs.Book.{ClaimBook}
 use Rattle.segment_claim.specs.Free.{IsMirrorFor}
-use Rattle.segment_claim.specs.Situation.{Situation, situation_of}
+use Rattle.segment_claim.specs.Situation.{Situation}
 use Rattle.segment_claim.specs.Theft.{AreViews, IsStealOf}
 use Rattle.segment_claim.specs.Views.{IsViewOf}
 use Rattle.segment_claim.proofs.OwnRuns.{own_from, own_to}

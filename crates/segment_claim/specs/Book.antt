@@ -1,5 +1,5 @@
 -- What contracts see of the claims of a download, and what the calls make of them.
-use Rattle.std.specs.Prelude.{ℕ, ◌+◌, ◌-◌, Bool, false, List, [], ◌∷◌, Option, filter, find, replicate, slice_set}
+use Rattle.std.specs.Prelude.{ℕ, ◌+◌, ◌-◌, Bool, false, List, [], ◌∷◌, Option, filter, find, replicate, slice_get, slice_set}
 use Rattle.std.specs.Option.{option_and_then, option_map_or}
 use Rattle.dl_kinds.specs.Plan.{pieces_of}
 use Rattle.dl_kinds.specs.declared.claims.Claim.{Claim}
@@ -51,6 +51,11 @@ is_open_under book landed id block =
 abbrev pub first_open_under : ClaimBook → List Bool → ℕ → Option ℕ
 first_open_under book landed id =
     option_and_then (first_open_in book.piece_len landed book.closed) (claim_under book id)
+
+-- the first block that is open in the claim at a place among those that stand
+abbrev pub first_open_at : ClaimBook → List Bool → ℕ → Option ℕ
+first_open_at book landed place =
+    option_and_then (first_open_in book.piece_len landed book.closed) (slice_get book.standing place)
 
 -- the claims in which a block is open stand on
 abbrev pub swept : ClaimBook → List Bool → ℕ → ClaimBook

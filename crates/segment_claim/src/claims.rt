@@ -1,9 +1,10 @@
 // The claims of a download.
-ghost use Rattle.std.specs.Prelude.{◌≡◌, ◌↔◌, ◌⊎◌, ℕ, ◌+◌, ◌<◌, ◌≤◌, ◌^◌, not, All, length, IsNone, IfNone, IfSome, OnOk};
+ghost use Rattle.std.specs.Prelude.{◌≡◌, ◌↔◌, ◌⊎◌, ℕ, ◌+◌, ◌<◌, ◌≤◌, ◌^◌, not, [], All, length, IsNone, IfNone, IfSome, OnOk};
 ghost use Rattle.dl_kinds.specs.Plan.{blocks_of, pieces_of};
-ghost use Rattle.segment_claim.specs.Book.{granted, no_claims, kept_where, with_cleared, claim_under, is_open_under, first_open_under, swept};
+ghost use Rattle.segment_claim.specs.Book.{granted, no_claims, kept_where, with_cleared, claim_under, is_open_under, first_open_under, first_open_at, swept};
 ghost use Rattle.segment_claim.specs.Open.{has_number};
-ghost use Rattle.segment_claim.specs.Free.{HasNoFreeClaim, IsFreeGrant, IsMirrorFor};
+ghost use Rattle.segment_claim.specs.Free.{HasNoFreeClaim, IsFreeClaim, IsFreeGrant, IsMirrorFor};
+ghost use Rattle.segment_claim.specs.Search.{IsWithinPayload};
 ghost use Rattle.segment_claim.specs.Situation.{FitTogether, IsTableOfClaims, situation_of};
 ghost use Rattle.segment_claim.specs.Sound.{AreClaims, IsWithinBlocks};
 ghost use Rattle.segment_claim.specs.Theft.{AreViews, IsStealOf, stolen_claim};
@@ -131,6 +132,26 @@ impl Claims {
         }
     }
 
+    /// The first block that is open in the claim at a place among those that stand, from 0, the newest first.
+    pub fn first_open_at(&self, place: u16, table: &Table) -> Option<u32>
+        requires { IsTableOfClaims self.now table.now }
+        ensures { result ≡ first_open_at self.now table.now.landed place }
+    {
+        if place >= self.standing() {
+            return None;
+        }
+        let claim = self.standing[place as usize];
+        first_open(&self.plan, table.blocks(), &self.closed, &claim)
+    }
+
+    /// No claim stands any more.
+    pub fn end_all(&mut self)
+        ensures none { self.new ≡ record self.old { standing = []; spare = self.new.spare } }
+        ensures room { self.old.spare ≤ self.new.spare }
+    {
+        self.standing.clear();
+    }
+
     /// The claims in which no block is open don't stand any more.
     pub fn sweep(&mut self, table: &Table)
         requires { IsTableOfClaims self.old table.now }
@@ -169,8 +190,8 @@ impl Claims {
         }
     }
 
-    // A claim stands.
-    fn grant(&mut self, claim: Claim)
+    /// A claim is granted: blocks of the payload, under a number above those of all claims before.
+    pub fn grant(&mut self, claim: Claim)
         requires few { length self.old.standing < MAX_SPLIT }
         requires room { 1 ≤ self.old.spare }
         requires number { self.old.next ≤ claim.id }
@@ -179,6 +200,20 @@ impl Claims {
     {
         self.next = claim.id as u128 + 1;
         self.standing.insert(0, claim).unwrap();
+    }
+
+    /// The blocks and the mirror of the free claim. It isn't granted by this.
+    pub fn free_claim(&self, table: &Table, marks: &Marks, limits: &Limits) -> Option<Found>
+        requires fit { FitTogether self.now table.now marks.now limits.now }
+        requires room { 1 ≤ self.now.spare }
+        ensures claim { IfSome result (λ found. IsFreeClaim
+            (situation_of self.now table.now marks.now limits.now) found.run found.mirror) }
+        ensures within { IfSome result (λ found. IsWithinPayload
+            (situation_of self.now table.now marks.now limits.now) found.run) }
+        ensures none { IsNone result
+            ↔ HasNoFreeClaim (situation_of self.now table.now marks.now limits.now) }
+    {
+        self.scene(table, marks, limits).free_claim()
     }
 
     /// Grants the free claim: of the free stretches for which a mirror is found, the first blocks of the longest, and

@@ -13,6 +13,7 @@ mod views;
 
 pub use claims::Claims;
 pub use dl_kinds::Claim;
+pub use free::Found;
 pub use laws::steals_are_of_claims;
 pub use limits::{Limits, MAX_SPLIT};
 pub use std::alloc::AllocError as NoMemory;
