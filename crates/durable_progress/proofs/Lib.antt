@@ -2,3 +2,4 @@ pub mod Beside
 pub mod Holding
 pub mod Listings
 pub mod Promised
+pub mod Steps

@@ -2,5 +2,6 @@ pub mod Held
 pub mod Promises
 pub mod Sharing
 pub mod HeldLaws
+pub mod HeldSteps
 pub mod PromiseLaws
 pub mod SharingLaws

@@ -1,5 +1,5 @@
 -- What the saves of a download promise of every image, whenever a crash comes.
-use Rattle.std.specs.Prelude.{◌≡◌, ◌⊎◌, ℕ, ◌==◌, ◌&&◌, ◌||◌, Bool, true, false, not, None, List, [], ◌∷◌, slice_index_or}
+use Rattle.std.specs.Prelude.{◌≡◌, ◌⊎◌, ℕ, ◌==◌, ◌&&◌, ◌||◌, Bool, true, false, not, None, List, [], ◌∷◌}
 use Rattle.std.specs.List.{list_any}
 use Rattle.dl_disk.specs.Files.{Files}
 use Rattle.dl_kinds.specs.Plan.{piece_of}
