@@ -11,6 +11,7 @@ use Rattle.control_file.specs.declared.want.Want.{Want}
 use Rattle.dl_history.specs.Accounts.{listing_of}
 use Rattle.dl_history.specs.Listings.{Listing}
 use Rattle.piece_table.specs.Progress.{Progress}
+use Rattle.resume_core.specs.Openings.{KeepsBesides}
 use Rattle.resume_core.specs.Runs.{LackRun, TornRun}
 use Rattle.resume_core.specs.States.{LeavesTemporary, PerformsFinish, PerformsSave, SamePayload}
 use Rattle.resume_core.specs.Steps.{SameBesides, SameFor}
@@ -22,12 +23,12 @@ use Rattle.resume_core.proofs.Same.{agrees_same, agrees_seen, sound_same}
 use Rattle.span_map.specs.Jobs.{IsRun}
 use Rattle.durable_progress.specs.Held.{IsHeld}
 use Rattle.durable_progress.specs.HeldLaws.{ListsNoneOf, SavesFrom}
-use Rattle.durable_progress.specs.HeldSteps.{IsHeldNow, OthersStaySound, StaysHeld, StaysHeldOrFinished, StaysHeldOrSaved}
+use Rattle.durable_progress.specs.HeldSteps.{HeldAreHeldStill, IsHeldNow, OthersStaySound, StaysHeld, StaysHeldOrFinished, StaysHeldOrSaved}
 use Rattle.durable_progress.proofs.Beside.{stays}
-use Rattle.durable_progress.proofs.Holding.{finishes_hold, held_lacks, same_held, saved_held, saves_hold, writes_hold}
+use Rattle.durable_progress.proofs.Holding.{elsewhere_hold, finishes_hold, held_lacks, same_held, saved_held, saves_hold, writes_hold}
 
 -- where the payload reads as before
-seen_held : (want : Want) (listing : Listing) (was now image : Files) → files_in want now ≡ files_in want was
+pub seen_held : (want : Want) (listing : Listing) (was now image : Files) → files_in want now ≡ files_in want was
     → IsHeld want listing was image → IsHeld want listing now image
 seen_held want listing was now image same held = record {
   control = held.control;
@@ -54,9 +55,14 @@ module _ (want : Want) (old new : DiskState) (seen : SameBesides want old.seen n
 -- a step that changes only the want's own files
 module _ (want : Want) (step : Files → Files → Type 0) (beside : (x y : Files) → step x y → SameBesides want x y)
     (old new : DiskState) (performs : Performs step old new) where
+  pub besides : KeepsBesides want old new
+  besides = record {
+    seen = beside old.seen new.seen performs.seen;
+    passes = passes_wider step (SameBesides want) old new beside performs.passes;
+  }
+
   pub others_stay : OthersStaySound want old new
-  others_stay = others_sound want old new (beside old.seen new.seen performs.seen)
-      (passes_wider step (SameBesides want) old new beside performs.passes)
+  others_stay = others_sound want old new besides.seen besides.passes
 
 -- ---- saves
 
@@ -103,6 +109,12 @@ module _ (back : WrittenIsReadBack) (follow : BlocksFollow) (want : Want) (run :
       writes_hold back follow want listing run old.seen new.seen
       (record { want_is = is; run_is = is_run; none = none; tears = performs.seen })
       before.0 image before.2 (held before.0 before.1)
+
+  -- also in an image that the write isn't made in
+  pub write_still : Performs (TornRun want run) old new → (listing : Listing) → ListsNoneOf listing run
+      → HeldAreHeldStill want listing old new
+  write_still performs listing none image held = elsewhere_hold back follow want listing run old.seen new.seen
+      (record { want_is = is; run_is = is_run; none = none; tears = performs.seen }) image held
 
 -- ---- the end
 

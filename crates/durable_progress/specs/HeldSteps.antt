@@ -30,6 +30,10 @@ StaysHeldOrFinished want listing old new =
     IsHeldNow want listing old
     → (image : Files) → LeftSince new old.moment image → IsHeld want listing new.seen image ⊎ IsFinished want new.seen image
 
+-- what is held as the disk read it is held as it reads it now
+abbrev pub HeldAreHeldStill : Want → Listing → DiskState → DiskState → Type 0
+HeldAreHeldStill want listing old new = (image : Files) → IsHeld want listing old.seen image → IsHeld want listing new.seen image
+
 -- a want that shares no name with this one stays as sound as it is
 abbrev pub OthersStaySound : Want → DiskState → DiskState → Type 0
 OthersStaySound want old new = (other : Want) → share_names want other ≡ false → StaysSound other old new

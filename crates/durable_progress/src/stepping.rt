@@ -4,9 +4,10 @@ ghost use Rattle.control_file.specs.Wants.{IsWant};
 ghost use Rattle.dl_history.specs.Accounts.{listing_of};
 ghost use Rattle.dl_history.specs.Listings.{Listing};
 ghost use Rattle.durable_progress.specs.HeldLaws.{ListsNoneOf};
-ghost use Rattle.durable_progress.specs.HeldSteps.{IsHeldNow, OthersStaySound, StaysHeld, StaysHeldOrFinished, StaysHeldOrSaved};
+ghost use Rattle.durable_progress.specs.HeldSteps.{HeldAreHeldStill, IsHeldNow, OthersStaySound, StaysHeld, StaysHeldOrFinished, StaysHeldOrSaved};
 ghost use Rattle.payload_files.specs.Payload.{HasFiles};
 ghost use Rattle.resume_core.specs.Causes.{HasStoreCause};
+ghost use Rattle.resume_core.specs.Openings.{KeepsBesides};
 ghost use Rattle.resume_core.specs.Runs.{HoldsRun, run_len};
 ghost use Rattle.resume_core.specs.Steps.{AreFinished};
 ghost use Rattle.resume_core.specs.Tables.{IsTableOf};
@@ -34,8 +35,11 @@ pub fn save_held<D: Disk>(
         (listing_of table.now) (D.state disk.old) (D.state disk.new) }
     ensures saved { OnOk result (IsTrue D.tells
         → IsHeldNow want.now (listing_of table.now) (D.state disk.new)) }
+    ensures still { IsTrue D.tells → (listing : Listing)
+        → HeldAreHeldStill want.now listing (D.state disk.old) (D.state disk.new) }
     ensures unmade { IsErrOf result NoMemory → IsTrue D.tells → (listing : Listing)
         → IsHeldNow want.now listing (D.state disk.old) → IsHeldNow want.now listing (D.state disk.new) }
+    ensures besides { IsTrue D.tells → KeepsBesides want.now (D.state disk.old) (D.state disk.new) }
     ensures others { IsTrue D.tells → OthersStaySound want.now (D.state disk.old) (D.state disk.new) }
     ensures cause { HasStoreCause (D.faults disk.old) (D.faults disk.new) result }
 {
@@ -62,6 +66,9 @@ pub fn write_held<D: Disk>(
         → HoldsRun want.now run bytes.now (D.state disk.old).seen (D.state disk.new).seen) }
     ensures held { IsTrue D.tells → (listing : Listing) → ListsNoneOf listing run
         → StaysHeld want.now listing (D.state disk.old) (D.state disk.new) }
+    ensures still { IsTrue D.tells → (listing : Listing) → ListsNoneOf listing run
+        → HeldAreHeldStill want.now listing (D.state disk.old) (D.state disk.new) }
+    ensures besides { IsTrue D.tells → KeepsBesides want.now (D.state disk.old) (D.state disk.new) }
     ensures others { IsTrue D.tells → OthersStaySound want.now (D.state disk.old) (D.state disk.new) }
     ensures cause { HasStoreCause (D.faults disk.old) (D.faults disk.new) result }
 {
@@ -77,8 +84,11 @@ pub fn finish_held<D: Disk>(alloc: Global, disk: &mut D, want: &Want) -> Result<
         → StaysHeldOrFinished want.now listing (D.state disk.old) (D.state disk.new) }
     ensures finished { OnOk result (IsTrue D.tells
         → AreFinished want.now (D.state disk.new).seen (D.state disk.new).may_leave) }
+    ensures still { IsTrue D.tells → (listing : Listing)
+        → HeldAreHeldStill want.now listing (D.state disk.old) (D.state disk.new) }
     ensures unmade { IsErrOf result NoMemory → IsTrue D.tells → (listing : Listing)
         → IsHeldNow want.now listing (D.state disk.old) → IsHeldNow want.now listing (D.state disk.new) }
+    ensures besides { IsTrue D.tells → KeepsBesides want.now (D.state disk.old) (D.state disk.new) }
     ensures others { IsTrue D.tells → OthersStaySound want.now (D.state disk.old) (D.state disk.new) }
     ensures cause { HasStoreCause (D.faults disk.old) (D.faults disk.new) result }
 {

@@ -1,5 +1,5 @@
 use Rattle.std.proofs.lemmas.Result.{on_ok_weaker}
-use Rattle.durable_progress.proofs.Steps.{others_stay, save_stays, table_held, unmade_held}
+use Rattle.durable_progress.proofs.Steps.{besides, others_stay, save_stays, seen_held, table_held, unmade_held}
 use Rattle.resume_core.specs.Tables.{SavesTable}
 use Rattle.resume_core.proofs.Fitted.{has_same}
 use Rattle.durable_progress.proofs.stepping.save_held.Goals as goal
@@ -44,3 +44,15 @@ returns-clause-saved g c =
     })
     (saved told))
     c.save.ensures.saved
+
+pub returns-clause-besides : goal.returns-clause-besides
+returns-clause-besides g c told =
+    let d = g.D.Disk in
+    besides c.args.want.now (SavesTable c.args.want.now c.args.table.now (d.state c.args.disk.now).seen)
+    (λ x y saves. saves.others) (d.state c.args.disk.now) (d.state c.save.new.disk) (c.save.ensures.performs told)
+
+pub returns-clause-still : goal.returns-clause-still
+returns-clause-still g c told listing image =
+    let d = g.D.Disk in
+    seen_held c.args.want.now listing (d.state c.args.disk.now).seen (d.state c.save.new.disk).seen image
+    (c.save.ensures.payload told)

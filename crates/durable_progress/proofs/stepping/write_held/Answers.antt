@@ -1,4 +1,4 @@
-use Rattle.durable_progress.proofs.Steps.{lacks, others_stay, write_stays}
+use Rattle.durable_progress.proofs.Steps.{besides, lacks, others_stay, write_stays, write_still}
 use Rattle.resume_core.specs.Runs.{TornRun}
 use Rattle.durable_progress.proofs.stepping.write_held.Goals as goal
 
@@ -21,4 +21,18 @@ returns-clause-others g c told =
     let d = g.D.Disk in
     others_stay c.args.want.now (TornRun c.args.want.now c.args.run)
     (λ x y tears name beside. tears.others name beside.files) (d.state c.args.disk.now) (d.state c.write_run.new.disk)
+    (c.write_run.ensures.performs told)
+
+pub returns-clause-besides : goal.returns-clause-besides
+returns-clause-besides g c told =
+    let d = g.D.Disk in
+    besides c.args.want.now (TornRun c.args.want.now c.args.run)
+    (λ x y tears name beside. tears.others name beside.files) (d.state c.args.disk.now) (d.state c.write_run.new.disk)
+    (c.write_run.ensures.performs told)
+
+pub returns-clause-still : goal.returns-clause-still
+returns-clause-still g c told =
+    let d = g.D.Disk in
+    write_still c.control_files_are_read.ensures.back c.plan_laws.ensures.follow c.args.want.now c.args.run
+    c.requires.want c.requires.run (d.state c.args.disk.now) (d.state c.write_run.new.disk)
     (c.write_run.ensures.performs told)
