@@ -8,9 +8,9 @@ import subprocess
 import sys
 import tempfile
 
-from cases import layouts, metainfos, moves, one_request, peers, replies, rests  # each lists its cases
+from cases import layouts, metainfos, moves, one_request, peers, replies, rests, stores  # each lists its cases
 from lib.mirrors import free_port
-from lib.rooms import CASES, PROGRAM, Room, Skipped, Wrong
+from lib.rooms import CASES, PROGRAM, STORE, Room, Skipped, Wrong
 
 
 def has_ipv6():
@@ -59,10 +59,11 @@ def main():
     # a stop from outside unwinds, so that each server is ended
     signal.signal(signal.SIGTERM, lambda *_: sys.exit(1))
     resource.setrlimit(resource.RLIMIT_CORE, (0, 0))
-    if not os.access(PROGRAM, os.X_OK):
-        print(f"there is no program at {PROGRAM}: rt ci makes it")
-        print(f"0 passed, {len(CASES)} failed")
-        return 1
+    for program in (PROGRAM, STORE):
+        if not os.access(program, os.X_OK):
+            print(f"there is no program at {program}: rt ci makes it")
+            print(f"0 passed, {len(CASES)} failed")
+            return 1
     counts = {"passed": 0, "skipped": 0, "FAILED": 0}
     gone = lacking()
     with concurrent.futures.ThreadPoolExecutor(max_workers=8) as pool:

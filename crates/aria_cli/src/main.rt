@@ -1,15 +1,8 @@
 //! The downloader over real files, TCP and standard output.
 #![tactic(auto)]
 
-mod disk;
-mod faults;
-mod link;
-mod output;
-
 use aria_top::{Finished, run};
-use disk::FileDisk;
-use link::TcpLinks;
-use output::StdOut;
+use real_edge::{FileDisk, StdOut, TcpLinks};
 use std::io::ErrorKind;
 use std::process::ExitCode;
 use std::random::RandomSource;

@@ -45,7 +45,8 @@ fn read_hash(
 
 #[tactic(auto, unfolding(crate::specs::Reading::lengths_at, crate::specs::Reading::field_at))]
 fn read_lengths(order: ByteOrder, fields: &mut Fields<'_>) -> Result<(Plan, u64), ControlErr>
-    ensures { Gives (λ lengths. (specs.lengths_of lengths.0 lengths.1, unread fields.new)) specs.control_fault result
+    ensures { Gives (λ lengths. (specs.lengths_of lengths.0 lengths.1, unread fields.new))
+        specs.control_fault result
         (specs.lengths_at order (unread fields.old)) }
 {
     let at = fields.at;
@@ -151,7 +152,8 @@ fn read_progress(
     plan: &Plan,
     fields: &mut Fields<'_>,
 ) -> Result<(BitRow, InFlights), ControlErr>
-    ensures { Gives (λ progress. (progress.0, progress.1, unread fields.new)) specs.control_fault result
+    ensures { Gives (λ progress. (progress.0, progress.1, unread fields.new))
+        specs.control_fault result
         (specs.progress_at order plan.now.total plan.now.piece_len (unread fields.old)) }
 {
     let pieces = read_row(alloc, order, plan.pieces, fields)?;
@@ -193,8 +195,8 @@ impl Control {
         // What is read is what the bytes say.
         ensures found { IfOk result (λ control. IsControlFile bytes.now control) }
         // What the bytes say is read, unless memory runs out.
-        ensures only { (c : Control) → IsControlFile bytes.now c → Gives (λ c. c) specs.control_fault result
-            (Ok c) }
+        ensures only { (c : Control) → IsControlFile bytes.now c
+            → Gives (λ c. c) specs.control_fault result (Ok c) }
         // Which value or fault it is.
         ensures exact { Gives (λ control. control) specs.control_fault result
             (specs.control_in bytes.now) }

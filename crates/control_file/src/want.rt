@@ -56,7 +56,8 @@ fn are_digests(hash: &[u8], digests: &Digests, pieces: u32) -> bool
 impl Want {
     // Whether there is a digest for each piece of a listed download, and none of another.
     fn has_digests(&self) -> bool
-        ensures { IsTrue result ↔ AreDigestsOf self.now.plan.pieces self.now.info_hash self.now.digests }
+        ensures { IsTrue result
+            ↔ AreDigestsOf self.now.plan.pieces self.now.info_hash self.now.digests }
     {
         match &self.info_hash {
             Some(hash) => are_digests(hash.as_slice(), &self.digests, self.plan.pieces),

@@ -45,7 +45,8 @@ fn put_in_flight(out: &mut Vec<u8>, piece: &InFlight) -> Result<(), AllocError>
 }
 
 fn put_flight(out: &mut Vec<u8>, pieces: &[InFlight]) -> Result<(), AllocError>
-    ensures { OnOk result (out.new.items ≡ out.old.items ++ flat_map (in_flight_bytes Big) pieces.now) }
+    ensures { OnOk result (out.new.items
+        ≡ out.old.items ++ flat_map (in_flight_bytes Big) pieces.now) }
 {
     for piece in pieces {
         put_in_flight(out, piece)?;

@@ -2,11 +2,11 @@
 ghost use Rattle.std.specs.Prelude.{◌≡◌, IsTrue, IsErrOf, OnOk};
 ghost use Rattle.dl_kinds.specs.Causes.{HasCause};
 ghost use Rattle.dl_kinds.specs.declared.outside.IoErr.TheVariants.{NoMemory as OutOfMemory};
-ghost use Rattle.dl_disk.specs.Files.{Follows};
 ghost use Rattle.dl_disk.specs.Passes.{Performs};
 ghost use Rattle.control_file.specs.Spelling.{IsWritableControl, control_bytes};
 ghost use Rattle.control_file.specs.declared.fields.ByteOrder.TheVariants.{Big};
-ghost use Rattle.resume_core.specs.Steps.{SameBut, Saves, AreSaved};
+ghost use Rattle.resume_core.specs.States.{LeavesTemporary};
+ghost use Rattle.resume_core.specs.Steps.{Saves, AreSaved};
 ghost use Rattle.control_file.specs.Wants.{IsWant};
 ghost use Rattle.resume_core.specs.Wants.{control_name, temporary_name};
 
@@ -34,8 +34,8 @@ fn sync_and_put<D: Disk>(
         → AreSaved want.now bytes.now (D.state disk.old).seen (D.state disk.new).may_leave) }
     ensures performs { IsTrue D.tells → Performs
         (Saves want.now bytes.now (D.state disk.old).seen) (D.state disk.old) (D.state disk.new) }
-    ensures unmade { IsErrOf result OutOfMemory → IsTrue D.tells → Follows
-        (SameBut (temporary_name want.now)) (D.state disk.old).may_leave (D.state disk.new).may_leave }
+    ensures unmade { IsErrOf result OutOfMemory → IsTrue D.tells
+        → LeavesTemporary want.now (D.state disk.old) (D.state disk.new) }
     ensures folders { IsTrue D.tells → (D.state disk.new).folders ≡ (D.state disk.old).folders }
     ensures cause { HasCause (D.faults disk.old) (D.faults disk.new) result }
 {
@@ -57,8 +57,8 @@ pub(crate) fn put_listing<D: Disk>(
     ensures performs { IsTrue D.tells → Performs
         (Saves want.now (control_bytes Big control.now) (D.state disk.old).seen)
         (D.state disk.old) (D.state disk.new) }
-    ensures unmade { IsErrOf result OutOfMemory → IsTrue D.tells → Follows
-        (SameBut (temporary_name want.now)) (D.state disk.old).may_leave (D.state disk.new).may_leave }
+    ensures unmade { IsErrOf result OutOfMemory → IsTrue D.tells
+        → LeavesTemporary want.now (D.state disk.old) (D.state disk.new) }
     ensures folders { IsTrue D.tells → (D.state disk.new).folders ≡ (D.state disk.old).folders }
     ensures cause { HasCause (D.faults disk.old) (D.faults disk.new) result }
 {

@@ -30,7 +30,8 @@ fn listed_row(alloc: Global, table: &Table) -> Result<BitRow, AllocError>
 fn piece_row(alloc: Global, plan: &Plan, listed: &BitRow, piece: u32) -> Result<BitRow, AllocError>
     requires piece { piece < plan.now.pieces }
     requires blocks { length listed.now ≡ blocks_of plan.now.total plan.now.piece_len }
-    ensures { IfOk result (λ row. row ≡ piece_part plan.now.total plan.now.piece_len listed.now piece) }
+    ensures { IfOk result (λ row. row
+        ≡ piece_part plan.now.total plan.now.piece_len listed.now piece) }
 {
     let count = plan.blocks_in(piece) as u32;
     let first = piece * plan.piece_len.div_ceil(BLOCK_LEN);
@@ -55,9 +56,11 @@ fn add_piece(
     requires piece { piece < plan.now.pieces }
     requires pieces { length verified.now ≡ plan.now.pieces }
     requires blocks { length listed.now ≡ blocks_of plan.now.total plan.now.piece_len }
-    requires flight { ArePartial plan.now.total plan.now.piece_len verified.now listed.now piece flight.old }
+    requires flight { ArePartial plan.now.total plan.now.piece_len verified.now listed.now
+        piece flight.old }
     ensures { OnOk result
-        (ArePartial plan.now.total plan.now.piece_len verified.now listed.now (piece + 1) flight.new) }
+        (ArePartial plan.now.total plan.now.piece_len verified.now listed.now (piece + 1)
+        flight.new) }
 {
     if verified.get(piece) {
         return Ok(());

@@ -109,7 +109,8 @@ fn put_opened<D: Disk>(
 ) -> Result<(), IoErr>
     requires want { IsWant want.now }
     requires rows { AreOpenedRows want.now opened.now }
-    requires files { IsTrue D.tells → HasFiles want.now.dir want.now.layout (D.state disk.old).seen }
+    requires files { IsTrue D.tells
+        → HasFiles want.now.dir want.now.layout (D.state disk.old).seen }
     ensures opened { OnOk result (IsTrue D.tells → AreOpenedIn want.now opened.now
         (D.state disk.new).seen (D.state disk.new).may_leave) }
     ensures payload { IsTrue D.tells

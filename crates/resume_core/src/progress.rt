@@ -45,7 +45,8 @@ pub fn save<D: Disk>(
 ) -> Result<(), StoreErr>
     requires want { IsWant want.now }
     requires table { IsTableOf want.now table.now }
-    requires lengths { IsTrue D.tells → HasFiles want.now.dir want.now.layout (D.state disk.old).seen }
+    requires lengths { IsTrue D.tells
+        → HasFiles want.now.dir want.now.layout (D.state disk.old).seen }
 
     // At each moment an image is one of those at the start, or has the new control file beside the payload.
     ensures performs { IsTrue D.tells

@@ -105,7 +105,8 @@ fn read_control<D: Disk>(
         → IsOurControl want.now control ((D.state disk.old).seen (control_name want.now))) }
     ensures refused { IfErr result (λ err. IsTrue D.tells → IsRefusal err
         → (standing : Option ℕ)
-        → refused_over want.now ((D.state disk.old).seen (control_name want.now)) standing ≡ Some err) }
+        → refused_over want.now ((D.state disk.old).seen (control_name want.now)) standing
+        ≡ Some err) }
     ensures rules { IfOk result (λ control. IfSome control (IsControlOf want.now)) }
     ensures looks { IsTrue D.tells
         → LooksPast (IsNoControl want.now) (D.state disk.old) (D.state disk.new) }
@@ -120,7 +121,8 @@ fn read_control<D: Disk>(
 // What was looked up, where no unlisted payload stands without a control file.
 fn guarded(want: &Want, control: Option<Control>, lens: Vec<Option<u64>>) -> Result<Survey, OpenErr>
     ensures survey { IfOk result (λ survey. survey ≡ record { control = control; lens = lens }) }
-    ensures free { OnOk result (control ≡ None → in_the_way want.now (first_len lens.items) ≡ None) }
+    ensures free { OnOk result (control ≡ None
+        → in_the_way want.now (first_len lens.items) ≡ None) }
     ensures stands { IfErr result (λ err. control ≡ None) }
     ensures refused { IfErr result (λ err. in_the_way want.now (first_len lens.items) ≡ Some err) }
     ensures no_fault { IfErr result (λ err. err ≢ Unopened) }

@@ -12,7 +12,8 @@ use dl_kinds::IoErr;
 
 /// Makes this file of these bytes, and makes it last.
 pub(crate) fn write_whole<D: Disk>(disk: &mut D, name: &str, bytes: &[u8]) -> Result<(), IoErr>
-    ensures written { OnOk result (IsTrue D.tells → (D.state disk.new).seen name.now ≡ Some bytes.now) }
+    ensures written { OnOk result (IsTrue D.tells
+        → (D.state disk.new).seen name.now ≡ Some bytes.now) }
     ensures durable { OnOk result (IsTrue D.tells → IsDurable name.now (D.state disk.new)) }
     ensures performs { IsTrue D.tells
         → Performs (SameBut name.now) (D.state disk.old) (D.state disk.new) }
@@ -36,9 +37,11 @@ pub(crate) fn put_file<D: Disk>(
     ensures put { OnOk result (IsTrue D.tells → (D.state disk.new).seen name.now ≡ Some bytes.now) }
     ensures durable { OnOk result (IsTrue D.tells → IsDurable name.now (D.state disk.new)) }
     ensures performs { IsTrue D.tells
-        → Performs (PutsOrKeeps temporary.now name.now bytes.now) (D.state disk.old) (D.state disk.new) }
+        → Performs (PutsOrKeeps temporary.now name.now bytes.now) (D.state disk.old)
+        (D.state disk.new) }
     ensures unmade { IsErrOf result NoMemory → IsTrue D.tells
-        → Follows (SameBut temporary.now) (D.state disk.old).may_leave (D.state disk.new).may_leave }
+        → Follows (SameBut temporary.now) (D.state disk.old).may_leave
+        (D.state disk.new).may_leave }
     ensures folders { IsTrue D.tells → (D.state disk.new).folders ≡ (D.state disk.old).folders }
     ensures cause { HasCause (D.faults disk.old) (D.faults disk.new) result }
 {

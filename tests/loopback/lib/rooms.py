@@ -12,6 +12,9 @@ TOP = os.path.realpath(f"{os.path.dirname(__file__)}/../../..")
 BUILT = f"{TOP}/crates/aria_cli/out/aria_cli"
 PROGRAM = os.path.realpath(sys.argv[1])
 
+# A program that shows the store over files by itself, which `rt ci` makes as well.
+STORE = f"{TOP}/crates/tests_real_store/out/tests_real_store"
+
 # The seconds that a run may take.
 LIMIT = 30
 
@@ -138,6 +141,24 @@ class Room:
         made = self.control_files() - stood
         want(not made, f"a control file stands: {made}")
         return started.returncode, wrote
+
+    def store(self, *words):
+        """What the store tells of each of these words about the download of the metainfo file, in this folder."""
+        ran = subprocess.run(
+            [STORE, "t.torrent", ".", *words],
+            cwd=self.folder,
+            stdin=subprocess.DEVNULL,
+            capture_output=True,
+            timeout=LIMIT,
+            check=False,
+        )
+        want((ran.returncode, ran.stderr) == (0, b""), f"the store ended with {ran.returncode}, {ran.stderr[:200]!r}")
+        return ran.stdout.decode().splitlines()
+
+    def stores(self, *told, words=("open",)):
+        """The store tells these lines."""
+        got = self.store(*words)
+        want(got == [*told], f"the store told {got}, and not {[*told]}")
 
     def refuses(self, status, *words, **how):
         """The run ends with this status, and writes it as an error."""
