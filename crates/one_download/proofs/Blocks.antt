@@ -1,13 +1,14 @@
 -- The blocks of pieces.
-use Rattle.std.proofs.Common.{◌≡◌, ◌≢◌, ℕ, ◌+◌, ◌*◌, ◌<◌, ◌≤◌, Bool, true, false, List, All, length, get_or, take, drop, Some, slice_get, refl, sym, ap, ◌∙◌, subst, arith}
-use Rattle.std.specs.Prelude.{◌&&◌, not, nat_le, slice_index_or, find, Contains}
+use Rattle.std.proofs.Common.{◌≡◌, ◌≢◌, ◌↔◌, ℕ, ◌+◌, ◌-◌, ◌*◌, ◌<◌, ◌≤◌, Bool, true, false, List, All, length, get_or, take, drop, Some, slice_get, refl, sym, ap, ◌∙◌, subst, arith}
+use Rattle.std.specs.Prelude.{IsTrue, slice_index_or}
 use Rattle.std.proofs.lemmas.List.{length-take, length-drop, get_or-take, get_or-drop}
 use Rattle.std.proofs.lemmas.List.Elements.{All-get_or, All-from_get_or}
 use Rattle.std.proofs.lemmas.Option.{slice_get-get_or, get_or_from_slice_get}
 use Rattle.dl_kinds.specs.Plan.{IsPlan, blocks_of, blocks_of_piece, full_blocks, piece_of, pieces_of, place_of}
 use Rattle.dl_kinds.specs.PlanLaws.{BlocksAreOfPieces, PlacesAreNumbered}
 use Rattle.piece_table.specs.Progress.{IsFull, IsValid, Progress, piece_part}
-use Rattle.one_download.specs.DownloadViews.{HasPiece, IsUnverified}
+use Rattle.dl_history.specs.Accounts.{Account}
+use Rattle.one_download.specs.DownloadViews.{HasPiece, IsToSettle, IsUnverified}
 
 get_or_part : (xs : List Bool) (at len k : ℕ) (d : Bool) → k < len → get_or (take len (drop at xs)) k d ≡ get_or xs (at + k) d
 get_or_part xs at len k d below = get_or-take len (drop at xs) k d below ∙ get_or-drop at xs k d
@@ -67,3 +68,40 @@ unlanded_unverified p b piece of_pieces plan v below is unlanded =
           (λ e. e)
           here;
     }
+
+-- a block from the first of a piece to its last is of the piece
+pub number_of : (total len piece b : ℕ) → PlacesAreNumbered → IsPlan total len → piece < pieces_of total len
+    → piece * full_blocks len ≤ b → b < piece * full_blocks len + blocks_of_piece total len piece
+    → piece_of len b ≡ piece
+number_of total len piece b numbered plan known low high =
+    let place : ℕ = b - piece * full_blocks len in
+    let is : piece * full_blocks len + place ≡ b = omega arith in
+    subst (λ n. piece_of len n ≡ piece) is (numbered total len piece place plan known (omega arith)).number.of
+
+-- ---- pieces that are to be settled
+
+pub settled_once : (k : Account) (piece : ℕ) → slice_get k.settled piece ≡ Some true → ¬ IsToSettle k piece
+settled_once k piece is to =
+    let here : slice_index_or k.settled piece false ≡ true = get_or_from_slice_get k.settled piece true false is in
+    let anew = to.anew in
+    absurd cc
+
+pub verified_once : (k : Account) (piece : ℕ) → slice_get k.progress.verified piece ≡ Some true → ¬ IsToSettle k piece
+verified_once k piece is to = let un = to.full.unverified.unverified in absurd cc
+
+pub settled_by_full : (k : Account) (piece : ℕ) (full : Bool) → BlocksAreOfPieces → PlacesAreNumbered
+    → IsPlan k.progress.total k.progress.piece_len → IsValid k.progress
+    → piece < pieces_of k.progress.total k.progress.piece_len
+    → slice_get k.settled piece ≡ Some false → slice_get k.progress.verified piece ≡ Some false
+    → IsTrue full ↔ IsFull k.progress.total k.progress.piece_len k.progress.landed piece
+    → IsTrue full ↔ IsToSettle k piece
+settled_by_full k piece full of_pieces numbered plan v known settled unverified says = (
+  λ is. record {
+        full = record {
+          unverified = record { known = known; unverified = unverified };
+          full = blocks_of_full k.progress piece of_pieces plan v.start.blocks (says.0 is);
+        };
+        anew = get_or_from_slice_get k.settled piece false false settled;
+      },
+  λ to. says.1 (full_of_blocks k.progress piece numbered plan known to.full.full),
+)

@@ -5,3 +5,5 @@ pub mod Thefts
 pub mod Halting
 pub mod Mirrors
 pub mod Histories
+pub mod Unopened
+pub mod Lost

@@ -1,17 +1,20 @@
 -- What may be stolen goes by the claims, not by how they were looked at.
 use Rattle.std.proofs.Common.{◌≡◌, ◌⊎◌, ℕ, zero, suc, ◌+◌, ◌-◌, ◌/◌, ◌<◌, ◌≤◌, true, List, [], ◌∷◌, All, length, get_or, refl, sym, ap, ◌∙◌, subst, inl, inr, ⊎_elim, arith}
-use Rattle.std.specs.Prelude.{Contains, IsTrue, Some, None}
+use Rattle.std.specs.Prelude.{Contains, IfNone, IsTrue, Option, Some, None}
 use Rattle.std.specs.List.{AllZip}
-use Rattle.std.proofs.lemmas.List.Elements.{All-head, All-tail}
+use Rattle.std.proofs.lemmas.List.Elements.{All-contains, All-head, All-tail}
 use Rattle.dl_kinds.specs.declared.claims.Claim.{Claim}
 use Rattle.dl_kinds.specs.declared.claims.ClaimView.{ClaimView}
 use Rattle.dl_kinds.specs.declared.runs.Run.{Run}
 use Rattle.segment_claim.specs.Free.{HasNoFreeClaim, IsMirrorFor}
 use Rattle.segment_claim.specs.Situation.{Situation}
-use Rattle.segment_claim.specs.Theft.{AreViews, IsTheft}
+use Rattle.segment_claim.specs.Book.{ClaimBook}
+use Rattle.segment_claim.specs.Sound.{IsWithinBlocks}
+use Rattle.segment_claim.specs.Theft.{AreViews, IsStealOf}
+use Rattle.slow_steal.specs.declared.theft.Steal.{Steal}
 use Rattle.segment_claim.specs.Views.{IsOwnRun, IsViewOf}
 use Rattle.slow_steal.specs.Theft.{IsSteal, MayLose, later_half}
-use Rattle.one_download.specs.Grants.{IsFreeChoice, IsTheftChoice}
+use Rattle.one_download.specs.Grants.{IsBlockChoice, IsFreeChoice, IsTheftChoice}
 use Rattle.one_download.specs.declared.choices.Choice.{Choice}
 
 -- a claim has one own run, where it has own blocks
@@ -82,3 +85,20 @@ no_theft s now views are none choice is =
 -- a free claim is none where no mirror is found for any stretch
 pub no_free : (s : Situation) → HasNoFreeClaim s → (choice : Choice) → ¬ IsFreeChoice s choice
 no_free s none choice is = none is.free.stretch choice.mirror is.free.grantable
+
+-- what is stolen is of the payload
+pub steal_within : (book : ClaimBook) (steal : Steal) (blocks : ℕ) → IsStealOf book steal
+    → All (IsWithinBlocks blocks) book.standing → steal.run.first + steal.run.count ≤ blocks
+steal_within book steal blocks of all =
+    let within = (All-contains (IsWithinBlocks blocks) book.standing of.claim all of.stands).within in
+    let to = of.to in
+    omega arith
+
+-- neither is a choice of blocks, where there is no theft
+pub no_choice : (s : Situation) (now : ℕ) (o : Option Choice) → HasNoFreeClaim s
+    → IfNone o ((choice : Choice) → ¬ IsTheftChoice s now choice)
+    → IfNone o ((choice : Choice) → ¬ IsBlockChoice s now choice)
+no_choice s now None nothing none = λ choice is.
+    ⊎_elim (λ (free : IsFreeChoice s choice). no_free s nothing choice free)
+    (λ (theft : IsTheftChoice s now choice). none choice theft) is.blocks
+no_choice s now (Some c) nothing none = tt

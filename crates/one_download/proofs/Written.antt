@@ -1,6 +1,7 @@
 -- Rows that are written anew, from their first place on.
 use Rattle.std.proofs.Common.{◌≡◌, ◌≢◌, ◌⊎◌, ◌↔◌, ℕ, zero, suc, ◌+◌, ◌<◌, ◌≤◌, Bool, true, false, List, [], ◌∷◌, length, map, get_or, set, Some, slice_get, refl, sym, ap, zero-add, ◌∙◌, inl, inr, ⊎_elim, arith}
 use Rattle.std.specs.Prelude.{◌&&◌, ◌||◌, not, IsTrue}
+use Rattle.std.specs.Bool.{beq}
 use Rattle.std.specs.List.{range_with_len}
 use Rattle.std.proofs.lemmas.Bool.{cases_eq}
 use Rattle.std.proofs.lemmas.List.{length-set, get_or-set_same, get_or-set_other, ext_get_or}
@@ -125,3 +126,34 @@ pub listed_value : (p : Progress) (b : ℕ) (value : Bool) → IsTrue value ↔ 
 listed_value p b value says v within known =
     same_truth value (lists_block p b) (λ t. listed_is p b (says.0 t))
     (λ t. says.1 (is_listed_by p b v within known t))
+
+-- ---- rows that are compared
+
+pub written_on : (f : ℕ → Bool) (many place : ℕ) (row : List Bool) → IsWritten f many place row
+    → get_or row place false ≡ f place → IsWritten f many (place + 1) row
+written_on f many place row w is =
+    record {
+      long = w.long;
+      each = λ i below.
+          ⊎_elim (λ (here : i ≡ place). rw here is)
+          (λ (other : i ≢ place). w.each i (omega arith))
+          (cases_eq i place);
+    }
+
+pub differs : (f : ℕ → Bool) (many place : ℕ) (row : List Bool) → place < many → get_or row place false ≢ f place
+    → row ≢ map f (range_with_len 0 many)
+differs f many place row within other same =
+    other (ap (λ (r : List Bool). get_or r place false) same
+    ∙ get_or-map-range_with_len f 0 many place place false within (zero-add place))
+
+pub not_apart : (a b : Bool) → not (beq a b) ≡ false → a ≡ b
+not_apart true true h = refl
+not_apart true false h = absurd cc
+not_apart false true h = absurd cc
+not_apart false false h = refl
+
+pub apart : (a b : Bool) → not (beq a b) ≡ true → a ≢ b
+apart true true h = absurd cc
+apart true false h = λ e. absurd cc
+apart false true h = λ e. absurd cc
+apart false false h = absurd cc

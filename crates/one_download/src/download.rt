@@ -201,7 +201,7 @@ impl OneDownload {
         ensures account { self.new.account ≡ after_finding self.old.account piece right result }
         ensures rest { StaysUnmarked self.old self.new }
         ensures known { IsGiverAmong self.old.mirrors result }
-        ensures piece { piece < MAX_PIECES }
+        ensures number { piece < MAX_PIECES }
     {
         match &mut self.payload {
             Some(payload) => payload.settled(piece, right),
@@ -470,7 +470,8 @@ impl OneDownload {
         ensures none { IfNone result ((mirror : ℕ) → ¬ IsProbeMirror (situation_with self.now split hosts.now) mirror) }
     {
         let loads = [0; MAX_MIRRORS as usize];
-        self.marks.choose(0, 0, &loads[..hosts.len()], split.per_host)
+        let standing = &loads[..hosts.len()];
+        self.marks.choose(0, 0, standing, split.per_host)
     }
 
     /// The blocks and the mirror of the claim that it is granted next: the free claim, and without one a theft.

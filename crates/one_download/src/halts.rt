@@ -58,8 +58,9 @@ pub fn end_soles(plan: &Plan, table: &mut Table, claims: &mut Claims)
     let firsts = first_blocks(claims, table);
     let count = claims.standing();
     for done in 0..count {
-        if let Some(block) = firsts[(count - 1 - done) as usize] {
-            end_sole(table, claims, plan.piece_of(block));
+        match firsts[(count - 1 - done) as usize] {
+            Some(block) => end_sole(table, claims, plan.piece_of(block)),
+            None => {}
         }
     }
 }

@@ -1,14 +1,15 @@
 // The payload of a download that is opened.
-ghost use Rattle.std.specs.Prelude.{◌≡◌, ◌↔◌, ℕ, IsTrue, ◌+◌, ◌-◌, ◌<◌, ◌≤◌, true, false, Some, IfNone, IfOk, IfSome, OnOk, length, slice_get};
+ghost use Rattle.std.specs.Prelude.{◌≡◌, ◌↔◌, ◌||◌, ℕ, IsTrue, ◌+◌, ◌-◌, ◌<◌, ◌≤◌, true, false, Some, IfNone, IfOk, IfSome, OnOk, length, slice_get};
 ghost use Rattle.std.specs.Option.{is_some, option_and_then};
-ghost use Rattle.dl_history.specs.Accounts.{after_finding, after_halt, after_landing, after_loss, after_save, at_opening, first_still_open, listing_of, with_claim, without_piece, unsettled_by};
+ghost use Rattle.dl_history.specs.Accounts.{after_finding, after_halt, after_landing, after_loss, after_save, at_opening, first_still_open, listing_of, with_claim, with_finding, without_piece, unsettled_by};
 ghost use Rattle.dl_history.specs.Listings.{ListsNone};
 ghost use Rattle.dl_kinds.specs.Plan.{blocks_of, pieces_of};
+ghost use Rattle.dl_kinds.specs.declared.plan.TheConstants.{MAX_PIECES};
 ghost use Rattle.one_download.specs.DownloadViews.{IsFullUnverified, IsNextToSettle, IsOpenAt, IsToSettle, IsUnverified, standing_under};
 ghost use Rattle.one_download.specs.Grants.{IsBlockChoice, MaySplit, situation_for};
 ghost use Rattle.one_download.specs.PayloadViews.{IsRunOf, account_before};
 ghost use Rattle.one_download.specs.declared.choices.Choice.{Choice};
-ghost use Rattle.piece_table.specs.Progress.{IsStart};
+ghost use Rattle.piece_table.specs.Progress.{IsFull, IsStart};
 ghost use Rattle.segment_claim.specs.declared.limits.TheConstants.{MAX_SPLIT};
 
 use crate::choosing::choose;
@@ -68,6 +69,28 @@ fn unsettle(plan: &Plan, run: Run, settled: &mut BitRow)
     for block in run.first..run.first + run.count {
         settled.clear(plan.piece_of(block));
     }
+}
+
+// A full, unverified piece is found right or wrong. Its blocks came from this giver.
+fn find(table: &mut Table, piece: u32, right: bool, giver: Giver)
+    requires full { IsFull table.old.total table.old.piece_len table.old.landed piece }
+    requires unverified { IsUnverified table.old piece }
+    ensures { table.new ≡ with_finding table.old piece right giver }
+{
+    table.settle(piece, right);
+    if right {
+        return;
+    }
+    match giver {
+        Giver::Mixed => table.make_sole(piece),
+        _ => {}
+    }
+}
+
+fn either(one: bool, other: bool) -> bool
+    ensures { result ≡ (one || other) }
+{
+    one || other
 }
 
 impl Payload {
@@ -130,15 +153,11 @@ impl Payload {
         ensures account { self.new.account ≡ after_finding self.old.account piece right result }
         ensures wanted { self.new.wanted ≡ self.old.wanted }
         ensures room { self.new.spare ≡ self.old.spare }
+        ensures number { piece < MAX_PIECES }
     {
+        plan_laws();
         let giver = self.table.giver(piece);
-        self.table.settle(piece, right);
-        if !right {
-            match giver {
-                Giver::Mixed => self.table.make_sole(piece),
-                _ => {}
-            }
-        }
+        find(&mut self.table, piece, right, giver);
         self.settled.set(piece);
         giver
     }
@@ -161,6 +180,9 @@ impl Payload {
         ensures wanted { self.new.wanted ≡ self.old.wanted }
         ensures room { self.old.spare ≤ self.new.spare }
     {
+        plan_laws();
+        let _ = self.table.blocks();
+        let _ = self.claims.standing();
         self.claims.void(id);
         if self.table.is_sole(piece) {
             self.table.clear(piece);
@@ -196,7 +218,8 @@ impl Payload {
     {
         end_soles(&self.plan, &mut self.table, &mut self.claims);
         self.claims.end_all();
-        self.ended = ends || self.ended;
+        let ended = either(ends, self.ended);
+        self.ended = ended;
     }
 
     /// Makes room for one more claim.
@@ -357,6 +380,13 @@ impl Payload {
         ensures { IsTrue result ↔ IsToSettle self.now.account piece }
     {
         plan_laws();
-        self.table.is_full(piece) && !self.table.is_verified(piece) && !self.settled.get(piece)
+        if self.settled.get(piece) {
+            return false;
+        }
+        if self.table.is_verified(piece) {
+            return false;
+        }
+        let _ = self.table.blocks();
+        self.table.is_full(piece)
     }
 }
