@@ -1,5 +1,5 @@
 -- The blocks of pieces.
-use Rattle.std.proofs.Common.{◌≡◌, ◌≢◌, ◌↔◌, ℕ, ◌+◌, ◌-◌, ◌*◌, ◌<◌, ◌≤◌, Bool, true, false, List, All, length, get_or, take, drop, Some, slice_get, refl, sym, ap, ◌∙◌, subst, arith}
+use Rattle.std.proofs.Common.{◌≡◌, ◌↔◌, ℕ, ◌+◌, ◌-◌, ◌*◌, ◌<◌, ◌≤◌, Bool, true, false, List, length, get_or, take, drop, Some, slice_get, sym, ◌∙◌, subst, arith}
 use Rattle.std.specs.Prelude.{IsTrue, slice_index_or}
 use Rattle.std.proofs.lemmas.List.{length-take, length-drop, get_or-take, get_or-drop}
 use Rattle.std.proofs.lemmas.List.Elements.{All-get_or, All-from_get_or}
@@ -8,7 +8,7 @@ use Rattle.dl_kinds.specs.Plan.{IsPlan, blocks_of, blocks_of_piece, full_blocks,
 use Rattle.dl_kinds.specs.PlanLaws.{BlocksAreOfPieces, PlacesAreNumbered}
 use Rattle.piece_table.specs.Progress.{IsFull, IsValid, Progress, piece_part}
 use Rattle.dl_history.specs.Accounts.{Account}
-use Rattle.one_download.specs.DownloadViews.{HasPiece, IsToSettle, IsUnverified}
+use Rattle.one_download.specs.DownloadViews.{IsPieceLanded, IsToSettle, IsUnverified}
 
 get_or_part : (xs : List Bool) (at len k : ℕ) (d : Bool) → k < len → get_or (take len (drop at xs)) k d ≡ get_or xs (at + k) d
 get_or_part xs at len k d below = get_or-take len (drop at xs) k d below ∙ get_or-drop at xs k d
@@ -16,7 +16,7 @@ get_or_part xs at len k d below = get_or-take len (drop at xs) k d below ∙ get
 -- what is found at each number of a piece is found in its part ..
 pub full_of_blocks : (p : Progress) (piece : ℕ) → PlacesAreNumbered → IsPlan p.total p.piece_len
     → piece < pieces_of p.total p.piece_len
-    → HasPiece p piece → IsFull p.total p.piece_len p.landed piece
+    → IsPieceLanded p piece → IsFull p.total p.piece_len p.landed piece
 full_of_blocks p piece numbered plan known has =
     let at = piece * full_blocks p.piece_len in
     let n = blocks_of_piece p.total p.piece_len piece in
@@ -29,7 +29,7 @@ full_of_blocks p piece numbered plan known has =
 -- .. and the other way round
 pub blocks_of_full : (p : Progress) (piece : ℕ) → BlocksAreOfPieces → IsPlan p.total p.piece_len
     → length p.landed ≡ blocks_of p.total p.piece_len
-    → IsFull p.total p.piece_len p.landed piece → HasPiece p piece
+    → IsFull p.total p.piece_len p.landed piece → IsPieceLanded p piece
 blocks_of_full p piece of_pieces plan long full b below is =
     let at = piece * full_blocks p.piece_len in
     let n = blocks_of_piece p.total p.piece_len piece in
@@ -97,11 +97,11 @@ pub settled_by_full : (k : Account) (piece : ℕ) (full : Bool) → BlocksAreOfP
     → IsTrue full ↔ IsToSettle k piece
 settled_by_full k piece full of_pieces numbered plan v known settled unverified says = (
   λ is. record {
-        full = record {
-          unverified = record { known = known; unverified = unverified };
-          full = blocks_of_full k.progress piece of_pieces plan v.start.blocks (says.0 is);
-        };
-        anew = get_or_from_slice_get k.settled piece false false settled;
-      },
+    full = record {
+      unverified = record { known = known; unverified = unverified };
+      full = blocks_of_full k.progress piece of_pieces plan v.start.blocks (says.0 is);
+    };
+    anew = get_or_from_slice_get k.settled piece false false settled;
+  },
   λ to. says.1 (full_of_blocks k.progress piece numbered plan known to.full.full),
 )

@@ -1,13 +1,13 @@
 -- What the end of all claims makes of what is kept of a download.
-use Rattle.std.proofs.Common.{◌≡◌, ℕ, zero, suc, ◌+◌, ◌-◌, ◌<◌, ◌≤◌, All, Bool, true, false, cond, Option, Some, None, List, [], ◌∷◌, length, drop, get_or, slice_get, refl, sym, ap, subst, ◌∙◌, arith}
-use Rattle.std.specs.Prelude.{◌&&◌, ◌||◌, find, nat_le, nat_lt, not, slice_index_or, slice_set}
+use Rattle.std.proofs.Common.{◌≡◌, ℕ, zero, suc, ◌+◌, ◌-◌, ◌<◌, ◌≤◌, All, Bool, true, false, cond, Option, Some, None, List, [], ◌∷◌, length, drop, slice_get, refl, sym, ap, subst, ◌∙◌, arith}
+use Rattle.std.specs.Prelude.{◌&&◌, ◌||◌, find, nat_le, nat_lt, not, slice_index_or}
 use Rattle.std.proofs.lemmas.Bool.Decides.{nat_tests}
 use Rattle.std.specs.Option.{option_and_then}
 use Rattle.std.proofs.lemmas.List.Elements.{All-get_or}
 use Rattle.std.proofs.lemmas.Option.{get_or_from_slice_get}
 use Rattle.dl_kinds.specs.Plan.{piece_of}
 use Rattle.dl_kinds.specs.declared.claims.Claim.{Claim}
-use Rattle.dl_history.specs.Accounts.{Account, after_halt, first_still_open, without_piece, without_sole, without_sole_at, without_soles}
+use Rattle.dl_history.specs.Accounts.{Account, after_halt, first_still_open, without_sole, without_sole_at, without_soles}
 use Rattle.piece_table.specs.Progress.{Progress}
 use Rattle.piece_table.specs.Steps.{cleared}
 use Rattle.piece_table.specs.Changes.{is_in}

@@ -1,5 +1,5 @@
 -- What is kept of a download, over its events.
-use Rattle.std.proofs.Common.{◌≡◌, ℕ, ◌+◌, ◌<◌, ◌≤◌, Bool, true, false, cond, Option, Some, None, List, [], ◌∷◌, All, refl, sym, ap, ◌∙◌, arith}
+use Rattle.std.proofs.Common.{◌≡◌, ℕ, ◌+◌, ◌<◌, ◌≤◌, Bool, true, false, cond, Option, Some, None, List, [], ◌∷◌, refl, sym, ap, ◌∙◌, arith}
 use Rattle.std.specs.Prelude.{slice_index_or}
 use Rattle.std.specs.List.{cons_option}
 use Rattle.std.specs.Option.{is_some, option_map_or}
@@ -10,7 +10,7 @@ use Rattle.mirror_blame.specs.Laws.{CountedGiveTries}
 use Rattle.mirror_blame.specs.Marks.{counted}
 use Rattle.mirror_blame.specs.declared.blame.Blame.{Blame}
 use Rattle.dl_history.specs.Accounts.{Account, account_of, first_still_open, without_claim, without_piece, without_sole, without_sole_at, without_soles}
-use Rattle.dl_history.specs.OwnEvents.{OwnEvent, Opens, Grants, Lands, Settles, Clears, Loses, Sizes, Saves, Checks, Halts}
+use Rattle.dl_history.specs.OwnEvents.{Opens, Grants, Lands, Settles, Clears, Loses, Sizes, Saves, Checks, Halts}
 use Rattle.dl_history.specs.PayloadParts.{blame_in, blames_in}
 use Rattle.dl_history.specs.StandingClaims.{granted_claims, is_probe}
 use Rattle.one_download.specs.DownloadLaws.{AccountsTellOpening, MarksAreCounted, NewNumbersMayBeGranted}

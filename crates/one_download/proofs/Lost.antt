@@ -1,6 +1,6 @@
 -- The piece at which a claim is lost.
-use Rattle.std.proofs.Common.{◌≡◌, ◌+◌, ◌<◌, ◌≤◌, ℕ, List, All, Option, Some, false, refl, sym, subst, arith}
-use Rattle.std.specs.Prelude.{◌==◌, IfSome, find}
+use Rattle.std.proofs.Common.{◌≡◌, ℕ, All, Option, subst, arith}
+use Rattle.std.specs.Prelude.{◌==◌, IfSome}
 use Rattle.dl_kinds.specs.Plan.{IsPlan, blocks_of}
 use Rattle.dl_kinds.specs.PlanLaws.{BlocksAreOfPieces}
 use Rattle.dl_kinds.specs.declared.claims.Claim.{Claim}

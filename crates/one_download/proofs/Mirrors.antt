@@ -1,8 +1,7 @@
 -- The claims and the givers of a download stay those of its mirrors.
-use Rattle.std.proofs.Common.{◌≡◌, ℕ, zero, suc, ◌+◌, ◌<◌, ◌≤◌, Bool, true, false, cond, eqb, Option, Some, None, List, [], ◌∷◌, All, length, map, get_or, set, refl, sym, ap, subst, ◌∙◌, arith}
-use Rattle.std.specs.Prelude.{filter, not, ◌&&◌, slice_index_or, slice_set}
+use Rattle.std.proofs.Common.{◌≡◌, ℕ, zero, suc, ◌<◌, Bool, true, false, cond, eqb, Option, Some, None, List, [], ◌∷◌, All, length, get_or, set, refl, sym, subst}
+use Rattle.std.specs.Prelude.{slice_index_or}
 use Rattle.std.specs.List.{range_with_len}
-use Rattle.std.specs.Option.{is_some}
 use Rattle.std.proofs.lemmas.List.Elements.{All-cons, All-filter, All-head, All-map, All-nil, All-tail}
 use Rattle.dl_kinds.specs.Plan.{piece_of}
 use Rattle.dl_kinds.specs.declared.claims.Claim.{Claim}
@@ -12,8 +11,7 @@ use Rattle.piece_table.specs.Progress.{Progress, landed_count}
 use Rattle.piece_table.specs.Steps.{giver_at_start, givers_after, has_gained, landed_by, with_giver}
 use Rattle.piece_table.specs.declared.giver.Giver.{Giver}
 use Rattle.piece_table.specs.declared.giver.Giver.TheVariants.{Nobody, One, Mixed}
-use Rattle.dl_history.specs.Accounts.{Account, after_finding, after_halt, after_landing, after_loss, after_save, at_opening, is_busy, first_still_open, with_claim, with_finding, without_claim, without_piece, without_sole, without_sole_at, without_soles}
-use Rattle.dl_history.specs.PayloadParts.{is_mixed}
+use Rattle.dl_history.specs.Accounts.{Account, after_finding, after_halt, after_landing, after_loss, after_save, at_opening, first_still_open, with_claim, with_finding, without_claim, without_piece, without_sole, without_sole_at, without_soles}
 use Rattle.one_download.specs.DownloadParts.{IsGiverAmong, IsOfMirrors}
 
 -- ---- lists

@@ -1,21 +1,21 @@
 -- What the steps of a payload make of what is kept of its download.
-use Rattle.std.proofs.Common.{◌≡◌, ℕ, zero, suc, ◌+◌, ◌<◌, ◌≤◌, Bool, true, false, cond, eqb, Some, List, [], ◌∷◌, length, map, replicate, get_or, set, slice_get, refl, sym, ap, subst, zero-add, ◌∙◌, arith}
-use Rattle.std.specs.Prelude.{◌==◌, ◌&&◌, ◌||◌, filter, not, slice_index_or, slice_set, All}
+use Rattle.std.proofs.Common.{◌≡◌, ℕ, zero, suc, ◌+◌, Bool, true, false, eqb, Some, List, [], ◌∷◌, length, map, replicate, get_or, set, slice_get, refl, sym, ap, subst, zero-add, ◌∙◌, arith}
+use Rattle.std.specs.Prelude.{◌&&◌, ◌||◌, filter, not, slice_index_or, slice_set, All}
 use Rattle.std.specs.List.{range_with_len}
 use Rattle.std.proofs.lemmas.Bool.{ne_eqb, eq-eqb, eqb-true}
 use Rattle.std.proofs.lemmas.List.{length-set, get_or-set_other, ext_get_or}
 use Rattle.std.proofs.lemmas.List.Elements.{All-head, All-tail}
 use Rattle.std.proofs.lemmas.List.FromFn.{get_or-map-range_with_len, length-map-range_with_len}
 use Rattle.std.proofs.lemmas.Option.{get_or_from_slice_get}
-use Rattle.dl_kinds.specs.Plan.{piece_of, blocks_of, pieces_of}
+use Rattle.dl_kinds.specs.Plan.{piece_of, pieces_of}
 use Rattle.dl_kinds.specs.declared.claims.Claim.{Claim}
 use Rattle.dl_kinds.specs.declared.plan.Plan.{Plan}
 use Rattle.dl_kinds.specs.declared.runs.Moment.{Moment}
 use Rattle.dl_kinds.specs.declared.runs.Run.{Run}
 use Rattle.piece_table.specs.Progress.{Progress}
-use Rattle.piece_table.specs.Steps.{started, landed_by, settled, cleared, made_sole}
+use Rattle.piece_table.specs.Steps.{started, landed_by, cleared}
 use Rattle.piece_table.specs.declared.giver.Giver.{Giver}
-use Rattle.dl_history.specs.Accounts.{Account, after_finding, after_landing, after_loss, after_save, at_opening, is_busy, listing_of, unsettled_by, without_claim, with_finding, without_piece, without_sole}
+use Rattle.dl_history.specs.Accounts.{Account, after_finding, after_landing, after_loss, after_save, at_opening, is_busy, listing_of, unsettled_by, without_claim, with_finding, without_piece}
 use Rattle.dl_history.specs.Listings.{Listing}
 use Rattle.dl_history.specs.PayloadParts.{is_run_on}
 use Rattle.segment_claim.specs.Book.{ClaimBook, kept_where, no_claims, swept, with_cleared}

@@ -1,19 +1,19 @@
 -- What may be stolen goes by the claims, not by how they were looked at.
-use Rattle.std.proofs.Common.{◌≡◌, ◌⊎◌, ℕ, zero, suc, ◌+◌, ◌-◌, ◌/◌, ◌<◌, ◌≤◌, true, List, [], ◌∷◌, All, length, get_or, refl, sym, ap, ◌∙◌, subst, inl, inr, ⊎_elim, arith}
-use Rattle.std.specs.Prelude.{Contains, IfNone, IsTrue, Option, Some, None}
+use Rattle.std.proofs.Common.{◌≡◌, ℕ, zero, suc, ◌+◌, ◌<◌, ◌≤◌, List, [], ◌∷◌, All, length, get_or, sym, subst, ⊎_elim, arith}
+use Rattle.std.specs.Prelude.{IfNone, Option, Some, None}
 use Rattle.std.specs.List.{AllZip}
 use Rattle.std.proofs.lemmas.List.Elements.{All-contains, All-head, All-tail}
 use Rattle.dl_kinds.specs.declared.claims.Claim.{Claim}
 use Rattle.dl_kinds.specs.declared.claims.ClaimView.{ClaimView}
 use Rattle.dl_kinds.specs.declared.runs.Run.{Run}
-use Rattle.segment_claim.specs.Free.{HasNoFreeClaim, IsMirrorFor}
+use Rattle.segment_claim.specs.Free.{HasNoFreeClaim}
 use Rattle.segment_claim.specs.Situation.{Situation}
 use Rattle.segment_claim.specs.Book.{ClaimBook}
 use Rattle.segment_claim.specs.Sound.{IsWithinBlocks}
 use Rattle.segment_claim.specs.Theft.{AreViews, IsStealOf}
 use Rattle.slow_steal.specs.declared.theft.Steal.{Steal}
 use Rattle.segment_claim.specs.Views.{IsOwnRun, IsViewOf}
-use Rattle.slow_steal.specs.Theft.{IsSteal, MayLose, later_half}
+use Rattle.slow_steal.specs.Theft.{MayLose}
 use Rattle.one_download.specs.Grants.{IsBlockChoice, IsFreeChoice, IsTheftChoice}
 use Rattle.one_download.specs.declared.choices.Choice.{Choice}
 

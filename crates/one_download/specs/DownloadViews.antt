@@ -1,6 +1,6 @@
 -- What contracts see of a download.
-use Rattle.std.specs.Prelude.{◌≡◌, ◌==◌, ℕ, ◌+◌, ◌<◌, ◌≤◌, nat_lt, Bool, true, false, if◌then◌else◌, Option, Some, None, List, [], ◌∷◌, find, length, slice_get, slice_index_or}
-use Rattle.std.specs.Option.{is_some, option_and_then, option_map_or}
+use Rattle.std.specs.Prelude.{◌≡◌, ◌==◌, ℕ, ◌+◌, ◌<◌, ◌≤◌, nat_lt, Bool, true, false, if◌then◌else◌, Option, Some, List, ◌∷◌, find, slice_get, slice_index_or}
+use Rattle.std.specs.Option.{is_some, option_map_or}
 use Rattle.dl_kinds.specs.Plan.{pieces_of, blocks_of, piece_of}
 use Rattle.dl_kinds.specs.declared.claims.Claim.{Claim}
 use Rattle.dl_kinds.specs.declared.plan.TheConstants.{MAX_PIECES}
@@ -30,20 +30,24 @@ standing_under k id = find (λ claim. claim.id == id) k.standing
 
 -- ---- pieces
 
+abbrev pub IsPieceOf : Progress → ℕ → Type 0
+IsPieceOf p piece = piece < pieces_of p.total p.piece_len
+
 -- a piece of the plan that isn't verified
 pub record IsUnverified (p : Progress) (piece : ℕ) : Type 0 where
-  pub known : piece < pieces_of p.total p.piece_len
+  pub known : IsPieceOf p piece
   pub unverified : slice_get p.verified piece ≡ Some false
 
 -- all blocks of the piece are landed
-abbrev pub HasPiece : Progress → ℕ → Type 0
-HasPiece p piece =
-    (b : ℕ) → b < blocks_of p.total p.piece_len → piece_of p.piece_len b ≡ piece → slice_index_or p.landed b false ≡ true
+abbrev pub IsPieceLanded : Progress → ℕ → Type 0
+IsPieceLanded p piece =
+    (b : ℕ) → b < blocks_of p.total p.piece_len → piece_of p.piece_len b ≡ piece
+    → slice_index_or p.landed b false ≡ true
 
 -- a full piece that isn't verified
 pub record IsFullUnverified (p : Progress) (piece : ℕ) : Type 0 where
   pub unverified : IsUnverified p piece
-  pub full : HasPiece p piece
+  pub full : IsPieceLanded p piece
 
 -- .. and wasn't settled since its last landing
 pub record IsToSettle (k : Account) (piece : ℕ) : Type 0 where
@@ -56,12 +60,17 @@ pub record IsNextToSettle (k : Account) (from piece : ℕ) : Type 0 where
   pub is : IsToSettle k piece
   pub first : (other : ℕ) → from ≤ other → other < piece → ¬ IsToSettle k other
 
+abbrev pub HasNoneToSettle : Account → ℕ → Type 0
+HasNoneToSettle k from = (piece : ℕ) → from ≤ piece → ¬ IsToSettle k piece
+
 -- ---- marks
 
 -- a mark counts while its mirror has a try left for its piece
 abbrev pub with_blame : ℕ → List Blame → Blame → List Blame
 with_blame max_tries marks blame =
-    if nat_lt (tries_of max_tries marks blame.mirror blame.piece) max_tries then blame ∷ marks else marks
+    if nat_lt (tries_of max_tries marks blame.mirror blame.piece) max_tries
+    then blame ∷ marks
+    else marks
 
 -- the marks after an event of the download
 abbrev pub marks_after : ℕ → List Blame → OwnEvent → List Blame
@@ -102,7 +111,8 @@ pub record IsRoomier (old new : DownloadView) : Type 0 where
 -- the claim is of some blocks of the payload, and of a mirror of the download
 pub record IsClaimOf (d : DownloadView) (claim : Claim) : Type 0 where
   pub some : 1 ≤ claim.run.count
-  pub within : claim.run.first + claim.run.count ≤ blocks_of d.account.progress.total d.account.progress.piece_len
+  pub within : claim.run.first + claim.run.count
+      ≤ blocks_of d.account.progress.total d.account.progress.piece_len
   pub mirror : claim.mirror < d.mirrors
 
 -- a probe of a mirror of the download

@@ -10,7 +10,7 @@ use Rattle.segment_claim.specs.Situation.{Situation, host_loads}
 use Rattle.segment_claim.specs.Theft.{IsTheft}
 use Rattle.segment_claim.specs.declared.limits.TheConstants.{MAX_SPLIT}
 use Rattle.slow_steal.specs.declared.theft.Steal.{Steal}
-use Rattle.one_download.specs.DownloadViews.{DownloadView}
+use Rattle.one_download.specs.DownloadViews.{DownloadView, IsClaimOf}
 use Rattle.one_download.specs.declared.choices.Choice.{Choice}
 use Rattle.one_download.specs.declared.choices.Split.{Split}
 
@@ -62,9 +62,19 @@ pub record IsBlockChoice (s : Situation) (now : ℕ) (choice : Choice) : Type 0 
   pub few : length s.standing < s.split
   pub blocks : IsFreeChoice s choice ⊎ IsTheftChoice s now choice
 
+abbrev pub HasNoTheft : Situation → ℕ → Type 0
+HasNoTheft s now = (choice : Choice) → ¬ IsTheftChoice s now choice
+
+abbrev pub HasNoChoice : Situation → ℕ → Type 0
+HasNoChoice s now = (choice : Choice) → ¬ IsBlockChoice s now choice
+
 -- the mirror that is chosen to probe the whole payload
 abbrev pub IsProbeMirror : Situation → ℕ → Type 0
-IsProbeMirror s mirror = IsChoice (length s.hosts) s.max_tries s.marks 0 0 (host_loads s) s.per_host mirror
+IsProbeMirror s mirror =
+    IsChoice (length s.hosts) s.max_tries s.marks 0 0 (host_loads s) s.per_host mirror
+
+abbrev pub HasNoProbe : Situation → Type 0
+HasNoProbe s = (mirror : ℕ) → ¬ IsProbeMirror s mirror
 
 -- what is granted: the choice, under a number, to a worker, at a moment
 abbrev pub claim_by : Choice → ℕ → ℕ → ℕ → Claim
@@ -77,3 +87,7 @@ claim_by choice id worker now =
       victim = choice.victim;
       since = record { 0 = now };
     }
+
+-- under each number, to each worker, the choice is a claim that the download may have
+abbrev pub MayBeGranted : DownloadView → ℕ → Choice → Type 0
+MayBeGranted d now choice = (id worker : ℕ) → IsClaimOf d (claim_by choice id worker now)

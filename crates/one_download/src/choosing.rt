@@ -1,7 +1,6 @@
 // Which blocks a download is granted next.
 ghost use Rattle.std.specs.Prelude.{◌≤◌, IfNone, IfSome};
-ghost use Rattle.one_download.specs.Grants.{IsBlockChoice, IsTheftChoice};
-ghost use Rattle.one_download.specs.declared.choices.Choice.{Choice};
+ghost use Rattle.one_download.specs.Grants.{HasNoChoice, HasNoTheft, IsBlockChoice, IsTheftChoice};
 ghost use Rattle.segment_claim.specs.Free.{HasNoFreeClaim};
 ghost use Rattle.segment_claim.specs.Search.{IsWithinPayload};
 ghost use Rattle.segment_claim.specs.Situation.{FitTogether, situation_of};
@@ -23,13 +22,14 @@ fn theft(
 ) -> Option<Choice>
     requires fit { FitTogether claims.now table.now marks.now limits.now }
     requires room { 1 ≤ claims.now.spare }
-    requires nothing_free { HasNoFreeClaim (situation_of claims.now table.now marks.now limits.now) }
+    requires nothing_free { HasNoFreeClaim
+        (situation_of claims.now table.now marks.now limits.now) }
     ensures choice { IfSome result
         (IsTheftChoice (situation_of claims.now table.now marks.now limits.now) now.0) }
     ensures within { IfSome result (λ choice.
         IsWithinPayload (situation_of claims.now table.now marks.now limits.now) choice.run) }
-    ensures none { IfNone result ((choice : Choice)
-        → ¬ IsTheftChoice (situation_of claims.now table.now marks.now limits.now) now.0 choice) }
+    ensures none { IfNone result
+        (HasNoTheft (situation_of claims.now table.now marks.now limits.now) now.0) }
 {
     steals_are_of_claims();
     let _ = claims.standing();
@@ -63,8 +63,8 @@ pub fn choose(
         (IsBlockChoice (situation_of claims.now table.now marks.now limits.now) now.0) }
     ensures within { IfSome result (λ choice.
         IsWithinPayload (situation_of claims.now table.now marks.now limits.now) choice.run) }
-    ensures none { IfNone result ((choice : Choice)
-        → ¬ IsBlockChoice (situation_of claims.now table.now marks.now limits.now) now.0 choice) }
+    ensures none { IfNone result
+        (HasNoChoice (situation_of claims.now table.now marks.now limits.now) now.0) }
 {
     if claims.standing() >= limits.split {
         return None;

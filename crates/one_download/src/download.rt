@@ -6,10 +6,9 @@ ghost use Rattle.dl_history.specs.Listings.{ListsNone};
 ghost use Rattle.dl_history.specs.OwnEvents.{Loses, Settles};
 ghost use Rattle.dl_kinds.specs.Plan.{blocks_of, pieces_of};
 ghost use Rattle.dl_kinds.specs.declared.plan.TheConstants.{MAX_PIECES};
-ghost use Rattle.one_download.specs.DownloadViews.{IsClaimOf, IsFullUnverified, IsNextToSettle, IsOpenAt, IsProbeAt, IsRoomier, IsToSettle, IsUnverified, MayBlame, StaysSetUp, StaysUnmarked, UsesMarkRoom, is_opened_by, marks_after, standing_under, with_blame};
+ghost use Rattle.one_download.specs.DownloadViews.{HasNoneToSettle, IsClaimOf, IsFullUnverified, IsNextToSettle, IsOpenAt, IsPieceOf, IsProbeAt, IsRoomier, IsToSettle, IsUnverified, MayBlame, StaysSetUp, StaysUnmarked, UsesMarkRoom, is_opened_by, marks_after, standing_under, with_blame};
 ghost use Rattle.one_download.specs.DownloadParts.{IsGiverAmong, some_of};
-ghost use Rattle.one_download.specs.Grants.{IsBlockChoice, IsProbeMirror, MaySplit, claim_by, situation_with};
-ghost use Rattle.one_download.specs.declared.choices.Choice.{Choice};
+ghost use Rattle.one_download.specs.Grants.{HasNoChoice, HasNoProbe, IsBlockChoice, IsProbeMirror, MayBeGranted, MaySplit, situation_with};
 ghost use Rattle.piece_table.specs.Progress.{IsStart};
 ghost use Rattle.segment_claim.specs.declared.limits.TheConstants.{MAX_SPLIT};
 
@@ -260,7 +259,8 @@ impl OneDownload {
     /// A claim fails at its first open block, which is of this piece, and its mirror is marked. What it gave of a sole
     /// piece goes. A probe fails at piece 0.
     pub fn lost(&mut self, id: u64, mirror: u16, piece: u32, mark: Mark)
-        requires piece { is_opened_by self.old.account ≡ true → IsOpenAt self.old.account id piece }
+        requires piece { is_opened_by self.old.account ≡ true
+            → IsOpenAt self.old.account id piece }
         requires blame { MayBlame self.old mirror piece }
         requires room { 1 ≤ self.old.mark_spare }
         ensures account { self.new.account ≡ after_loss self.old.account id piece }
@@ -351,8 +351,12 @@ impl OneDownload {
     }
 
     pub fn marks(&self) -> &Marks
-        ensures { result.now ≡ record { mirrors = self.now.mirrors; max_tries = self.now.max_tries;
-            marks = self.now.marks; spare = self.now.mark_spare } }
+        ensures { result.now ≡ record {
+          mirrors = self.now.mirrors;
+          max_tries = self.now.max_tries;
+          marks = self.now.marks;
+          spare = self.now.mark_spare;
+        } }
     {
         &self.marks
     }
@@ -393,7 +397,7 @@ impl OneDownload {
     /// Whether the last save lists a block of a piece.
     pub fn lists(&self, piece: u32) -> bool
         requires opened { is_opened_by self.now.account ≡ true }
-        requires piece { piece < pieces_of self.now.account.progress.total self.now.account.progress.piece_len }
+        requires piece { IsPieceOf self.now.account.progress piece }
         ensures { (result ≡ false) ↔ ListsNone self.now.account.progress.total
             self.now.account.progress.piece_len self.now.account.listing piece }
     {
@@ -406,7 +410,8 @@ impl OneDownload {
     /// Whether a save would list other pieces or blocks than the last one does.
     pub fn is_unsaved(&self) -> bool
         requires { is_opened_by self.now.account ≡ true }
-        ensures { (result ≡ false) ↔ (self.now.account.listing ≡ listing_of self.now.account.progress) }
+        ensures { (result ≡ false)
+            ↔ (self.now.account.listing ≡ listing_of self.now.account.progress) }
     {
         match &self.payload {
             Some(payload) => payload.is_unsaved(),
@@ -453,7 +458,7 @@ impl OneDownload {
     /// The first piece from `from` on that is full and unverified, and wasn't settled since its last landing.
     pub fn next_full(&self, from: u32) -> Option<u32>
         ensures found { IfSome result (λ piece. IsNextToSettle self.now.account from piece) }
-        ensures none { IfNone result ((piece : ℕ) → from ≤ piece → ¬ IsToSettle self.now.account piece) }
+        ensures none { IfNone result (HasNoneToSettle self.now.account from) }
     {
         match &self.payload {
             Some(payload) => payload.next_full(from),
@@ -467,7 +472,7 @@ impl OneDownload {
         requires alone { self.now.account.standing ≡ [] }
         ensures mirror { IfSome result (IsProbeMirror (situation_with self.now split hosts.now)) }
         ensures known { IfSome result (λ mirror. mirror < self.now.mirrors) }
-        ensures none { IfNone result ((mirror : ℕ) → ¬ IsProbeMirror (situation_with self.now split hosts.now) mirror) }
+        ensures none { IfNone result (HasNoProbe (situation_with self.now split hosts.now)) }
     {
         let loads = [0; MAX_MIRRORS as usize];
         let standing = &loads[..hosts.len()];
@@ -479,10 +484,12 @@ impl OneDownload {
         requires opened { is_opened_by self.now.account ≡ true }
         requires split { MaySplit self.now.mirrors split hosts.now }
         requires room { 1 ≤ self.now.spare }
-        ensures choice { IfSome result (IsBlockChoice (situation_with self.now split hosts.now) now.0) }
-        ensures claim { IfSome result (λ choice. (id worker : ℕ) → IsClaimOf self.now (claim_by choice id worker now.0)) }
+        ensures choice { IfSome result
+            (IsBlockChoice (situation_with self.now split hosts.now) now.0) }
+        ensures claim { IfSome result (MayBeGranted self.now now.0) }
         ensures few { IfSome result (λ _. length self.now.account.standing < MAX_SPLIT) }
-        ensures none { IfNone result ((choice : Choice) → ¬ IsBlockChoice (situation_with self.now split hosts.now) now.0 choice) }
+        ensures none { IfNone result
+            (HasNoChoice (situation_with self.now split hosts.now) now.0) }
     {
         match &self.payload {
             Some(payload) => payload.choice(&self.marks, split, hosts, now),

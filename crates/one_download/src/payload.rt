@@ -5,10 +5,9 @@ ghost use Rattle.dl_history.specs.Accounts.{after_finding, after_halt, after_lan
 ghost use Rattle.dl_history.specs.Listings.{ListsNone};
 ghost use Rattle.dl_kinds.specs.Plan.{blocks_of, pieces_of};
 ghost use Rattle.dl_kinds.specs.declared.plan.TheConstants.{MAX_PIECES};
-ghost use Rattle.one_download.specs.DownloadViews.{IsFullUnverified, IsNextToSettle, IsOpenAt, IsToSettle, IsUnverified, standing_under};
-ghost use Rattle.one_download.specs.Grants.{IsBlockChoice, MaySplit, situation_for};
+ghost use Rattle.one_download.specs.DownloadViews.{HasNoneToSettle, IsFullUnverified, IsNextToSettle, IsOpenAt, IsPieceOf, IsToSettle, IsUnverified, standing_under};
+ghost use Rattle.one_download.specs.Grants.{HasNoChoice, IsBlockChoice, MaySplit, situation_for};
 ghost use Rattle.one_download.specs.PayloadViews.{IsRunOf, account_before};
-ghost use Rattle.one_download.specs.declared.choices.Choice.{Choice};
 ghost use Rattle.piece_table.specs.Progress.{IsFull, IsStart};
 ghost use Rattle.segment_claim.specs.declared.limits.TheConstants.{MAX_SPLIT};
 
@@ -247,21 +246,15 @@ impl Payload {
     }
 
     /// The blocks and the mirror of the next claim.
-    pub fn choice(
-        &self,
-        marks: &Marks,
-        split: Split,
-        hosts: &[u16],
-        now: Moment,
-    ) -> Option<Choice>
+    pub fn choice(&self, marks: &Marks, split: Split, hosts: &[u16], now: Moment) -> Option<Choice>
         requires split { MaySplit marks.now.mirrors split hosts.now }
         requires room { 1 ≤ self.now.spare }
-        ensures choice { IfSome result (IsBlockChoice (situation_for self.now.account self.now.wanted
+        ensures choice { IfSome result (IsBlockChoice
+            (situation_for self.now.account self.now.wanted
             marks.now.max_tries marks.now.marks split hosts.now) now.0) }
         ensures run { IfSome result (λ choice. IsRunOf self.now.account.progress choice.run) }
-        ensures none { IfNone result ((choice : Choice)
-            → ¬ IsBlockChoice (situation_for self.now.account self.now.wanted
-            marks.now.max_tries marks.now.marks split hosts.now) now.0 choice) }
+        ensures none { IfNone result (HasNoChoice (situation_for self.now.account self.now.wanted
+            marks.now.max_tries marks.now.marks split hosts.now) now.0) }
     {
         let limits = Limits {
             split: split.claims,
@@ -314,8 +307,7 @@ impl Payload {
 
     /// Whether the last save lists a block of a piece.
     pub fn lists(&self, piece: u32) -> bool
-        requires { piece < pieces_of self.now.account.progress.total
-            self.now.account.progress.piece_len }
+        requires { IsPieceOf self.now.account.progress piece }
         ensures { (result ≡ false) ↔ ListsNone self.now.account.progress.total
             self.now.account.progress.piece_len self.now.account.listing piece }
     {
@@ -360,8 +352,7 @@ impl Payload {
     /// The first piece from `from` on that is full and unverified, and wasn't settled since its last landing.
     pub fn next_full(&self, from: u32) -> Option<u32>
         ensures found { IfSome result (IsNextToSettle self.now.account from) }
-        ensures none { IfNone result ((piece : ℕ) → from ≤ piece
-            → ¬ IsToSettle self.now.account piece) }
+        ensures none { IfNone result (HasNoneToSettle self.now.account from) }
     {
         plan_laws();
         let _ = self.table.blocks();
@@ -375,8 +366,7 @@ impl Payload {
 
     // Whether a piece is full and unverified, and wasn't settled since its last landing.
     fn is_to_settle(&self, piece: u32) -> bool
-        requires { piece < pieces_of self.now.account.progress.total
-            self.now.account.progress.piece_len }
+        requires { IsPieceOf self.now.account.progress piece }
         ensures { IsTrue result ↔ IsToSettle self.now.account piece }
     {
         plan_laws();

@@ -1,10 +1,9 @@
-use Rattle.std.proofs.Common.{◌≡◌, ◌+◌, ◌≤◌, List, All, Some, None, refl, sym, ap, subst, ◌∙◌}
+use Rattle.std.proofs.Common.{List, All, refl, ap, subst}
 use Rattle.std.specs.Option.{is_some}
 use Rattle.dl_kinds.specs.declared.claims.ClaimView.{ClaimView}
 use Rattle.segment_claim.specs.Situation.{Situation, situation_of}
-use Rattle.segment_claim.specs.Theft.{AreViews, IsStealOf}
+use Rattle.segment_claim.specs.Theft.{IsStealOf}
 use Rattle.slow_steal.specs.Theft.{IsSteal, MayLose}
-use Rattle.slow_steal.specs.declared.theft.Steal.{Steal}
 use Rattle.one_download.proofs.Thefts.{no_theft, steal_within}
 use Rattle.one_download.proofs.choosing.theft.Goals as goal
 

@@ -1,12 +1,8 @@
-use Rattle.std.proofs.Common.{◌≡◌, suc, ◌+◌, ◌-◌, ◌<◌, ◌≤◌, ℕ, Bool, List, Option, Some, None, false, length, get_or, slice_get, refl, sym, ap, subst, ◌∙◌, arith}
+use Rattle.std.proofs.Common.{◌≡◌, suc, ◌+◌, ◌-◌, ◌<◌, ℕ, Option, Some, None, length, sym, ap, ◌∙◌, arith}
 use Rattle.dl_kinds.specs.Plan.{IsPlan, blocks_of, piece_of}
-use Rattle.dl_kinds.specs.declared.claims.Claim.{Claim}
-use Rattle.dl_history.specs.Accounts.{Account, first_still_open, without_sole, without_soles}
 use Rattle.piece_table.specs.Progress.{Progress}
-use Rattle.segment_claim.specs.Book.{ClaimBook, first_open_at}
+use Rattle.segment_claim.specs.Book.{ClaimBook}
 use Rattle.segment_claim.specs.Open.{first_open_in}
-use Rattle.segment_claim.specs.Situation.{IsTableOfClaims}
-use Rattle.one_download.specs.DownloadViews.{IsUnverified}
 use Rattle.one_download.specs.PayloadViews.{with_parts}
 use Rattle.one_download.proofs.Blocks.{unlanded_unverified}
 use Rattle.one_download.proofs.Halting.{FirstBlock, ends_none, ends_one, first_at, first_block, some_at, unverified_same}

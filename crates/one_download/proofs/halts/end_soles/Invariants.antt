@@ -1,4 +1,4 @@
-use Rattle.std.proofs.Common.{◌≡◌, ◌-◌, ℕ, Bool, List, drop}
+use Rattle.std.proofs.Common.{◌≡◌, ◌-◌, Bool, List, drop}
 use Rattle.dl_history.specs.Accounts.{Account, without_soles}
 use Rattle.segment_claim.specs.Situation.{IsTableOfClaims}
 use Rattle.one_download.specs.PayloadViews.{with_parts}

@@ -1,4 +1,4 @@
-use Rattle.std.proofs.Common.{◌≡◌, ◌<◌, ℕ, Option, None, length}
+use Rattle.std.proofs.Common.{◌≡◌, ◌<◌, ℕ, None, length}
 use Rattle.std.specs.Prelude.{slice_index_or}
 use Rattle.segment_claim.specs.Book.{first_open_at}
 use Rattle.one_download.proofs.halts.first_blocks.Given as goal

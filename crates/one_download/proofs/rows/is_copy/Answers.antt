@@ -1,4 +1,4 @@
-use Rattle.std.proofs.Common.{◌≡◌, false, length, refl, arith}
+use Rattle.std.proofs.Common.{false, refl, arith}
 use Rattle.std.proofs.lemmas.List.{ext_get_or}
 use Rattle.one_download.proofs.rows.is_copy.Goals as goal
 

@@ -1,4 +1,4 @@
-use Rattle.std.proofs.Common.{◌≡◌, ◌<◌, Bool, List, false, get_or, length, refl, sym, ap, ◌∙◌, arith}
+use Rattle.std.proofs.Common.{◌≡◌, ◌<◌, Bool, List, false, length, refl, sym, ap, ◌∙◌, arith}
 use Rattle.std.proofs.lemmas.Option.{get_or_from_slice_get}
 use Rattle.dl_kinds.specs.Plan.{blocks_of}
 use Rattle.one_download.proofs.Written.{lists_block, written_none, written_on, written_all, differs, listed_value, apart, not_apart}
@@ -30,8 +30,7 @@ returns-then-get-is_listed c =
     let m : length c.blocks-2.result.now ≡ length p.landed = ap (λ (r : List Bool). length r) c.blocks-2.ensures.row in
     let within : b < length p.landed = let t = c.loop-block-test.true in let n = c.len-count.ensures in omega arith in
     let below : b < blocks_of p.total p.piece_len = let l = c.blocks-2.ensures.valid.start.blocks in omega arith in
-    let known = (c.plan_laws.ensures.of_pieces p.total p.piece_len b c.requires.plan below).piece in
-    (
+    let known = (c.plan_laws.ensures.of_pieces p.total p.piece_len b c.requires.plan below).piece in (
       λ e. absurd cc,
       λ same.
           absurd (differs (lists_block p) (length p.landed) b c.args.row.now within
@@ -45,8 +44,7 @@ returns c =
     let p = c.args.table.now in
     let m : length c.blocks-2.result.now ≡ length p.landed = ap (λ (r : List Bool). length r) c.blocks-2.ensures.row in
     let n = c.len-count.ensures in
-    let last = c.loop-block-test.false in
-    (
+    let last = c.loop-block-test.false in (
       λ _. written_all (lists_block p) (length p.landed) c.loop-block.block c.args.row.now c.loop-block.invariant
           (omega arith),
       λ _. refl,

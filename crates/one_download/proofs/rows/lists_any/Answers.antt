@@ -1,7 +1,7 @@
-use Rattle.std.proofs.Common.{◌≡◌, ◌≢◌, ◌⊎◌, ◌<◌, ◌+◌, ℕ, true, false, get_or, sym, subst, ◌∙◌, ⊎_elim, arith}
+use Rattle.std.proofs.Common.{◌≡◌, ◌≢◌, true, false, get_or, ◌∙◌, ⊎_elim, arith}
 use Rattle.std.proofs.lemmas.Bool.{cases_eq}
 use Rattle.std.proofs.lemmas.Option.{get_or_from_slice_get}
-use Rattle.dl_kinds.specs.Plan.{blocks_of, full_blocks, piece_of}
+use Rattle.dl_kinds.specs.Plan.{piece_of}
 use Rattle.one_download.proofs.Blocks.{number_of}
 use Rattle.one_download.proofs.rows.lists_any.Goals as goal
 
@@ -19,8 +19,7 @@ returns-then-get c =
     let is : piece_of len b ≡ c.args.piece = number_of total len c.args.piece b c.plan_laws.ensures.numbered
     c.args.plan.now.is_plan c.requires.piece (omega arith) (omega arith) in
     let here : get_or c.args.row.now b false ≡ true =
-    get_or_from_slice_get c.args.row.now b c.get.result false c.get.ensures ∙ c.if-get.true in
-    (
+    get_or_from_slice_get c.args.row.now b c.get.result false c.get.ensures ∙ c.if-get.true in (
       λ e. absurd cc,
       λ none. let gone = none b (omega arith) is in absurd cc,
     )

@@ -1,4 +1,4 @@
-use Rattle.std.proofs.Common.{◌≡◌, ◌<◌, ℕ, Option, Some, None, refl, sym, ap, subst, ◌∙◌}
+use Rattle.std.proofs.Common.{◌<◌, Option, sym, ap, subst, ◌∙◌}
 use Rattle.std.specs.Prelude.{IfSome}
 use Rattle.dl_kinds.specs.declared.claims.Claim.{Claim}
 use Rattle.one_download.specs.DownloadParts.{HoldsIn, IsOfMirrors, account_in}

@@ -1,4 +1,4 @@
-use Rattle.std.proofs.Common.{◌≡◌, ap, ◌∙◌}
+use Rattle.std.proofs.Common.{ap, ◌∙◌}
 use Rattle.std.specs.Option.{option_and_then}
 use Rattle.dl_history.specs.Accounts.{first_still_open}
 use Rattle.one_download.specs.DownloadViews.{DownloadView, standing_under}

@@ -1,7 +1,5 @@
-use Rattle.std.proofs.Common.{◌≡◌, ◌<◌, Option, Some, sym, subst}
-use Rattle.dl_history.specs.Accounts.{Account}
+use Rattle.std.proofs.Common.{Option, sym, subst}
 use Rattle.one_download.specs.DownloadParts.{HoldsIn, IsOfMirrors}
-use Rattle.one_download.specs.DownloadViews.{DownloadView}
 use Rattle.one_download.specs.PayloadViews.{PayloadView}
 use Rattle.one_download.proofs.Mirrors.{of_halt}
 use Rattle.one_download.proofs.download.OneDownload.halted.Goals as goal

@@ -1,5 +1,4 @@
-use Rattle.std.proofs.Common.{◌≡◌, ◌<◌, Option, Some, sym, subst}
-use Rattle.dl_history.specs.Accounts.{Account}
+use Rattle.std.proofs.Common.{◌<◌, Option, sym, subst}
 use Rattle.one_download.specs.DownloadParts.{HoldsIn, IsOfMirrors}
 use Rattle.one_download.specs.DownloadViews.{DownloadView}
 use Rattle.one_download.specs.PayloadViews.{PayloadView}

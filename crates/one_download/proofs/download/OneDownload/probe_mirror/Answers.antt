@@ -1,4 +1,4 @@
-use Rattle.std.proofs.Common.{◌≡◌, ◌↔◌, ◌<◌, ℕ, Some, None, [], length, take, replicate, subst}
+use Rattle.std.proofs.Common.{◌≡◌, ◌↔◌, ◌<◌, ℕ, Some, length, take, replicate, subst}
 use Rattle.mirror_blame.specs.Choice.{IsChoice}
 use Rattle.one_download.specs.DownloadViews.{DownloadView}
 use Rattle.one_download.specs.Grants.{IsProbeMirror, situation_with}
@@ -11,7 +11,7 @@ returns-clause-mirror c =
     let split = c.args.split in
     let v : DownloadView = c.args.self.now in
     let h : (m : ℕ) → (c.choose.result ≡ Some m)
-        ↔ IsChoice v.mirrors v.max_tries v.marks 0 0 (take (length hosts) (replicate 256 0)) split.per_host m =
+    ↔ IsChoice v.mirrors v.max_tries v.marks 0 0 (take (length hosts) (replicate 256 0)) split.per_host m =
     subst (λ (w : DownloadView). (m : ℕ) → (c.choose.result ≡ Some m)
     ↔ IsChoice w.mirrors w.max_tries w.marks 0 0 (take (length hosts) (replicate 256 0)) split.per_host m)
     c.self.view_is c.choose.ensures.choice in
@@ -24,7 +24,7 @@ returns-clause-known c =
     let split = c.args.split in
     let v : DownloadView = c.args.self.now in
     let h : (m : ℕ) → (c.choose.result ≡ Some m)
-        ↔ IsChoice v.mirrors v.max_tries v.marks 0 0 (take (length hosts) (replicate 256 0)) split.per_host m =
+    ↔ IsChoice v.mirrors v.max_tries v.marks 0 0 (take (length hosts) (replicate 256 0)) split.per_host m =
     subst (λ (w : DownloadView). (m : ℕ) → (c.choose.result ≡ Some m)
     ↔ IsChoice w.mirrors w.max_tries w.marks 0 0 (take (length hosts) (replicate 256 0)) split.per_host m)
     c.self.view_is c.choose.ensures.choice in
@@ -36,7 +36,7 @@ returns-clause-none c =
     let split = c.args.split in
     let v : DownloadView = c.args.self.now in
     let h : (m : ℕ) → (c.choose.result ≡ Some m)
-        ↔ IsChoice v.mirrors v.max_tries v.marks 0 0 (take (length hosts) (replicate 256 0)) split.per_host m =
+    ↔ IsChoice v.mirrors v.max_tries v.marks 0 0 (take (length hosts) (replicate 256 0)) split.per_host m =
     subst (λ (w : DownloadView). (m : ℕ) → (c.choose.result ≡ Some m)
     ↔ IsChoice w.mirrors w.max_tries w.marks 0 0 (take (length hosts) (replicate 256 0)) split.per_host m)
     c.self.view_is c.choose.ensures.choice in

@@ -1,4 +1,4 @@
-use Rattle.std.proofs.Common.{◌≡◌, sym, ap, refl, subst, ◌∙◌}
+use Rattle.std.proofs.Common.{sym, ap, refl, subst, ◌∙◌}
 use Rattle.dl_history.specs.Accounts.{without_piece}
 use Rattle.piece_table.specs.Progress.{Progress}
 use Rattle.segment_claim.specs.Book.{ClaimBook}

@@ -1,4 +1,4 @@
-use Rattle.std.proofs.Common.{◌≡◌, ap, ◌∙◌}
+use Rattle.std.proofs.Common.{ap, ◌∙◌}
 use Rattle.dl_history.specs.Accounts.{after_halt}
 use Rattle.one_download.specs.PayloadViews.{PayloadView, account_by}
 use Rattle.one_download.proofs.Halting.{halted_is}

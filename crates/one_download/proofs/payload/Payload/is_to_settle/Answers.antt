@@ -1,6 +1,6 @@
-use Rattle.std.proofs.Common.{◌≡◌, ◌↔◌, ◌<◌, Bool, true, false, Some, slice_get, sym, ap, subst, ◌∙◌}
+use Rattle.std.proofs.Common.{◌↔◌, ◌<◌, Bool, Some, sym, ap, subst, ◌∙◌}
 use Rattle.std.specs.Prelude.{IsTrue}
-use Rattle.dl_kinds.specs.Plan.{IsPlan, pieces_of}
+use Rattle.dl_kinds.specs.Plan.{pieces_of}
 use Rattle.one_download.specs.DownloadViews.{IsToSettle}
 use Rattle.one_download.specs.PayloadViews.{PayloadView, account_by}
 use Rattle.one_download.proofs.Blocks.{settled_by_full, settled_once, verified_once}

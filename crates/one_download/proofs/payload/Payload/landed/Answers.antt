@@ -1,4 +1,4 @@
-use Rattle.std.proofs.Common.{◌≡◌, ◌+◌, ◌≤◌, sym, ap, refl, subst, length, ◌∙◌}
+use Rattle.std.proofs.Common.{◌+◌, ◌≤◌, sym, ap, refl, subst, length, ◌∙◌}
 use Rattle.std.proofs.lemmas.List.FromFn.{length-map-range_with_len}
 use Rattle.dl_kinds.specs.Plan.{blocks_of}
 use Rattle.dl_history.specs.Accounts.{after_landing}

@@ -1,4 +1,4 @@
-use Rattle.std.proofs.Common.{◌≡◌, length, replicate, List, Bool, false, ap, ◌∙◌}
+use Rattle.std.proofs.Common.{length, replicate, List, Bool, false, ap, ◌∙◌}
 use Rattle.std.proofs.lemmas.List.{length-replicate}
 use Rattle.piece_table.specs.Progress.{Progress}
 use Rattle.segment_claim.specs.Book.{ClaimBook}

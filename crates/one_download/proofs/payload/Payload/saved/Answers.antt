@@ -1,6 +1,5 @@
-use Rattle.std.proofs.Common.{◌≡◌, length, List, Bool, sym, ap, ◌∙◌}
+use Rattle.std.proofs.Common.{length, List, Bool, sym, ap, ◌∙◌}
 use Rattle.std.proofs.lemmas.List.FromFn.{length-map-range_with_len}
-use Rattle.dl_kinds.specs.Plan.{blocks_of, pieces_of}
 use Rattle.dl_history.specs.Accounts.{after_save}
 use Rattle.one_download.specs.PayloadViews.{PayloadView, account_by}
 use Rattle.one_download.proofs.Payloads.{saved_is}

@@ -1,11 +1,8 @@
-use Rattle.std.proofs.Common.{◌≡◌, ◌<◌, length, sym, ap, refl, subst, ◌∙◌, arith}
+use Rattle.std.proofs.Common.{◌<◌, sym, subst, arith}
 use Rattle.dl_kinds.specs.Plan.{pieces_of}
-use Rattle.dl_history.specs.Accounts.{after_finding}
-use Rattle.piece_table.specs.Progress.{Progress}
 use Rattle.one_download.specs.DownloadViews.{IsFullUnverified}
-use Rattle.one_download.specs.PayloadViews.{PayloadView, account_by}
+use Rattle.one_download.specs.PayloadViews.{PayloadView}
 use Rattle.one_download.proofs.Blocks.{full_of_blocks}
-use Rattle.one_download.proofs.Payloads.{fits_more, found_is}
 use Rattle.one_download.proofs.payload.Payload.settled.Goals as goal
 
 pub set-requires : goal.set-requires
