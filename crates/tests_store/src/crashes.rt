@@ -150,11 +150,13 @@ fn cut(
     Ok((answered, disk.crash(alloc, fates)?.healed()))
 }
 
-/// Tries each choice of what a crash leaves where the call of this number fails. It is true where no call has this number.
+/// Tries choices of what a crash leaves where the call of this number fails: those of four changes, and of two where the
+/// payload is long. It is true where no call has this number.
 fn is_through(alloc: Global, life: &Life<'_>, failing: u64) -> Result<bool, Fail> {
     let moments = life.moments.split(", ").count();
+    let choices = if life.payload.len() < 1000 { 81 } else { 9 };
     let mut through = false;
-    for number in 0..81 {
+    for number in 0..choices {
         let fates = fates_of(alloc, number)?;
         let (answered, disk) = cut(alloc, life, failing, &fates)?;
         let found = given(alloc, &disk, &life.want)?;

@@ -1,4 +1,4 @@
-"""The cases of the store over real files: it reads the control file that aria2 left, aria2 takes ours, and what else may stand."""
+"""The cases of the store over real files: it reads what aria2 left, aria2 takes ours, and what else may stand."""
 import hashlib
 import os
 import re
