@@ -121,6 +121,12 @@ pub record IsProbeAt (mirrors : ℕ) (claim : Claim) : Type 0 where
   pub count : claim.run.count ≡ 0
   pub mirror : claim.mirror < mirrors
 
+-- this is the piece of the first open block of the claim that stands under a number, where it has one
+abbrev pub IsFirstPiece : Account → ℕ → ℕ → Type 0
+IsFirstPiece k id piece =
+    (claim : Claim) (block : ℕ) → standing_under k id ≡ Some claim → first_still_open k claim ≡ Some block
+    → piece ≡ piece_of k.progress.piece_len block
+
 -- the first open block of the claim that stands under a number is of this piece
 pub record IsOpenAt (k : Account) (id piece : ℕ) : Type 0 where
   pub claim : Claim

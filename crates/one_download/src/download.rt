@@ -6,7 +6,7 @@ ghost use Rattle.dl_history.specs.Listings.{ListsNone};
 ghost use Rattle.dl_history.specs.OwnEvents.{Loses, Settles};
 ghost use Rattle.dl_kinds.specs.Plan.{blocks_of, pieces_of};
 ghost use Rattle.dl_kinds.specs.declared.plan.TheConstants.{MAX_PIECES};
-ghost use Rattle.one_download.specs.DownloadViews.{HasNoneToSettle, IsClaimOf, IsFullUnverified, IsNextToSettle, IsOpenAt, IsPieceOf, IsProbeAt, IsRoomier, IsToSettle, IsUnverified, MayBlame, StaysSetUp, StaysUnmarked, UsesMarkRoom, is_opened_by, marks_after, standing_under, with_blame};
+ghost use Rattle.one_download.specs.DownloadViews.{HasNoneToSettle, IsClaimOf, IsFirstPiece, IsFullUnverified, IsNextToSettle, IsOpenAt, IsPieceOf, IsProbeAt, IsRoomier, IsToSettle, IsUnverified, MayBlame, StaysSetUp, StaysUnmarked, UsesMarkRoom, is_opened_by, marks_after, standing_under, with_blame};
 ghost use Rattle.one_download.specs.DownloadParts.{IsGiverAmong, some_of};
 ghost use Rattle.one_download.specs.Grants.{HasNoChoice, HasNoProbe, IsBlockChoice, IsProbeMirror, MayBeGranted, MaySplit, situation_with};
 ghost use Rattle.piece_table.specs.Progress.{IsStart};
@@ -380,6 +380,18 @@ impl OneDownload {
         match &self.payload {
             Some(payload) => payload.first_open(id),
             None => None,
+        }
+    }
+
+    /// The piece of the first block that is open in it: of a probe, and of no claim, piece 0.
+    pub fn first_piece(&self, id: u64) -> u32
+        ensures opened { is_opened_by self.now.account ≡ true
+            → IsFirstPiece self.now.account id result }
+        ensures unopened { is_opened_by self.now.account ≡ false → result ≡ 0 }
+    {
+        match &self.payload {
+            Some(payload) => payload.first_piece(id),
+            None => 0,
         }
     }
 

@@ -5,7 +5,7 @@ ghost use Rattle.dl_history.specs.Accounts.{after_finding, after_halt, after_lan
 ghost use Rattle.dl_history.specs.Listings.{ListsNone};
 ghost use Rattle.dl_kinds.specs.Plan.{blocks_of, pieces_of};
 ghost use Rattle.dl_kinds.specs.declared.plan.TheConstants.{MAX_PIECES};
-ghost use Rattle.one_download.specs.DownloadViews.{HasNoneToSettle, IsFullUnverified, IsNextToSettle, IsOpenAt, IsPieceOf, IsToSettle, IsUnverified, standing_under};
+ghost use Rattle.one_download.specs.DownloadViews.{HasNoneToSettle, IsFirstPiece, IsFullUnverified, IsNextToSettle, IsOpenAt, IsPieceOf, IsToSettle, IsUnverified, standing_under};
 ghost use Rattle.one_download.specs.Grants.{HasNoChoice, IsBlockChoice, MaySplit, situation_for};
 ghost use Rattle.one_download.specs.PayloadViews.{IsRunOf, account_before};
 ghost use Rattle.piece_table.specs.Progress.{IsFull, IsStart};
@@ -16,7 +16,7 @@ use crate::halts::end_soles;
 use crate::rows::{copy_over, is_copy, is_listing, list_blocks, lists_any};
 use crate::{Choice, Split};
 use bit_rows::BitRow;
-use dl_kinds::{Claim, Moment, Plan, Run, plan_laws};
+use dl_kinds::{BLOCK_LEN, Claim, Moment, Plan, Run, plan_laws};
 use mirror_blame::Marks;
 use piece_table::{Giver, Table};
 use segment_claim::{Claims, Limits};
@@ -295,6 +295,16 @@ impl Payload {
             (standing_under self.now.account id) }
     {
         self.claims.first_open(id, &self.table)
+    }
+
+    /// The piece of the first block that is open in it, and 0 where none is.
+    pub fn first_piece(&self, id: u64) -> u32
+        ensures { IsFirstPiece self.now.account id result }
+    {
+        match self.claims.first_open(id, &self.table) {
+            Some(block) => block / self.plan.piece_len.div_ceil(BLOCK_LEN),
+            None => 0,
+        }
     }
 
     /// How many claims stand.
