@@ -3,7 +3,8 @@ ghost use Rattle.std.specs.Prelude.{◌≡◌, ◌↔◌, ◌||◌, ℕ, IsTrue,
 ghost use Rattle.std.specs.Option.{is_some, option_and_then};
 ghost use Rattle.dl_history.specs.Accounts.{after_finding, after_halt, after_landing, after_loss, after_save, at_opening, first_still_open, listing_of, with_claim, with_finding, without_piece, unsettled_by};
 ghost use Rattle.dl_history.specs.Listings.{ListsNone};
-ghost use Rattle.dl_kinds.specs.Plan.{blocks_of, pieces_of};
+ghost use Rattle.dl_kinds.specs.Plan.{blocks_of, piece_of, pieces_of};
+ghost use Rattle.dl_kinds.specs.declared.claims.Claim.{Claim};
 ghost use Rattle.dl_kinds.specs.declared.plan.TheConstants.{MAX_PIECES};
 ghost use Rattle.one_download.specs.DownloadViews.{IsFullUnverified, IsNextToSettle, IsOpenAt, IsToSettle, IsUnverified, standing_under};
 ghost use Rattle.one_download.specs.Grants.{IsBlockChoice, MaySplit, situation_for};
@@ -17,7 +18,7 @@ use crate::halts::end_soles;
 use crate::rows::{copy_over, is_copy, is_listing, list_blocks, lists_any};
 use crate::{Choice, Split};
 use bit_rows::BitRow;
-use dl_kinds::{Claim, Moment, Plan, Run, plan_laws};
+use dl_kinds::{BLOCK_LEN, Claim, Moment, Plan, Run, plan_laws};
 use mirror_blame::Marks;
 use piece_table::{Giver, Table};
 use segment_claim::{Claims, Limits};
@@ -247,13 +248,7 @@ impl Payload {
     }
 
     /// The blocks and the mirror of the next claim.
-    pub fn choice(
-        &self,
-        marks: &Marks,
-        split: Split,
-        hosts: &[u16],
-        now: Moment,
-    ) -> Option<Choice>
+    pub fn choice(&self, marks: &Marks, split: Split, hosts: &[u16], now: Moment) -> Option<Choice>
         requires split { MaySplit marks.now.mirrors split hosts.now }
         requires room { 1 ≤ self.now.spare }
         ensures choice { IfSome result (IsBlockChoice (situation_for self.now.account self.now.wanted
@@ -302,6 +297,18 @@ impl Payload {
             (standing_under self.now.account id) }
     {
         self.claims.first_open(id, &self.table)
+    }
+
+    /// The piece of the first block that is open in it, and 0 where none is.
+    pub fn first_piece(&self, id: u64) -> u32
+        ensures { (claim : Claim) (block : ℕ) → standing_under self.now.account id ≡ Some claim
+            → first_still_open self.now.account claim ≡ Some block
+            → result ≡ piece_of self.now.account.progress.piece_len block }
+    {
+        match self.first_open(id) {
+            Some(block) => block / self.plan.piece_len.div_ceil(BLOCK_LEN),
+            None => 0,
+        }
     }
 
     /// How many claims stand.
