@@ -30,7 +30,8 @@ pub fn save_held<D: Disk>(
 ) -> Result<(), StoreErr>
     requires want { IsWant want.now }
     requires table { IsTableOf want.now table.now }
-    requires lengths { IsTrue D.tells → HasFiles want.now.dir want.now.layout (D.state disk.old).seen }
+    requires lengths { IsTrue D.tells
+        → HasFiles want.now.dir want.now.layout (D.state disk.old).seen }
     ensures held { IsTrue D.tells → (listing : Listing) → StaysHeldOrSaved want.now listing
         (listing_of table.now) (D.state disk.old) (D.state disk.new) }
     ensures saved { OnOk result (IsTrue D.tells
@@ -38,9 +39,11 @@ pub fn save_held<D: Disk>(
     ensures still { IsTrue D.tells → (listing : Listing)
         → HeldAreHeldStill want.now listing (D.state disk.old) (D.state disk.new) }
     ensures unmade { IsErrOf result NoMemory → IsTrue D.tells → (listing : Listing)
-        → IsHeldNow want.now listing (D.state disk.old) → IsHeldNow want.now listing (D.state disk.new) }
+        → IsHeldNow want.now listing (D.state disk.old)
+        → IsHeldNow want.now listing (D.state disk.new) }
     ensures besides { IsTrue D.tells → KeepsBesides want.now (D.state disk.old) (D.state disk.new) }
-    ensures others { IsTrue D.tells → OthersStaySound want.now (D.state disk.old) (D.state disk.new) }
+    ensures others { IsTrue D.tells
+        → OthersStaySound want.now (D.state disk.old) (D.state disk.new) }
     ensures cause { HasStoreCause (D.faults disk.old) (D.faults disk.new) result }
 {
     plan_laws();
@@ -69,7 +72,8 @@ pub fn write_held<D: Disk>(
     ensures still { IsTrue D.tells → (listing : Listing) → ListsNoneOf listing run
         → HeldAreHeldStill want.now listing (D.state disk.old) (D.state disk.new) }
     ensures besides { IsTrue D.tells → KeepsBesides want.now (D.state disk.old) (D.state disk.new) }
-    ensures others { IsTrue D.tells → OthersStaySound want.now (D.state disk.old) (D.state disk.new) }
+    ensures others { IsTrue D.tells
+        → OthersStaySound want.now (D.state disk.old) (D.state disk.new) }
     ensures cause { HasStoreCause (D.faults disk.old) (D.faults disk.new) result }
 {
     plan_laws();
@@ -87,9 +91,11 @@ pub fn finish_held<D: Disk>(alloc: Global, disk: &mut D, want: &Want) -> Result<
     ensures still { IsTrue D.tells → (listing : Listing)
         → HeldAreHeldStill want.now listing (D.state disk.old) (D.state disk.new) }
     ensures unmade { IsErrOf result NoMemory → IsTrue D.tells → (listing : Listing)
-        → IsHeldNow want.now listing (D.state disk.old) → IsHeldNow want.now listing (D.state disk.new) }
+        → IsHeldNow want.now listing (D.state disk.old)
+        → IsHeldNow want.now listing (D.state disk.new) }
     ensures besides { IsTrue D.tells → KeepsBesides want.now (D.state disk.old) (D.state disk.new) }
-    ensures others { IsTrue D.tells → OthersStaySound want.now (D.state disk.old) (D.state disk.new) }
+    ensures others { IsTrue D.tells
+        → OthersStaySound want.now (D.state disk.old) (D.state disk.new) }
     ensures cause { HasStoreCause (D.faults disk.old) (D.faults disk.new) result }
 {
     finish(alloc, disk, want)

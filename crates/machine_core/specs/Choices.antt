@@ -6,17 +6,15 @@ use Rattle.std.specs.Str.{bytes_eq}
 use Rattle.dl_kinds.specs.declared.claims.Claim.{Claim}
 use Rattle.dl_kinds.specs.declared.gid.Gid.{Gid}
 use Rattle.dl_kinds.specs.declared.plan.TheConstants.{BLOCK_LEN}
-use Rattle.link_source.specs.Endpoint.{endpoint_of}
 use Rattle.mirror_blame.specs.Choice.{IsChoice}
 use Rattle.mirror_blame.specs.Marks.{counted}
+use Rattle.mirror_hosts.specs.Hosts.{host_numbers}
 use Rattle.option_set.specs.Values.{OptionValues, number_value}
 use Rattle.option_set.specs.declared.kinds.Num.TheVariants as num
 use Rattle.segment_claim.specs.Free.{IsFreeGrant}
 use Rattle.segment_claim.specs.Situation.{Situation, host_loads}
 use Rattle.segment_claim.specs.Theft.{IsTheft, stolen_claim}
 use Rattle.slow_steal.specs.declared.theft.Steal.{Steal}
-use Rattle.url.specs.Parser.{parse_url}
-use Rattle.url.specs.Parts.{Parts}
 use Rattle.dl_history.specs.Accounts.{Account, account_of}
 use Rattle.dl_history.specs.OwnEvents.{OwnEvent}
 use Rattle.dl_history.specs.PayloadParts.{is_opened, blames_in}
@@ -49,30 +47,6 @@ options_now start (e ∷ before) download = options_now start before download
 abbrev pub mirror_urls : Subject → List (List ℕ)
 mirror_urls (Listed meta uris) = meta.seeds ++ uris
 mirror_urls (Unlisted uris) = uris
-
--- the text of a URL's host; the port doesn't count
-abbrev pub host_by : {E : Type 0} → Result Parts E → List ℕ
-host_by (Ok url) = (endpoint_of url).host
-host_by (Err e) = []
-
-abbrev pub url_host : List ℕ → List ℕ
-url_host url = host_by (parse_url None url)
-
--- the hosts, each once, in the order of their first mirrors
-abbrev pub with_host : List (List ℕ) → List ℕ → List (List ℕ)
-with_host known host = if list_any (bytes_eq host) known then known else known ++ host ∷ []
-
-abbrev pub distinct_hosts : List (List ℕ) → List (List ℕ) → List (List ℕ)
-distinct_hosts known [] = known
-distinct_hosts known (host ∷ hosts) = distinct_hosts (with_host known host) hosts
-
--- the number of each
-abbrev pub numbers_of_hosts : List (List ℕ) → List ℕ
-numbers_of_hosts hosts = map (λ host. position_or_len (bytes_eq host) (distinct_hosts [] hosts)) hosts
-
--- the number of each mirror's host
-abbrev pub host_numbers : List (List ℕ) → List ℕ
-host_numbers urls = numbers_of_hosts (map url_host urls)
 
 -- ---- the choice
 

@@ -14,7 +14,7 @@ use Rattle.span_map.specs.declared.files.FileLen.{FileLen}
 use Rattle.dl_history.specs.OwnEvents.{OwnEvent, Opens, Grants, Lands, Halts}
 use Rattle.dl_history.specs.StandingClaims.{standing_claims}
 use Rattle.dl_history.specs.PayloadParts.{is_landed_in}
-use Rattle.machine_core.specs.Choices.{numbers_of_hosts}
+use Rattle.mirror_hosts.specs.Hosts.{numbers_of_hosts}
 use Rattle.machine_core.specs.OwnParts.{own_of}
 use Rattle.machine_core.specs.Replays.{queue_in}
 use Rattle.machine_core.specs.Starts.{RunStart}

@@ -1,0 +1,7 @@
+use Rattle.std.proofs.Common.{◌≡◌, ℕ, ◌<◌, false, List, get_or}
+use Rattle.std.specs.Str.{bytes_eq}
+use Rattle.mirror_hosts.proofs.hosts.place_of.Given as goal
+
+abbrev pub invariant-loop-place : goal.invariant-loop-place
+invariant-loop-place l =
+    (k : ℕ) (d : List ℕ) → k < l.place → bytes_eq l.host (get_or l.known k d) ≡ false

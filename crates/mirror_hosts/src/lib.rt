@@ -1,0 +1,7 @@
+//! The hosts of mirrors: which mirrors share one.
+#![tactic(auto)]
+
+mod hosts;
+
+pub use dl_kinds::NoMemory;
+pub use hosts::host_numbers;
