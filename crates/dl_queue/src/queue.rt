@@ -5,6 +5,7 @@ ghost use Rattle.dl_kinds.specs.declared.status.Status.TheVariants.{Active};
 ghost use Rattle.dl_queue.specs.declared.kinds.QueueErr.TheVariants.{NotFound, NoMemory};
 ghost use Rattle.dl_queue.specs.Places.{status_of, active_place, queued_place, stopped_place, StandsAmong};
 ghost use Rattle.dl_queue.specs.Rising.{moved_up};
+ghost use Rattle.dl_queue.specs.Room.{number_in};
 ghost use Rattle.dl_queue.specs.Calls.{QueueCall, refusal, effect, after, queue_answer, has_stopped, stopped_from, paused_from, with_pause, target_of, options_in, Finds};
 
 use crate::kinds::ending_by_status;
@@ -331,6 +332,13 @@ impl Queue {
                 count: named.count as u32,
             }),
         }
+    }
+
+    /// The number of a download in the order of adding, from 0.
+    pub fn number(&self, gid: Gid) -> Option<usize>
+        ensures { result ≡ number_in self.now.added gid }
+    {
+        self.numbers.get(&gid.0).copied()
     }
 
     /// The options of a download that was added in this run.

@@ -7,3 +7,6 @@ pub mod Wanted
 pub mod Choices
 pub mod RunLegal
 pub mod WorkedRuns
+pub mod Journals
+pub mod MachineViews
+pub mod MachineParts

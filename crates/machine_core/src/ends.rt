@@ -1,5 +1,10 @@
 // How a download ends.
-use dl_kinds::{Gid, Mark};
+ghost use Rattle.std.specs.Prelude.{◌≡◌, IsTrue};
+ghost use Rattle.dl_kinds.specs.declared.gid.Gid.{Gid};
+ghost use Rattle.dl_queue.specs.Calls.{QueueCall, has_stopped};
+ghost use Rattle.machine_core.specs.Replays.{stop_of};
+
+use dl_kinds::{Gid, Mark, Status};
 
 /// How a download ends, with what shows why.
 #[derive(Clone, Copy, Debug, PartialEq, Eq)]
@@ -24,4 +29,17 @@ pub enum End {
     SameHash { gid: Gid },
     /// The payload doesn't have its checksum.
     Checksum,
+}
+
+impl End {
+    /// The status with which it stops.
+    pub(crate) fn status(&self) -> Status
+        ensures status { (gid : Gid) → stop_of gid self.now ≡ QueueCall.Stop gid result }
+        ensures stopped { IsTrue (has_stopped result) }
+    {
+        match self {
+            End::Complete => Status::Complete,
+            _ => Status::Failed,
+        }
+    }
 }

@@ -1,14 +1,22 @@
-//! The pure core of a run: what may happen, one event after the other, and what the events say of its downloads.
+//! The pure core of a run: what may happen, one event after the other, what the events say of its downloads, and the
+//! machine that keeps it.
 #![tactic(auto)]
 
 mod calls;
 mod ends;
+mod entries;
 mod events;
+mod halts;
+mod journal;
 mod laws;
+mod machine;
 
 pub use calls::Call;
 pub use ends::End;
 pub use events::Event;
+pub use journal::{Journal, MAX_EVENTS};
 pub use laws::{
     downloads_are_legal, downloads_stay, known_downloads_are_idle, worked_runs_are_told,
 };
+pub use machine::Machine;
+pub use std::alloc::AllocError as NoMemory;

@@ -1,0 +1,17 @@
+use Rattle.std.proofs.Common.{subst}
+use Rattle.std.specs.Prelude.{IfNone, IfSome, None}
+use Rattle.std.proofs.Common.{◌≡◌}
+use Rattle.machine_core.specs.MachineViews.{IsPlaceOf, MachineView}
+use Rattle.machine_core.specs.RunLegal.{download_in}
+use Rattle.machine_core.proofs.Told.{told_found, told_none}
+use Rattle.machine_core.proofs.machine.Machine.place.Goals as goal
+
+pub returns-clause-found : goal.returns-clause-found
+returns-clause-found c =
+    subst (λ (v : MachineView). IfSome c.number.result (IsPlaceOf v c.args.gid)) c.self.view_is
+    (told_found _ _ _ _ c.args.gid c.number.result c.self.invariant c.number.ensures)
+
+pub returns-clause-none : goal.returns-clause-none
+returns-clause-none c =
+    subst (λ (v : MachineView). IfNone c.number.result (download_in v.start v.past c.args.gid ≡ None)) c.self.view_is
+    (told_none _ _ c.args.gid c.number.result c.self.invariant c.number.ensures)

@@ -1,0 +1,64 @@
+// What happened in a run.
+ghost use Rattle.std.specs.Prelude.{◌≡◌, ◌≤◌, ◌-◌, ◌∷◌, ◌++◌, [], length, OnOk, OnErr, option_copied, slice_get, vec_len, vec_capacity};
+ghost use Rattle.machine_core.specs.declared.journal.TheConstants.{MAX_EVENTS};
+
+use crate::Event;
+use std::alloc::{AllocError, Global};
+
+/// The most events of a run.
+pub const MAX_EVENTS: usize = 4_294_967_295;
+
+/// What happened in a run, in the order in which it happened.
+#[derive(Debug, Drop)]
+pub struct Journal {
+    events: Vec<Event>,
+    ghost few: { vec_len events ≤ MAX_EVENTS },
+}
+
+impl Journal {
+    ghost use Rattle.machine_core.specs.Journals.{room_in};
+
+    pub(crate) fn new(alloc: Global) -> Self
+        ensures { result.events.items ≡ [] }
+    {
+        Journal {
+            events: Vec::new(alloc),
+        }
+    }
+
+    /// How many events came.
+    pub fn len(&self) -> u32
+        ensures { result ≡ length self.now.events.items }
+    {
+        self.events.len() as u32
+    }
+
+    /// The event at a place, counted from 0.
+    pub fn get(&self, place: u32) -> Option<&Event>
+        ensures { option_copied result ≡ slice_get self.now.events.items place }
+    {
+        self.events.get(place as usize)
+    }
+
+    /// Makes room for `more` more events in all; want of memory also comes where these would be too many.
+    pub(crate) fn reserve(&mut self, more: usize) -> Result<(), AllocError>
+        requires few { more ≤ MAX_EVENTS }
+        ensures same { self.new.events.items ≡ self.old.events.items }
+        ensures ok { OnOk result (more ≤ room_in self.new) }
+        ensures room { room_in self.old ≤ room_in self.new }
+    {
+        if more > MAX_EVENTS - self.events.len() {
+            return Err(AllocError);
+        }
+        self.events.reserve(more)
+    }
+
+    /// An event comes.
+    pub(crate) fn add(&mut self, event: Event)
+        requires { 1 ≤ room_in self.old }
+        ensures events { self.new.events.items ≡ self.old.events.items ++ event ∷ [] }
+        ensures room { room_in self.new ≡ room_in self.old - 1 }
+    {
+        self.events.push_reserved(event);
+    }
+}

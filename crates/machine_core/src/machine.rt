@@ -1,0 +1,383 @@
+// The state of a run.
+ghost use Rattle.std.specs.Prelude.{◌≡◌, ◌≤◌, [], false, reverse, IfNone, IfOk, IfSome, MatchBool, None, option_copied, slice_get, true};
+ghost use Rattle.std.specs.Option.{option_map};
+ghost use Rattle.dl_history.specs.PayloadParts.{is_opened};
+ghost use Rattle.machine_core.specs.Choices.{options_now};
+ghost use Rattle.machine_core.specs.OwnParts.{own_of};
+ghost use Rattle.machine_core.specs.MachineViews.{Appends, HasMarkRoomAt, IsFindingOf, IsLandingOf, IsLossOfClaim, IsNext, IsPlaceOf, IsSizingBy, StandsNowhere, StandsSomewhere, StandsUnder, IsFirstOpen, account_in, is_added_in, UsesMarkRoomAt, UsesMarkRoomOf, UsesRoom, mark_spare_in};
+ghost use Rattle.machine_core.specs.RunLegal.{IsLegal, MayFollow, doors_left, download_in};
+ghost use Rattle.machine_core.specs.declared.events.Event.TheVariants as event;
+
+use crate::entries::Entry;
+use crate::halts::halt_all;
+use crate::{End, Event, Journal};
+use dl_history::{accounts_match_events, histories_are_sound, unopened_accounts_are_alike};
+use dl_kinds::{Claim, Gid, Mark, Moment, Run, plan_laws};
+use dl_queue::Queue;
+use one_download::steps_match_events;
+use option_set::{Num, Options};
+use piece_table::Table;
+use std::alloc::{AllocError, Global};
+use std::marker::Model;
+
+/// A run: what happened, and what is kept of its queue and of each download.
+#[derive(Drop)]
+pub struct Machine {
+    gids: u64,
+    // The global options at the start, and as they are now.
+    first: Options,
+    global: Options,
+    doors: u16,
+    left: u16,
+    shut: bool,
+    stopped: bool,
+    queue: Queue,
+    // In the order of adding.
+    entries: Vec<Entry>,
+    // The gid of the download of each claim, by its number.
+    homes: Vec<Gid>,
+    journal: Journal,
+}
+
+impl Model for Machine {
+    ghost use Rattle.std.specs.Prelude.{◌-◌, map, reverse};
+    ghost use Rattle.machine_core.specs.Journals.{room_in};
+    ghost use Rattle.machine_core.specs.MachineParts.{KeepsRun, kept_room};
+    ghost use Rattle.machine_core.specs.MachineViews.{MachineView};
+
+    ghost Value = { MachineView };
+
+    ghost view = { λ m. record {
+      start = record { gids = m.gids; global = m.first; doors = m.doors };
+      past = reverse m.journal.events.items;
+      spare = room_in m.journal - kept_room m.doors m.left m.stopped;
+      mark_spares = map (λ entry. entry.state.mark_spare) m.entries.items;
+    } };
+
+    ghost invariant = { λ m. KeepsRun (reverse m.journal.events.items) record {
+      start = record { gids = m.gids; global = m.first; doors = m.doors };
+      events = m.journal.events.items;
+      queue = m.queue;
+      global = m.global;
+      shut = m.shut;
+      stopped = m.stopped;
+      left = m.left;
+      entries = m.entries.items;
+      homes = m.homes.items;
+      room = room_in m.journal;
+    } };
+}
+
+fn gid_at(homes: &[Gid], id: u64) -> Option<Gid>
+    ensures { result ≡ slice_get homes.now id }
+{
+    homes.get(id as usize).copied()
+}
+
+impl Machine {
+    /// A run in which nothing happened. `gids` is what the gids of downloads are made from, `doors` how many doors the
+    /// console has.
+    pub fn new(alloc: Global, gids: u64, global: Options, doors: u16) -> Result<Self, AllocError>
+        ensures start { IfOk result (λ m. m.start ≡ record { gids = gids; global = global; doors = doors }) }
+        ensures past { IfOk result (λ m. m.past ≡ []) }
+        ensures downloads { IfOk result (λ m. m.mark_spares ≡ []) }
+    {
+        let mut journal = Journal::new(alloc);
+        journal.reserve(doors as usize + 1)?;
+        let limit = global.number(Num::MaxConcurrentDownloads) as u16;
+        Ok(Machine {
+            gids,
+            first: global.copy(alloc)?,
+            global,
+            doors,
+            left: 0,
+            shut: false,
+            stopped: false,
+            queue: Queue::new(alloc, limit),
+            entries: Vec::new(alloc),
+            homes: Vec::new(alloc),
+            journal,
+        })
+    }
+
+    /// What happened.
+    pub fn journal(&self) -> &Journal
+        ensures events { result.now.events.items ≡ reverse self.now.past }
+        ensures legal { IsLegal self.now.start self.now.past }
+    {
+        &self.journal
+    }
+
+    pub fn into_journal(self) -> Journal
+        ensures events { result.events.items ≡ reverse self.past }
+        ensures legal { IsLegal self.start self.past }
+    {
+        self.journal
+    }
+
+    fn place(&self, gid: Gid) -> Option<usize>
+        ensures found { IfSome result (λ place. IsPlaceOf self.now gid place) }
+        ensures none { IfNone result (download_in self.now.start self.now.past gid ≡ None) }
+    {
+        self.queue.number(gid)
+    }
+
+    /// The claim that stands under a number, and its download.
+    pub fn claim(&self, id: u64) -> Option<(Gid, Claim)>
+        ensures found { IfSome result (λ home. StandsUnder self.now id home.0 home.1) }
+        ensures none { IfNone result (StandsNowhere self.now id) }
+    {
+        plan_laws();
+        histories_are_sound();
+        accounts_match_events();
+        steps_match_events();
+        let gid = gid_at(&self.homes, id)?;
+        let place = self.place(gid)?;
+        let claim = self.entries[place].state.claim(id)?;
+        Some((gid, claim))
+    }
+
+    /// Blocks of a claim that stands come, all of them open in it.
+    pub fn landed(&mut self, claim: u64, run: Run, now: Moment)
+        requires legal { IsNext self.old (IsLandingOf claim run now) }
+        requires few { run.count ≤ 64 }
+        requires room { 1 ≤ self.old.spare }
+        ensures event { Appends self.old self.new (IsLandingOf claim run now) }
+        ensures room { UsesRoom self.old self.new }
+        ensures mark_room { self.new.mark_spares ≡ self.old.mark_spares }
+    {
+        plan_laws();
+        histories_are_sound();
+        accounts_match_events();
+        steps_match_events();
+        let (gid, granted) = self.claim(claim).unwrap();
+        let mirror = granted.mirror;
+        let place = self.place(gid).unwrap();
+        self.entries[place].state.landed(run, mirror);
+        self.journal.add(Event::Landed {
+            gid,
+            claim,
+            mirror,
+            run,
+            now,
+        });
+    }
+
+    /// The blocks of a piece go.
+    pub fn cleared(&mut self, gid: Gid, piece: u32)
+        requires legal { MayFollow self.old.start self.old.past (event.Cleared gid piece) }
+        requires room { 1 ≤ self.old.spare }
+        ensures event { Appends self.old self.new (λ e. e ≡ event.Cleared gid piece) }
+        ensures room { UsesRoom self.old self.new }
+        ensures mark_room { self.new.mark_spares ≡ self.old.mark_spares }
+    {
+        plan_laws();
+        histories_are_sound();
+        accounts_match_events();
+        steps_match_events();
+        let place = self.place(gid).unwrap();
+        self.entries[place].state.cleared(piece);
+        self.journal.add(Event::Cleared { gid, piece });
+    }
+
+    /// The progress of a download is saved.
+    pub fn saved(&mut self, gid: Gid, now: Moment)
+        requires legal { MayFollow self.old.start self.old.past (event.Saved gid now) }
+        requires room { 1 ≤ self.old.spare }
+        ensures event { Appends self.old self.new (λ e. e ≡ event.Saved gid now) }
+        ensures room { UsesRoom self.old self.new }
+        ensures mark_room { self.new.mark_spares ≡ self.old.mark_spares }
+    {
+        plan_laws();
+        histories_are_sound();
+        accounts_match_events();
+        steps_match_events();
+        let place = self.place(gid).unwrap();
+        self.entries[place].state.saved(now);
+        self.journal.add(Event::Saved { gid, now });
+    }
+
+    /// The whole payload of a download is found right or wrong.
+    pub fn checked(&mut self, gid: Gid, right: bool)
+        requires legal { MayFollow self.old.start self.old.past (event.Checked gid right) }
+        requires room { 1 ≤ self.old.spare }
+        ensures event { Appends self.old self.new (λ e. e ≡ event.Checked gid right) }
+        ensures room { UsesRoom self.old self.new }
+        ensures mark_room { self.new.mark_spares ≡ self.old.mark_spares }
+    {
+        plan_laws();
+        histories_are_sound();
+        accounts_match_events();
+        steps_match_events();
+        let place = self.place(gid).unwrap();
+        self.entries[place].state.checked(right);
+        self.journal.add(Event::Checked { gid, right });
+    }
+
+    /// A full piece that isn't verified is found right or wrong.
+    pub fn settled(&mut self, gid: Gid, piece: u32, right: bool)
+        requires legal { IsNext self.old (IsFindingOf gid piece right) }
+        requires room { 1 ≤ self.old.spare }
+        requires mark_room { right ≡ false → 1 ≤ mark_spare_in self.old gid }
+        ensures event { Appends self.old self.new (IsFindingOf gid piece right) }
+        ensures room { UsesRoom self.old self.new }
+        ensures mark_room { UsesMarkRoomOf self.old self.new gid }
+    {
+        plan_laws();
+        histories_are_sound();
+        accounts_match_events();
+        steps_match_events();
+        let place = self.place(gid).unwrap();
+        let giver = self.entries[place].state.settled(piece, right);
+        self.journal.add(Event::Settled {
+            gid,
+            piece,
+            right,
+            giver,
+        });
+    }
+
+    /// A claim that stands fails, at its first open block; a probe at piece 0.
+    pub fn lost(&mut self, claim: u64, mark: Mark)
+        requires legal { IsNext self.old (IsLossOfClaim claim mark) }
+        requires room { 1 ≤ self.old.spare }
+        requires mark_room { HasMarkRoomAt self.old claim }
+        ensures event { Appends self.old self.new (IsLossOfClaim claim mark) }
+        ensures room { UsesRoom self.old self.new }
+        ensures mark_room { UsesMarkRoomAt self.old self.new claim }
+    {
+        plan_laws();
+        histories_are_sound();
+        accounts_match_events();
+        steps_match_events();
+        let (gid, granted) = self.claim(claim).unwrap();
+        let mirror = granted.mirror;
+        let place = self.place(gid).unwrap();
+        let piece = self.entries[place].state.first_piece(claim);
+        self.entries[place].state.lost(claim, mirror, piece, mark);
+        self.journal.add(Event::Lost {
+            gid,
+            claim,
+            mirror,
+            piece,
+            mark,
+        });
+    }
+
+    /// A probe that stands tells the length of its payload, in bytes.
+    pub fn sized(&mut self, claim: u64, total: u64)
+        requires legal { IsNext self.old (IsSizingBy claim total) }
+        requires room { 1 ≤ self.old.spare }
+        ensures event { Appends self.old self.new (IsSizingBy claim total) }
+        ensures room { UsesRoom self.old self.new }
+        ensures mark_room { self.new.mark_spares ≡ self.old.mark_spares }
+    {
+        plan_laws();
+        histories_are_sound();
+        accounts_match_events();
+        steps_match_events();
+        unopened_accounts_are_alike();
+        let (gid, _) = self.claim(claim).unwrap();
+        let place = self.place(gid).unwrap();
+        self.entries[place].state.sized(claim, total);
+        self.journal.add(Event::Sized { gid, claim, total });
+    }
+
+    /// A download ends.
+    pub fn ended(&mut self, gid: Gid, end: End)
+        requires legal { MayFollow self.old.start self.old.past (event.Ended gid end) }
+        requires room { 1 ≤ self.old.spare }
+        ensures event { Appends self.old self.new (λ e. e ≡ event.Ended gid end) }
+        ensures room { UsesRoom self.old self.new }
+        ensures mark_room { self.new.mark_spares ≡ self.old.mark_spares }
+    {
+        plan_laws();
+        histories_are_sound();
+        accounts_match_events();
+        steps_match_events();
+        let place = self.place(gid).unwrap();
+        let _ = self.queue.stop(gid, end.status());
+        self.entries[place].state.halted(true);
+        self.journal.add(Event::Ended { gid, end });
+    }
+
+    /// The run stops: no claim stands any more.
+    pub fn stopped(&mut self)
+        requires { MayFollow self.old.start self.old.past event.Stopped }
+        ensures event { Appends self.old self.new (λ e. e ≡ event.Stopped) }
+        ensures room { self.new.spare ≡ self.old.spare }
+        ensures mark_room { self.new.mark_spares ≡ self.old.mark_spares }
+    {
+        halt_all(&mut self.entries);
+        self.stopped = true;
+        self.journal.add(Event::Stopped);
+    }
+
+    /// A door of the console closed.
+    pub fn left(&mut self)
+        requires { MayFollow self.old.start self.old.past event.Left }
+        ensures event { Appends self.old self.new (λ e. e ≡ event.Left) }
+        ensures room { self.new.spare ≡ self.old.spare }
+        ensures mark_room { self.new.mark_spares ≡ self.old.mark_spares }
+    {
+        self.left += 1;
+        self.journal.add(Event::Left);
+    }
+
+    // ---- reads
+
+    /// Whether a claim stands under a number.
+    pub fn stands(&self, id: u64) -> bool
+        ensures { MatchBool result (StandsSomewhere self.now id) (StandsNowhere self.now id) }
+    {
+        match self.claim(id) {
+            Some(_) => true,
+            None => false,
+        }
+    }
+
+    /// The first block that is open in the claim that stands under a number: none of a probe, and where none stands.
+    pub fn first_open(&self, id: u64) -> Option<u32>
+        ensures { IsFirstOpen self.now id result }
+    {
+        plan_laws();
+        histories_are_sound();
+        accounts_match_events();
+        steps_match_events();
+        let entries = &self.entries;
+        let (gid, _) = self.claim(id)?;
+        let place = self.place(gid)?;
+        entries[place].state.first_open(id)
+    }
+
+    /// What a download has of its payload, once it is opened.
+    pub fn table(&self, gid: Gid) -> Option<&Table>
+        ensures some { IfSome result (λ table. table.now ≡ (account_in self.now gid).progress) }
+        ensures opened { IfSome result (λ _. is_opened (own_of self.now.start self.now.past gid) ≡ true) }
+        ensures none { is_added_in self.now gid ≡ true
+            → IfNone result (is_opened (own_of self.now.start self.now.past gid) ≡ false) }
+    {
+        plan_laws();
+        histories_are_sound();
+        accounts_match_events();
+        steps_match_events();
+        let place = self.place(gid)?;
+        self.entries[place].state.table()
+    }
+
+    /// The options of a download, as they are now.
+    pub fn options(&self, gid: Gid) -> Option<&Options>
+        ensures { option_copied result
+            ≡ option_map (options_now self.now.start self.now.past) (download_in self.now.start self.now.past gid) }
+    {
+        let place = self.place(gid)?;
+        Some(&self.entries[place].options)
+    }
+
+    /// How many doors of the console stand.
+    pub fn doors(&self) -> u16
+        ensures { result ≡ doors_left self.now.start self.now.past }
+    {
+        self.doors.saturating_sub(self.left)
+    }
+}
