@@ -4,8 +4,7 @@ ghost use Rattle.std.specs.Option.{option_and_then};
 ghost use Rattle.dl_history.specs.Accounts.{after_finding, after_halt, after_landing, after_loss, after_save, after_sizing, at_opening, first_still_open, listing_of, new_account, with_claim, without_claim, without_piece};
 ghost use Rattle.dl_history.specs.Listings.{ListsNone};
 ghost use Rattle.dl_history.specs.OwnEvents.{Loses, Settles};
-ghost use Rattle.dl_kinds.specs.Plan.{blocks_of, piece_of, pieces_of};
-ghost use Rattle.dl_kinds.specs.declared.claims.Claim.{Claim};
+ghost use Rattle.dl_kinds.specs.Plan.{blocks_of, pieces_of};
 ghost use Rattle.dl_kinds.specs.declared.plan.TheConstants.{MAX_PIECES};
 ghost use Rattle.one_download.specs.DownloadViews.{HasNoneToSettle, IsClaimOf, IsFirstPiece, IsFullUnverified, IsNextToSettle, IsOpenAt, IsPieceOf, IsProbeAt, IsRoomier, IsToSettle, IsUnverified, MayBlame, StaysSetUp, StaysUnmarked, UsesMarkRoom, is_opened_by, marks_after, standing_under, with_blame};
 ghost use Rattle.one_download.specs.DownloadParts.{IsGiverAmong, some_of};
@@ -386,15 +385,8 @@ impl OneDownload {
 
     /// The piece of the first block that is open in it: of a probe, and of no claim, piece 0.
     pub fn first_piece(&self, id: u64) -> u32
-<<<<<<< HEAD
         ensures opened { is_opened_by self.now.account ≡ true
             → IsFirstPiece self.now.account id result }
-=======
-        ensures opened { is_opened_by self.now.account ≡ true → (claim : Claim) (block : ℕ)
-            → standing_under self.now.account id ≡ Some claim
-            → first_still_open self.now.account claim ≡ Some block
-            → result ≡ piece_of self.now.account.progress.piece_len block }
->>>>>>> bb911faf89874c34d42c7db63b3f727de3389a62
         ensures unopened { is_opened_by self.now.account ≡ false → result ≡ 0 }
     {
         match &self.payload {

@@ -3,8 +3,7 @@ ghost use Rattle.std.specs.Prelude.{◌≡◌, ◌↔◌, ◌||◌, ℕ, IsTrue,
 ghost use Rattle.std.specs.Option.{is_some, option_and_then};
 ghost use Rattle.dl_history.specs.Accounts.{after_finding, after_halt, after_landing, after_loss, after_save, at_opening, first_still_open, listing_of, with_claim, with_finding, without_piece, unsettled_by};
 ghost use Rattle.dl_history.specs.Listings.{ListsNone};
-ghost use Rattle.dl_kinds.specs.Plan.{blocks_of, piece_of, pieces_of};
-ghost use Rattle.dl_kinds.specs.declared.claims.Claim.{Claim};
+ghost use Rattle.dl_kinds.specs.Plan.{blocks_of, pieces_of};
 ghost use Rattle.dl_kinds.specs.declared.plan.TheConstants.{MAX_PIECES};
 ghost use Rattle.one_download.specs.DownloadViews.{HasNoneToSettle, IsFirstPiece, IsFullUnverified, IsNextToSettle, IsOpenAt, IsPieceOf, IsToSettle, IsUnverified, standing_under};
 ghost use Rattle.one_download.specs.Grants.{HasNoChoice, IsBlockChoice, MaySplit, situation_for};
@@ -300,17 +299,9 @@ impl Payload {
 
     /// The piece of the first block that is open in it, and 0 where none is.
     pub fn first_piece(&self, id: u64) -> u32
-<<<<<<< HEAD
         ensures { IsFirstPiece self.now.account id result }
     {
         match self.claims.first_open(id, &self.table) {
-=======
-        ensures { (claim : Claim) (block : ℕ) → standing_under self.now.account id ≡ Some claim
-            → first_still_open self.now.account claim ≡ Some block
-            → result ≡ piece_of self.now.account.progress.piece_len block }
-    {
-        match self.first_open(id) {
->>>>>>> bb911faf89874c34d42c7db63b3f727de3389a62
             Some(block) => block / self.plan.piece_len.div_ceil(BLOCK_LEN),
             None => 0,
         }
