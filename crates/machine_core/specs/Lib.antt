@@ -5,5 +5,6 @@ pub mod LawfulCalls
 pub mod FileNames
 pub mod Wanted
 pub mod Choices
+pub mod Offers
 pub mod RunLegal
 pub mod WorkedRuns
