@@ -5,6 +5,7 @@ pub mod LawfulCalls
 pub mod FileNames
 pub mod Wanted
 pub mod Choices
+pub mod Offers
 pub mod RunLegal
 pub mod WorkedRuns
 pub mod Journals
