@@ -19,7 +19,7 @@ use Rattle.dl_history.specs.OwnLegal.{IsLossOf, IsWrongLast, LegalOwn, MayLand, 
 use Rattle.dl_history.specs.PayloadParts.{is_opened, is_sole_in}
 use Rattle.dl_history.specs.StandingClaims.{blocks_in, first_open_since, granted_claims, is_open_since, is_probe, is_standing, piece_of_first, standing_claims}
 use Rattle.one_download.specs.DownloadLaws.{AccountsTellOpening}
-use Rattle.one_download.specs.DownloadViews.{DownloadView, HasPiece, IsFullUnverified, IsOpenAt, IsUnverified, is_opened_by, standing_under}
+use Rattle.one_download.specs.DownloadViews.{DownloadView, IsPieceLanded, IsFullUnverified, IsOpenAt, IsUnverified, is_opened_by, standing_under}
 use Rattle.machine_core.specs.OwnParts.{PayloadLengths, no_lengths, own_of, payload_lengths_of}
 use Rattle.machine_core.specs.Replays.{replay_of}
 use Rattle.machine_core.specs.RunLegal.{IsLegal, known_lengths, mirrors_by}

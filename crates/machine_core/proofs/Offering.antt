@@ -14,11 +14,12 @@ use Rattle.dl_history.specs.AccountLaws.{MatchesEvents}
 use Rattle.dl_history.specs.Accounts.{Account, account_of}
 use Rattle.dl_history.specs.OwnEvents.{OwnEvent}
 use Rattle.dl_history.specs.PayloadParts.{blames_in}
+use Rattle.mirror_hosts.specs.Hosts.{host_numbers}
 use Rattle.one_download.specs.DownloadViews.{DownloadView, IsToSettle}
 use Rattle.one_download.specs.Grants.{HasNoChoice, IsBlockChoice, IsFreeChoice, IsProbeMirror, IsTheftChoice, claim_by, situation_with, steal_by}
 use Rattle.one_download.specs.declared.choices.Choice.{Choice}
 use Rattle.one_download.specs.declared.choices.Split.{Split}
-use Rattle.machine_core.specs.Choices.{IsBlockGrant, IsProbeGrant, IsTheftGrant, host_numbers, mirror_urls, situation_by}
+use Rattle.machine_core.specs.Choices.{IsBlockGrant, IsProbeGrant, IsTheftGrant, mirror_urls, situation_by}
 use Rattle.machine_core.specs.Offers.{AwaitsFinding, no_blocks, offered_claim}
 use Rattle.machine_core.specs.OwnParts.{PayloadLengths}
 use Rattle.machine_core.specs.Starts.{Download}
