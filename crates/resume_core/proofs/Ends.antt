@@ -82,8 +82,7 @@ module _ (want : Want) (other : IsOther want.dir want.layout (control_name want)
           files = files_kept want from.0 image same;
         } in
         (sound_same want from.0 image same_for was.0, later (agrees_same want a.seen from.0 image same_for was.1)))
-        (λ gone. (sound_finished want a.seen image gone, later (agrees_finished want a.seen image gone)))
-        from.2.files
+        (λ gone. (sound_finished want a.seen image gone, later (agrees_finished want a.seen image gone))) from.2.files
 
     -- the payload as the disk reads it now
     pub finished_now : AreFinished want a.seen c.may_leave → AreFinished want c.seen c.may_leave

@@ -33,10 +33,10 @@ module _ (dir : List ℕ) where
       → AllByRecursion (λ file. R file (at_name a file)) files → AllByRecursion (λ file. R file (at_name b file)) files
   each_as R a b [] same all = tt
   each_as R a b (file ∷ files) same (here, more) = (
-    subst (R file) (sym (head_same (at_name b file) (at_name a file) (map (at_name b) files) (map (at_name a) files)
-        same)) here,
-    each_as R a b files (tail_same (at_name b file) (at_name a file) (map (at_name b) files) (map (at_name a) files)
-        same) more,
+    subst (R file) (sym (head_same (at_name b file) (at_name a file) (map (at_name b) files)
+        (map (at_name a) files) same)) here,
+    each_as R a b files (tail_same (at_name b file) (at_name a file) (map (at_name b) files)
+        (map (at_name a) files) same) more,
   )
 
   -- the same of two states of each file
@@ -127,10 +127,10 @@ module _ (want : Want) where
   pub fits_from : (a b c : Files) → files_in want b ≡ files_in want a → FitsPayload want b c → FitsPayload want a c
   fits_from a b c same fits = record {
     resized = resized_from a b c same fits.resized;
-    reaches = λ piece reach. fits.reaches piece (subst (λ (files : List (Option (List ℕ))). ReachesPiece want files
-        piece) (sym same) reach);
-    bytes = λ piece reach. fits.bytes piece (subst (λ (files : List (Option (List ℕ))). ReachesPiece want files
-        piece) (sym same) reach)
+    reaches = λ piece reach. fits.reaches piece
+        (subst (λ (files : List (Option (List ℕ))). ReachesPiece want files piece) (sym same) reach);
+    bytes = λ piece reach. fits.bytes piece
+        (subst (λ (files : List (Option (List ℕ))). ReachesPiece want files piece) (sym same) reach)
         ∙ ap (λ (files : List (Option (List ℕ))). piece_payload want files piece) same;
   }
 
@@ -139,8 +139,8 @@ module _ (want : Want) where
     resized = resized_to a b c same fits.resized;
     reaches = λ piece reach. subst (λ (files : List (Option (List ℕ))). ReachesPiece want files piece) (sym same)
         (fits.reaches piece reach);
-    bytes = λ piece reach. ap (λ (files : List (Option (List ℕ))). piece_payload want files piece) same ∙ fits.bytes
-        piece reach;
+    bytes = λ piece reach. ap (λ (files : List (Option (List ℕ))). piece_payload want files piece) same
+        ∙ fits.bytes piece reach;
   }
 
   -- ---- files that have their lengths
@@ -203,8 +203,8 @@ module _ (want : Want) where
   fits_as_is seen has = record {
     resized = All-from_recursion (λ file. IsFitted file (seen (name_of want.dir file.path))
         (seen (name_of want.dir file.path))) want.layout
-        (fitted_each seen want.layout (recursion_from_All (λ file. HasLen file (seen (name_of want.dir file.path)))
-        want.layout has));
+        (fitted_each seen want.layout
+        (recursion_from_All (λ file. HasLen file (seen (name_of want.dir file.path))) want.layout has));
     reaches = λ piece reach. reach;
     bytes = λ piece reach. refl;
   }

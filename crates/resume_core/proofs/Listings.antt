@@ -89,8 +89,8 @@ module _ (want : Want) (is : IsWant want) (verified listed : List Bool) (ext : �
       let p = (are.exact in_flight.piece).0 in_flight.listed in
       bit_in_part want.plan.total want.plan.piece_len listed is.plan.some start.blocks in_flight.piece.index block
       (below_pieces in_flight.piece.index p.before) in_flight.of
-      (ap (λ (row : List Bool). slice_get row (place_of want.plan.piece_len block)) (sym p.blocks) ∙ in_flight.set))
-      lists
+      (ap (λ (row : List Bool). slice_get row (place_of want.plan.piece_len block)) (sym p.blocks)
+      ∙ in_flight.set)) lists
 
   -- a block of the row, by whether its piece is verified
   module _ (block : ℕ) (set : slice_get listed block ≡ Some true) where

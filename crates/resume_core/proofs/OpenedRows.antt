@@ -87,8 +87,8 @@ block_is len block piece place of at =
     ∙ ap (λ (n : ℕ). n * full_blocks len + place_of len block) of
     ∙ ap (λ (n : ℕ). piece * full_blocks len + n) at
 
-pub in_piece_below : (total len : ℕ) → 1 ≤ len → (block piece : ℕ) → piece_of len block ≡ piece → piece < pieces_of
-    total len
+pub in_piece_below : (total len : ℕ) → 1 ≤ len → (block piece : ℕ) → piece_of len block ≡ piece
+    → piece < pieces_of total len
     → place_of len block < blocks_of_piece total len piece → block < blocks_of total len
 in_piece_below total len some block piece of below within =
     omega (
@@ -141,8 +141,8 @@ pub lists_nothing : (want : Want) (pieces blocks : ℕ) (control : Control)
     → ListsJust want (replicate pieces false) (replicate blocks false) control → ListsNothing want control
 lists_nothing want pieces blocks control lists = record {
   listing = lists.listing;
-  pieces = λ piece listed. never pieces piece (subst (λ (row : List Bool). slice_get row piece ≡ Some true)
-      lists.pieces listed);
+  pieces = λ piece listed. never pieces piece
+      (subst (λ (row : List Bool). slice_get row piece ≡ Some true) lists.pieces listed);
   blocks = λ block listed. never blocks block ((lists.blocks block).0 listed);
 }
 
@@ -153,8 +153,8 @@ module _ (control : Control) (total len : ℕ) (some : 1 ≤ len) (rules : IsRea
   pub flight_rules : (piece : InFlight) → Contains control.flight piece
       → (piece.index < pieces_of total len) × (length piece.blocks ≡ blocks_of_piece total len piece.index)
   flight_rules piece contains =
-      let of : IsInFlight control piece = All-contains (IsInFlight control) control.flight piece rules.fields.flight
-      contains in (
+      let of : IsInFlight control piece = All-contains
+      (IsInFlight control) control.flight piece rules.fields.flight contains in (
         omega (
           arith,
           slice_get_within control.pieces piece.index false of.unverified,
@@ -181,16 +181,16 @@ module _ (control : Control) (total len : ℕ) (some : 1 ≤ len) (rules : IsRea
 -- one piece more
 pub one_more : (flight : List InFlight) (k : ℕ) (piece : InFlight) (len block : ℕ) → k < length flight
     → piece ≡ get_or flight k piece
-    → IsBlockOfOne (take (k + 1) flight) len block ↔ (IsBlockOfOne (take k flight) len block ⊎ IsBlockIn piece len
-    block)
+    → IsBlockOfOne (take (k + 1) flight) len block
+    ↔ (IsBlockOfOne (take k flight) len block ⊎ IsBlockIn piece len block)
 one_more flight k piece len block within is =
     let more : take (k + 1) flight ≡ take k flight ++ piece ∷ [] =
     take_more flight k piece within ∙ ap (λ (p : InFlight). take k flight ++ p ∷ []) (sym is) in (
       λ one. ⊎_elim
           (λ before. inl (one.0, before, one.2))
           (λ (last : piece ≡ one.0). inr (subst (λ (p : InFlight). IsBlockIn p len block) (sym last) one.2))
-          (Contains-push_cases (take k flight) piece one.0 (subst (λ (l : List InFlight). Contains l one.0) more
-          one.1)),
+          (Contains-push_cases (take k flight) piece one.0
+          (subst (λ (l : List InFlight). Contains l one.0) more one.1)),
       λ either. ⊎_elim
           (λ before. (
             before.0,
@@ -219,12 +219,12 @@ piece_stands_by want seen lens is piece =
     )
 
 module _ (want : Want) (is : IsWant want) (seen : Files) (survey : Survey) (surveyed : IsSurvey want survey seen) where
-  piece_stands_is : (piece : ℕ) → PieceStands want survey.lens.items piece ↔ ReachesPiece want (files_in want seen)
-      piece
+  piece_stands_is : (piece : ℕ) → PieceStands want survey.lens.items piece
+      ↔ ReachesPiece want (files_in want seen) piece
   piece_stands_is = piece_stands_by want seen survey.lens.items surveyed.lens
 
-  block_stands_is : (block : ℕ) → BlockStands want survey.lens.items block ↔ ReachesBlock want (files_in want seen)
-      block
+  block_stands_is : (block : ℕ) → BlockStands want survey.lens.items block
+      ↔ ReachesBlock want (files_in want seen) block
   block_stands_is block =
       let same = reach_stands want (files_in want seen) (block_start want.plan.piece_len block)
       (block_end want.plan.total want.plan.piece_len block) in (
@@ -246,8 +246,7 @@ module _ (want : Want) (is : IsWant want) (seen : Files) (survey : Survey) (surv
             subst (λ (f : Found). PieceResumed want f (files_in want seen) piece) (sym absent) gives in
             ⊎_elim
             (λ lists. absurd lists)
-            (λ hashed. record { numbered = hashed.1; reaches = given.0; digest = hashed.2 })
-            given.1,
+            (λ hashed. record { numbered = hashed.1; reaches = given.0; digest = hashed.2 }) given.1,
       )
 
   pub opens_hashed : (compared : Bool) → hashes want survey.control compared ≡ true → (piece : ℕ)
@@ -292,8 +291,8 @@ module _ (want : Want) (is : IsWant want) (seen : Files) (survey : Survey) (surv
 
   pub opens_listed : (compared : Bool) → IfSome survey.control (IsControlOf want)
       → hashes want survey.control compared ≡ false → (piece : ℕ)
-      → ((piece < want.plan.pieces) × IsListedPiece want survey.lens.items survey.control piece) ↔ OpensPiece
-      compared want seen piece
+      → ((piece < want.plan.pieces) × IsListedPiece want survey.lens.items survey.control piece)
+      ↔ OpensPiece compared want seen piece
   opens_listed true of test piece = absurd (false≢true (sym test))
   opens_listed false of test piece = listed_given survey.control surveyed.control of test piece
 
@@ -308,8 +307,8 @@ module _ (want : Want) (is : IsWant want) (seen : Files) (survey : Survey) (surv
         → ((piece : ℕ) → (slice_get verified piece ≡ Some true) ↔ ResumesPiece want seen piece)
         → IsRowWhere (blocks_of want.plan.total want.plan.piece_len) (IsFlyingBlock want control false) flying
         → (block : ℕ)
-        → ((block < blocks_of want.plan.total want.plan.piece_len) × BlockGiven want survey.lens.items verified
-        flying block)
+        → ((block < blocks_of want.plan.total want.plan.piece_len)
+        × BlockGiven want survey.lens.items verified flying block)
         ↔ ResumesBlock want seen block
     resumed_block None usable of pieces flies block =
         let absent = sym (absent_found want (seen (control_name want)) usable) in (
@@ -319,9 +318,8 @@ module _ (want : Want) (is : IsWant want) (seen : Files) (survey : Survey) (surv
               given.1,
           λ gives. ⊎_elim
               (λ of_piece. (of_piece.0, inl ((pieces (piece_of want.plan.piece_len block)).1 of_piece.1)))
-              (λ in_flight. absurd (subst (λ (f : Found). ListsInFlight want.plan.piece_len f block) (sym absent)
-              in_flight.1))
-              gives,
+              (λ in_flight. absurd
+              (subst (λ (f : Found). ListsInFlight want.plan.piece_len f block) (sym absent) in_flight.1)) gives,
         )
     resumed_block (Some control) usable of pieces flies block =
         let used = sym (used_found want control (seen (control_name want)) usable) in
@@ -338,25 +336,23 @@ module _ (want : Want) (is : IsWant want) (seen : Files) (survey : Survey) (surv
               (λ in_flight.
               let lists : IsBlockInFlight control want.plan.piece_len block =
               subst (λ (f : Found). ListsInFlight want.plan.piece_len f block) (sym used) in_flight.1 in
-              let below = flight_below control want.plan.total want.plan.piece_len is.plan.some of.rules plan.1
-              plan.0 block lists in
-              (below, inr ((flies.exact block).1 (below, lists), (block_stands_is block).1 in_flight.0)))
-              gives,
+              let below = flight_below control want.plan.total want.plan.piece_len is.plan.some of.rules plan.1 plan.0
+              block lists in
+              (below, inr ((flies.exact block).1 (below, lists), (block_stands_is block).1 in_flight.0))) gives,
         )
 
     opens_block : (compared : Bool) → IfSome survey.control (IsControlOf want)
         → ((piece : ℕ) → (slice_get verified piece ≡ Some true) ↔ OpensPiece compared want seen piece)
         → IsRowWhere (blocks_of want.plan.total want.plan.piece_len) (IsFlyingBlock want survey.control compared) flying
         → (block : ℕ)
-        → ((block < blocks_of want.plan.total want.plan.piece_len) × BlockGiven want survey.lens.items verified
-        flying block)
+        → ((block < blocks_of want.plan.total want.plan.piece_len)
+        × BlockGiven want survey.lens.items verified flying block)
         ↔ OpensBlock compared want seen block
     opens_block false of pieces flies block = resumed_block survey.control surveyed.control of pieces flies block
     opens_block true of pieces flies block = (
       λ given. ⊎_elim
           (λ set. (given.0, (pieces (piece_of want.plan.piece_len block)).0 set))
-          (λ lone. absurd (flying_none survey.control block ((flies.exact block).0 lone.0).1))
-          given.1,
+          (λ lone. absurd (flying_none survey.control block ((flies.exact block).0 lone.0).1)) given.1,
       λ opens. (opens.0, inl ((pieces (piece_of want.plan.piece_len block)).1 opens.1)),
     )
 

@@ -61,8 +61,8 @@ held_put want disk bytes put durable image left =
 -- ---- one step after the other
 
 module _ (want : Want) where
-  since_now : (start : ℕ) (b : DiskState) (image : Files) → start ≤ b.moment → b.may_leave image → LeftSince b start
-      image
+  since_now : (start : ℕ) (b : DiskState) (image : Files) → start ≤ b.moment → b.may_leave image
+      → LeftSince b start image
   since_now start b image later left = (b.moment, later, omega arith, (b.now_left image).1 left)
 
   pub besides_none : (a : DiskState) → KeepsBesides want a a
@@ -155,8 +155,8 @@ module _ (want : Want) where
         was.1 ∙ ap (λ (bytes : List ℕ). Some (sha1 bytes)) (sym (fits.bytes piece was.0)),
       )
 
-  pub matches_same : (opened : Opened) (a b : Files) → IsSame a b → MatchesOpened want opened a → MatchesOpened want
-      opened b
+  pub matches_same : (opened : Opened) (a b : Files) → IsSame a b → MatchesOpened want opened a
+      → MatchesOpened want opened b
   matches_same opened a b same right listed piece set = rw (files_kept want a b same) (right listed piece set)
 
   -- ---- calls that change nothing
@@ -329,12 +329,12 @@ module _ (want : Want) where
     pub saved_payload : SamePayload want a b
     saved_payload = ⊎_elim (λ same. same.files) (λ saved. saved.files) performs.seen.files
 
-    gives_opened : (image : Files) → IsSaved want (control_bytes Big control) a.seen image → GivesOpened want opened
-        image
+    gives_opened : (image : Files) → IsSaved want (control_bytes Big control) a.seen image
+        → GivesOpened want opened image
     gives_opened image saved =
         let just = gives_just back want control a.seen image is lists.listing has saved in record {
-          pieces = λ piece. subst (λ (row : List Bool). (ResumesPiece want image piece → slice_get row piece ≡ Some
-              true)
+          pieces = λ piece. subst (λ (row : List Bool). (ResumesPiece want image piece
+              → slice_get row piece ≡ Some true)
               × (slice_get row piece ≡ Some true → ResumesPiece want image piece)) lists.pieces (just.pieces piece);
           blocks = λ block. (
             λ gives. (lists.blocks block).0 ((just.blocks block).0 gives),
@@ -385,8 +385,8 @@ module _ (want : Want) where
             );
       }
 
-      pub saved_verified : AreSaved want (control_bytes Big control) a.seen b.may_leave → AreSound want b.seen
-          b.may_leave
+      pub saved_verified : AreSaved want (control_bytes Big control) a.seen b.may_leave
+          → AreSound want b.seen b.may_leave
       saved_verified saved image left =
           let now = saved image left in (
             sound_saved back want control a.seen image is lists.listing has now listed_right,

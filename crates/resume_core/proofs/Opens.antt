@@ -35,8 +35,8 @@ NoFile name = ⊥
 pub looked : (passed : List ℕ → Type 0) (a b : DiskState) → LooksPast passed a b → LooksPast NoFile a b
 looked passed a b looks = past_fewer passed NoFile a b (λ name none. absurd none) looks
 
-pub looked_both : (one two : List ℕ → Type 0) (a b c : DiskState) → LooksPast one a b → LooksPast two b c → LooksPast
-    NoFile a c
+pub looked_both : (one two : List ℕ → Type 0) (a b c : DiskState) → LooksPast one a b → LooksPast two b c
+    → LooksPast NoFile a c
 looked_both one two a b c first second = past_on NoFile a b c (looked one a b first) (looked two b c second)
 
 module _ (want : Want) (a b : DiskState) (looks : LooksPast NoFile a b) where
@@ -85,8 +85,8 @@ usable_some want None file usable some = none_is_some (subst (λ (o : Option (Li
 
 pub survey_stood : (want : Want) (survey : Survey) (seen : Files) → IsSurvey want survey seen → HasControl want seen
     → IsSome survey.control
-survey_stood want survey seen surveyed stood = usable_some want survey.control (seen (control_name want))
-    surveyed.control stood
+survey_stood want survey seen surveyed stood = usable_some want survey.control
+    (seen (control_name want)) surveyed.control stood
 
 pub survey_whole : (want : Want) (survey : Survey) (seen : Files) → IsSurvey want survey seen
     → HasFiles want.dir want.layout seen → StoodOrWhole want survey
@@ -111,14 +111,14 @@ pub compared_listed : (want : Want) (check : Bool) → is_compared want check �
 compared_listed want check is = second_true check (is_some want.info_hash) is
 
 module _ (want : Want) (seen : Files) (opened : Opened) where
-  pub compared_matches : (compared : Bool) → compared ≡ true → OpensJust compared want seen opened → MatchesOpened
-      want opened seen
+  pub compared_matches : (compared : Bool) → compared ≡ true → OpensJust compared want seen opened
+      → MatchesOpened want opened seen
   compared_matches false is opens = absurd (false≢true is)
   compared_matches true is opens = λ listed piece set.
       let matches = (opens.pieces piece).0 set in (matches.reaches, matches.digest)
 
-  pub sound_matches : (compared : Bool) → OpensJust compared want seen opened → Sound want seen → MatchesOpened want
-      opened seen
+  pub sound_matches : (compared : Bool) → OpensJust compared want seen opened → Sound want seen
+      → MatchesOpened want opened seen
   sound_matches true opens sound = compared_matches true refl opens
   sound_matches false opens sound = λ listed piece set.
       let gives = (opens.pieces piece).0 set in (gives.0, sound.right listed piece gives)
@@ -140,8 +140,7 @@ module _ (want : Want) (seen : Files) (opened : Opened) where
       subst (λ (f : Found). PieceResumed want f (files_in want seen) piece) (ap (found want) lacks) gives in
       ⊎_elim
       (λ lists. absurd lists)
-      (λ hashed. record { numbered = hashed.1; reaches = given.0; digest = hashed.2 })
-      given.1
+      (λ hashed. record { numbered = hashed.1; reaches = given.0; digest = hashed.2 }) given.1
 
   pub covers_absent : LacksControl want seen → (compared : Bool) → OpensJust compared want seen opened → Covers
   covers_absent lacks false opens = covers false refl opens
@@ -162,8 +161,8 @@ module _ (want : Want) (seen : Files) (opened : Opened) where
   )
 
   -- with soundness no piece is lost where they are compared
-  pub covers_pieces : IsWant want → (compared : Bool) → (compared ≡ true → IsListedWant want) → OpensJust compared
-      want seen opened
+  pub covers_pieces : IsWant want → (compared : Bool) → (compared ≡ true → IsListedWant want)
+      → OpensJust compared want seen opened
       → Sound want seen → (piece : ℕ) → ResumesPiece want seen piece → slice_get opened.verified piece ≡ Some true
   covers_pieces is false listed opens sound piece gives = (opens.pieces piece).1 gives
   covers_pieces is true listed opens sound piece gives =

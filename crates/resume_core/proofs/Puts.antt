@@ -47,8 +47,8 @@ module _ (temporary name bytes : List ℕ) (apart : temporary ≢ name) where
     pub performs_put : Performs (PutsOrKeeps temporary name bytes) a c
     performs_put = record {
       seen = puts_both a.seen b.seen c.seen written first.seen alters.seen;
-      passes = passes_on (SameBut temporary) (MayBe (Moved temporary name)) (PutsOrKeeps temporary name bytes) a b c
-          puts_first
+      passes = passes_on (SameBut temporary) (MayBe (Moved temporary name))
+          (PutsOrKeeps temporary name bytes) a b c puts_first
           (λ x y z left one two. puts_both x y z (durable y left ∙ written) one two)
           first.passes
           (passes_alters (MayBe (Moved temporary name)) b c result (λ image. inl (λ other. refl)) alters);

@@ -20,14 +20,12 @@ module _ (back : WrittenIsReadBack) (want : Want) (control : Control) (seen befo
   pub gives_either : GiveSame want before image ⊎ GivesJust want control image
   gives_either = ⊎_elim
       (λ same. inl (give_same want before image same))
-      (λ saved. inr (gives_just back want control seen image is.want_is is.listing is.files saved))
-      is.saves.files
+      (λ saved. inr (gives_just back want control seen image is.want_is is.listing is.files saved)) is.saves.files
 
   pub sound_either : MatchesListed want control seen → Sound want before → Sound want image
   sound_either right sound = ⊎_elim
       (λ same. sound_same want before image same sound)
-      (λ saved. sound_saved back want control seen image is.want_is is.listing is.files saved right)
-      is.saves.files
+      (λ saved. sound_saved back want control seen image is.want_is is.listing is.files saved right) is.saves.files
 
   pub agrees_either : Agrees want seen before → Agrees want seen image
   agrees_either agrees = ⊎_elim

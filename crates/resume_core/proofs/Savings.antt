@@ -47,8 +47,7 @@ module _ (want : Want) (bytes : List ℕ) where
             control = keeps ∙ same (control_name want);
             files = files_put y z puts ∙ files_kept want x y same;
           }))
-          (λ put. inr (record { control = put; files = files_put y z puts ∙ durable }))
-          puts.file;
+          (λ put. inr (record { control = put; files = files_put y z puts ∙ durable })) puts.file;
     }
 
     module _ (a b c : DiskState) (synced : Performs IsSame a b) (durable : AreDurable want.dir want.layout b)

@@ -123,8 +123,8 @@ module _ (all : List (Option ℕ)) (low high : ℕ) where
             (subst (All (PartStands all)) (with_part x files n start meet) has) in
             let is = here_from s lens n from in
             let most : (first x files n start).at + (first x files n start).len ≤ unwrap_or s 0 =
-            subst (λ (o : Option ℕ). (first x files n start).at + (first x files n start).len ≤ unwrap_or o 0) is
-            head in
+            subst (λ (o : Option ℕ). (first x files n start).at + (first x files n start).len ≤ unwrap_or o 0) is head
+            in
             (in_first x files s lens (i - start) (omega (arith, after, inside))).1
             (omega (arith, most, after, inside, before))
         | inr past ↦
@@ -186,8 +186,8 @@ parts_stand want lens at len same within = (
       subst (λ (k : ℕ). IsTrue (has_byte_at want.layout lens k)) plus (stands (i - at) (omega (arith, before, after)))),
 )
 
-pub file_within : (P : FileLen → Type 0) (files : List FileLen) (n : ℕ) → IsSomeAnd (slice_get files n) P → n <
-    length files
+pub file_within : (P : FileLen → Type 0) (files : List FileLen) (n : ℕ) → IsSomeAnd (slice_get files n) P
+    → n < length files
 file_within P files n some = elim (cases_lt n (length files)) [
   | inl below ↦ below
   | inr past ↦ absurd (subst (λ (o : Option FileLen). IsSomeAnd o P) (slice_get_past files n past) some)

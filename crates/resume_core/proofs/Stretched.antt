@@ -56,8 +56,7 @@ module _ (want : Want) (old new : Files) (under : StretchedUnder want old new) w
     piece_reach piece gives.0,
     ⊎_elim
         (λ lists. inl lists)
-        (λ hashed. absurd (no_hash want (found_in want old) (files_in want old) piece under.stands hashed))
-        gives.1,
+        (λ hashed. absurd (no_hash want (found_in want old) (files_in want old) piece under.stands hashed)) gives.1,
   )
 
   block_given : (block : ℕ) → BlockResumed want (found_in want old) (files_in want old) block
@@ -81,8 +80,7 @@ module _ (want : Want) (old new : Files) (under : StretchedUnder want old new) w
     listed_before piece gives = ⊎_elim
         (λ lists. subst (λ (f : Found). ListsPiece f piece) same_found lists)
         (λ hashed. absurd (no_hash want (found_in want old) (files_in want new) piece under.stands
-        (subst (λ (f : Found). IsHashed want f (files_in want new) piece) same_found hashed)))
-        gives.1
+        (subst (λ (f : Found). IsHashed want f (files_in want new) piece) same_found hashed))) gives.1
 
     was_piece : (piece : ℕ) → ResumesPiece want new piece → ResumesPiece want old piece
     was_piece piece gives = let lists = listed_before piece gives in (sound.pieces piece lists, inl lists)

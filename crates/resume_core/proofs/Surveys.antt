@@ -15,8 +15,8 @@ use Rattle.resume_core.specs.Rows.{IsSurvey, IsOurControl}
 use Rattle.resume_core.specs.Wants.{control_name}
 use Rattle.resume_core.specs.declared.surveying.Survey.{Survey}
 
-pub lens_same : (dir : List ℕ) (files : List FileLen) (a b : Files) → IsSame a b → lens_of_files dir files a ≡
-    lens_of_files dir files b
+pub lens_same : (dir : List ℕ) (files : List FileLen) (a b : Files) → IsSame a b
+    → lens_of_files dir files a ≡ lens_of_files dir files b
 lens_same dir [] a b same = refl
 lens_same dir (file ∷ files) a b same = rw (sym (same (name_of dir file.path)), lens_same dir files a b same) refl
 
@@ -24,8 +24,8 @@ pub usable_same : (want : Want) (control : Option Control) (a b : Option (List �
     → IsOurControl want control b
 usable_same want control a b same usable = subst (IsOurControl want control) (sym same) usable
 
-pub survey_same : (want : Want) (survey : Survey) (a b : Files) → IsSame a b → IsSurvey want survey a → IsSurvey want
-    survey b
+pub survey_same : (want : Want) (survey : Survey) (a b : Files) → IsSame a b → IsSurvey want survey a
+    → IsSurvey want survey b
 survey_same want survey a b same surveyed = record {
   control = usable_same want survey.control (a (control_name want)) (b (control_name want))
       (same (control_name want)) surveyed.control;
@@ -39,13 +39,13 @@ module _ (want : Want) (file : Option (List ℕ)) (standing : Option ℕ) where
       → (control ≡ None → in_the_way want standing ≡ None) → refused_over want file standing ≡ None
   refused_none None usable free = ap (λ (f : Option (List ℕ)). refused_over want f standing) usable ∙ free refl
   refused_none (Some control) usable free =
-      ap (λ (f : Option (List ℕ)). refused_over want f standing) usable.1 ∙ ap (control_refusal want) usable.2 ∙
-      usable.3
+      ap (λ (f : Option (List ℕ)). refused_over want f standing) usable.1 ∙ ap (control_refusal want) usable.2
+      ∙ usable.3
 
   pub refused_some : (control : Option Control) (err : OpenErr) → IsOurControl want control file → control ≡ None
       → in_the_way want standing ≡ Some err → refused_over want file standing ≡ Some err
-  refused_some None err usable none refused = ap (λ (f : Option (List ℕ)). refused_over want f standing) usable ∙
-      refused
+  refused_some None err usable none refused = ap (λ (f : Option (List ℕ)). refused_over want f standing) usable
+      ∙ refused
   refused_some (Some control) err usable none refused = absurd cc
 
 -- ---- a file that is read whole

@@ -39,8 +39,8 @@ module _ (want : Want) (table : Progress) where
 
     pub performs_table : (seen : Files) (a b : DiskState) → Performs (Saves want (control_bytes Big control) seen) a b
         → Performs (SavesTable want table seen) a b
-    performs_table seen a b = performs_wider (Saves want (control_bytes Big control) seen) (SavesTable want table seen)
-        a b (saves_table seen)
+    performs_table seen a b = performs_wider (Saves want (control_bytes Big control) seen)
+        (SavesTable want table seen) a b (saves_table seen)
 
     pub are_table_saved : (seen : Files) (images : Files → Type 0)
         → AreSaved want (control_bytes Big control) seen images → AreTableSaved want table seen images

@@ -125,8 +125,7 @@ module _ (follow : BlocksFollow) (want : Want) (run : Run) (old new : Files) (un
     piece_reach piece gives.0,
     ⊎_elim
         (λ lists. inl lists)
-        (λ hashed. absurd (no_hash want (found_in want old) (files_in want old) piece under.lacks.used hashed))
-        gives.1,
+        (λ hashed. absurd (no_hash want (found_in want old) (files_in want old) piece under.lacks.used hashed)) gives.1,
   )
 
   block_given : (block : ℕ) → BlockResumed want (found_in want old) (files_in want old) block
@@ -150,8 +149,7 @@ module _ (follow : BlocksFollow) (want : Want) (run : Run) (old new : Files) (un
     listed_before piece gives = ⊎_elim
         (λ lists. subst (λ (f : Found). ListsPiece f piece) same_found lists)
         (λ hashed. absurd (no_hash want (found_in want old) (files_in want new) piece under.lacks.used
-        (subst (λ (f : Found). IsHashed want f (files_in want new) piece) same_found hashed)))
-        gives.1
+        (subst (λ (f : Found). IsHashed want f (files_in want new) piece) same_found hashed))) gives.1
 
     was_piece : (piece : ℕ) → ResumesPiece want new piece → ResumesPiece want old piece
     was_piece piece gives = let lists = listed_before piece gives in (within.pieces piece lists, inl lists)
@@ -178,8 +176,8 @@ module _ (follow : BlocksFollow) (want : Want) (run : Run) (old new : Files) (un
         let same = agrees block before i below in
         let outside = block_outside block at before (record { from = omega arith; before = below }) in
         same_byte at outside there ∙ same
-        ∙ sym (byte_same want.dir was now (run_start want.plan run) (run_len want.plan run) want.layout change.each
-        at outside
+        ∙ sym (byte_same want.dir was now (run_start want.plan run)
+        (run_len want.plan run) want.layout change.each at outside
         (subst (λ (o : Option ℕ). IsSome o) same there))
 
   -- the bytes of a piece that is given

@@ -109,8 +109,8 @@ pub record KeepsSound (want : Want) (old new : DiskState) : Type 0 where
 -- each image since gives at least what one gave before, or just what is opened
 abbrev pub GivesMoreOrOpened : Want → Opened → DiskState → DiskState → Type 0
 GivesMoreOrOpened want opened old new =
-    (image : Files) → LeftSince new old.moment image → GivesAtLeast want old.may_leave image ⊎ GivesOpened want
-    opened image
+    (image : Files) → LeftSince new old.moment image → GivesAtLeast want old.may_leave image
+    ⊎ GivesOpened want opened image
 
 -- each file has its length, and the bytes that it had within it; a piece that stood has its bytes
 pub record FitsPayload (want : Want) (old new : Files) : Type 0 where

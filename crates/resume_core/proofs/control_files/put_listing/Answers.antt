@@ -6,5 +6,5 @@ use Rattle.resume_core.proofs.control_files.put_listing.Goals as goal
 pub returns-clause-saved : goal.returns-clause-saved
 returns-clause-saved g c =
     on_ok_weaker c.sync_and_put.result
-    (λ saved told. saved_as c.args.want.now _ _ _ _ (c.deref.ensures.value ∙ c.in_ok-bytes.ensures.spelled) (saved told))
-    c.sync_and_put.ensures.saved
+    (λ saved told. saved_as c.args.want.now _ _ _ _ (c.deref.ensures.value
+    ∙ c.in_ok-bytes.ensures.spelled) (saved told)) c.sync_and_put.ensures.saved

@@ -14,5 +14,5 @@ pub returns-clause-sound : goal.returns-clause-sound
 returns-clause-sound c = sound_still
 
 pub returns-clause-agree : goal.returns-clause-agree
-returns-clause-agree c = λ want was now old new under change sound agrees. agrees_still want old new under sound was
-    now change agrees
+returns-clause-agree c = λ want was now old new under change sound agrees. agrees_still want old new under sound was now
+    change agrees

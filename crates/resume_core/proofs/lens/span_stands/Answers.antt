@@ -34,8 +34,8 @@ returns c =
     let law = parts_stand c.args.want.now c.args.lens.now c.args.at c.args.len c.requires.lens c.requires.within in
     let items = c.deref-part-items.ensures.value ∙ c.in_ok-parts.ensures.parts in (
       λ is. law.0 (subst (λ (l : List Part). All (PartStands c.args.lens.now) l)
-          (take_all c.loop-part.part-index c.deref-part-items.result.now c.loop-part-test.false ∙ items)
-          c.loop-part.invariant),
+          (take_all c.loop-part.part-index c.deref-part-items.result.now c.loop-part-test.false
+          ∙ items) c.loop-part.invariant),
       λ stands. refl,
     )
 

@@ -14,8 +14,8 @@ loop-block-preserved c = elim c.if-is_listed.branch [
       c.loop-block.invariant.exact (omega (arith, c.loop-block-test.true, c.loop-block.invariant.len)) (c.is_listed.ensures.0 w.if-is_listed.true) (w.row-is ∙ w.set.ensures) in
       record { len = on.0 ∙ c.loop-block.invariant.len; exact = on.1 }
   | else-is_listed w ↦
-      let on = row_past c.loop-block.row c.if-is_listed.row c.loop-block.block (IsListed c.args.table.now)
-      c.loop-block.invariant.exact
+      let on = row_past c.loop-block.row c.if-is_listed.row c.loop-block.block
+      (IsListed c.args.table.now) c.loop-block.invariant.exact
       (λ is. false≢true (sym w.if-is_listed.false ∙ c.is_listed.ensures.1 is)) w.row-is in
       record { len = on.0 ∙ c.loop-block.invariant.len; exact = on.1 }
 ]

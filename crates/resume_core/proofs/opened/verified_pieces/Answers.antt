@@ -17,8 +17,8 @@ returns-then-is_hashed-clause-exact g c =
 pub returns-clause-exact : goal.returns-clause-exact
 returns-clause-exact g c told piece =
     let opens = opens_listed c.args.want.now c.requires.want (g.D.Disk.state c.args.disk.now).seen c.args.survey.now
-    (c.requires.survey told) c.args.compared c.requires.control (sym c.is_hashed.ensures ∙ c.if-is_hashed.false)
-    piece in
+    (c.requires.survey told) c.args.compared c.requires.control (sym c.is_hashed.ensures
+    ∙ c.if-is_hashed.false) piece in
     let exact = c.in_ok-listed_pieces.ensures.exact piece in (
       λ set. opens.0 (exact.0 set),
       λ is. exact.1 (opens.1 is),

@@ -14,5 +14,4 @@ returns-clause-saved g c =
     let d = g.D.Disk in
     on_ok_weaker c.put_listing.result
     (λ saved told. are_table_saved c.args.want.now c.args.table.now c.in_ok-control.control c.in_ok-control.ensures
-    (d.state c.args.disk.now).seen (d.state c.put_listing.new.disk).may_leave (saved told))
-    c.put_listing.ensures.saved
+    (d.state c.args.disk.now).seen (d.state c.put_listing.new.disk).may_leave (saved told)) c.put_listing.ensures.saved

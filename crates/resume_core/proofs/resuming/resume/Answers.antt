@@ -61,8 +61,8 @@ returns-in_err-opened-clause-refuses g c told =
 pub returns-in_err-opened-clause-refused : goal.returns-in_err-opened-clause-refused
 returns-in_err-opened-clause-refused g c =
     let d = g.D.Disk in
-    told_plain c.from_residual-in_err-opened.result _ _ (λ told. plain_store c.from_residual-in_err-opened.result
-    c.in_err-opened.field-0.0
+    told_plain c.from_residual-in_err-opened.result _ _
+    (λ told. plain_store c.from_residual-in_err-opened.result c.in_err-opened.field-0.0
     (λ err. Stays (d.state c.args.disk.now) (d.state c.opened_of.new.disk)) c.from_residual-in_err-opened.ensures.1)
 
 pub returns-in_err-opened-clause-besides : goal.returns-in_err-opened-clause-besides
@@ -205,8 +205,8 @@ returns-in_err-write_opened-clause-pieces g c told stood were =
     whole_pieces want s0 s2 s3 looks (c.write_opened.ensures.besides told) opened
     (c.write_opened.ensures.gives told (inl (survey_stood want c.in_ok-survey.survey s0.seen
     (c.in_ok-survey.ensures.survey told) stood)))
-    (covers_pieces want s0.seen opened c.requires (is_compared want c.args.check) (compared_listed want c.args.check)
-    opens
+    (covers_pieces want s0.seen opened c.requires (is_compared want c.args.check)
+    (compared_listed want c.args.check) opens
     (were s0.seen s0.own_image).0)
 
 pub returns-in_err-write_opened-clause-whole : goal.returns-in_err-write_opened-clause-whole
@@ -312,8 +312,8 @@ returns-clause-pieces g c told stood were =
     whole_pieces want s0 s2 s3 looks (c.write_opened.ensures.besides told) opened
     (c.write_opened.ensures.gives told (inl (survey_stood want c.in_ok-survey.survey s0.seen
     (c.in_ok-survey.ensures.survey told) stood)))
-    (covers_pieces want s0.seen opened c.requires (is_compared want c.args.check) (compared_listed want c.args.check)
-    opens
+    (covers_pieces want s0.seen opened c.requires (is_compared want c.args.check)
+    (compared_listed want c.args.check) opens
     (were s0.seen s0.own_image).0)
 
 pub returns-clause-whole : goal.returns-clause-whole

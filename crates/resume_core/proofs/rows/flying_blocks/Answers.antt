@@ -48,15 +48,15 @@ returns c =
     let control = c.args.control.now in
     let some : 1 ≤ plan.piece_len = omega (arith, c.requires.control.fields.plan.some, c.requires.piece_len) in
     let all : take c.loop-piece.piece-index c.items-piece-items.result.now ≡ control.flight =
-    take_all c.loop-piece.piece-index c.items-piece-items.result.now c.loop-piece-test.false ∙
-    c.items-piece-items.ensures in
+    take_all c.loop-piece.piece-index c.items-piece-items.result.now c.loop-piece-test.false
+    ∙ c.items-piece-items.ensures in
     record {
       len = c.loop-piece.invariant.len;
       exact = λ block. (
         λ set. let was = (c.loop-piece.invariant.exact block).0 set in (
           was.0,
-          flying_of_one control plan.total plan.piece_len some c.requires.control c.requires.total
-              c.requires.piece_len block
+          flying_of_one control plan.total plan.piece_len some c.requires.control c.requires.total c.requires.piece_len
+              block
               (subst (λ (l : List InFlight). IsBlockOfOne l plan.piece_len block) all was.1),
         ),
         λ lower. (c.loop-piece.invariant.exact block).1 (

@@ -8,6 +8,6 @@ abbrev pub invariant-loop-piece : goal.invariant-loop-piece
 invariant-loop-piece l = record {
   len : length l.row ≡ blocks_of l.plan.total l.plan.piece_len;
   exact : (block : ℕ) → (slice_get l.row block ≡ Some true)
-      ↔ ((block < blocks_of l.plan.total l.plan.piece_len) × IsBlockOfOne (take l.piece-index l.piece-items)
-      l.plan.piece_len block);
+      ↔ ((block < blocks_of l.plan.total l.plan.piece_len)
+      × IsBlockOfOne (take l.piece-index l.piece-items) l.plan.piece_len block);
 }

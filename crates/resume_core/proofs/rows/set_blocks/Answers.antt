@@ -47,8 +47,7 @@ returns-clause-exact c block =
             of,
             omega (
               arith,
-              slice_get_within c.args.piece.now.blocks (place_of plan.piece_len block) true
-                  of.1,
+              slice_get_within c.args.piece.now.blocks (place_of plan.piece_len block) true of.1,
               c.requires.blocks,
               c.blocks_in-place-end.ensures.value,
               c.loop-place-test.false,
