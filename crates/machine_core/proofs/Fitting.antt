@@ -1,6 +1,6 @@
 -- An event that may come next is one that what is kept of its download allows.
-use Rattle.std.proofs.Common.{◌≡◌, ◌≢◌, ◌⊎◌, ℕ, Bool, true, false, Option, Some, None, ◌+◌, ◌<◌, ◌≤◌, List, [], ◌∷◌, length, get_or, slice_get, refl, sym, ap, ◌∙◌, subst, ⊎_elim, arith}
-use Rattle.std.specs.Prelude.{◌==◌, ◌||◌, All, Contains, filter, find, slice_index_or}
+use Rattle.std.proofs.Common.{◌≡◌, ℕ, Bool, true, false, Option, Some, None, ◌+◌, ◌<◌, ◌≤◌, List, [], ◌∷◌, slice_get, refl, sym, ap, ◌∙◌, subst, ⊎_elim, arith}
+use Rattle.std.specs.Prelude.{◌==◌, ◌||◌, All, Contains, find, slice_index_or}
 use Rattle.std.specs.Option.{is_some, unwrap_or}
 use Rattle.std.proofs.lemmas.Bool.{eqb-true, eq-eqb}
 use Rattle.std.proofs.lemmas.List.Elements.{All-contains, filter_passes}
@@ -12,22 +12,22 @@ use Rattle.dl_kinds.specs.declared.plan.TheConstants.{MAX_PIECES}
 use Rattle.dl_kinds.specs.declared.runs.Run.{Run}
 use Rattle.piece_table.specs.declared.giver.Giver.{Giver}
 use Rattle.piece_table.specs.declared.giver.Giver.TheVariants.{Nobody}
-use Rattle.dl_history.specs.AccountLaws.{FitsPlan, MatchesEvents}
+use Rattle.dl_history.specs.AccountLaws.{MatchesEvents}
 use Rattle.dl_history.specs.Accounts.{Account, account_of, first_still_open, is_still_open}
 use Rattle.dl_history.specs.OwnEvents.{OwnEvent, Opens, Grants, Lands, Settles, Clears, Loses, Sizes, Saves, Checks, Halts}
 use Rattle.dl_history.specs.OwnLegal.{IsLossOf, IsWrongLast, LegalOwn, MayLand, MaySettle, MayClear, MayBeLost}
 use Rattle.dl_history.specs.PayloadParts.{is_opened, is_sole_in}
 use Rattle.dl_history.specs.StandingClaims.{blocks_in, first_open_since, granted_claims, is_open_since, is_probe, is_standing, piece_of_first, standing_claims}
 use Rattle.one_download.specs.DownloadLaws.{AccountsTellOpening}
-use Rattle.one_download.specs.DownloadViews.{DownloadView, IsPieceLanded, IsFullUnverified, IsOpenAt, IsUnverified, is_opened_by, standing_under}
-use Rattle.machine_core.specs.OwnParts.{PayloadLengths, no_lengths, own_of, payload_lengths_of}
+use Rattle.one_download.specs.DownloadViews.{IsFullUnverified, IsOpenAt, IsUnverified, is_opened_by, standing_under}
+use Rattle.machine_core.specs.OwnParts.{PayloadLengths, no_lengths, own_of}
 use Rattle.machine_core.specs.Replays.{replay_of}
-use Rattle.machine_core.specs.RunLegal.{IsLegal, known_lengths, mirrors_by}
+use Rattle.machine_core.specs.RunLegal.{known_lengths}
 use Rattle.machine_core.specs.Starts.{RunStart, Download}
 use Rattle.machine_core.specs.MachineParts.{KeepsDownload, KeepsRun, MachineState}
 use Rattle.machine_core.specs.declared.entries.Entry.{Entry}
 use Rattle.machine_core.specs.declared.events.Event.{Event}
-use Rattle.machine_core.proofs.Legal.{Laws, parts, IsPlanned, Part}
+use Rattle.machine_core.proofs.Legal.{Laws, parts, IsPlanned}
 use Rattle.machine_core.proofs.Lists.{contains_filter, find_one, find_same, found}
 use Rattle.machine_core.proofs.Steps.{IsAt}
 use Rattle.machine_core.proofs.Tests.{and_right}

@@ -5,7 +5,6 @@ use Rattle.std.specs.Int.{div_ceil}
 use Rattle.std.specs.List.{AllZip}
 use Rattle.std.proofs.Math.Nat.{div-mul-le_self, mul-le-mul_right}
 use Rattle.std.proofs.lemmas.Nat.{le-div}
-use Rattle.std.proofs.lemmas.List.FromFn.{length-range_with_len, get_or-range_with_len}
 use Rattle.std.proofs.lemmas.Bool.{cases_lt}
 use Rattle.std.proofs.lemmas.Grind.{div_ceil_times}
 use Rattle.dl_kinds.specs.Plan.{piece_of, pieces_of, place_of, full_blocks, blocks_of, blocks_of_piece, piece_start, piece_end, IsPlan}
@@ -17,7 +16,6 @@ use Rattle.piece_table.specs.Changes.{is_in}
 use Rattle.slow_steal.specs.Theft.{later_half}
 use Rattle.option_set.specs.Values.{OptionValues}
 use Rattle.segment_claim.specs.Free.{IsFreeGrant, IsLooseStretch, IsSoleStretch, is_free, is_open_at, is_claimed, piece_at, claim_size, claim_cut}
-use Rattle.segment_claim.specs.Open.{claimed_blocks}
 use Rattle.segment_claim.specs.Situation.{Situation}
 use Rattle.segment_claim.specs.Views.{IsViewOf}
 use Rattle.dl_history.specs.AccountLaws.{MatchesEvents}

@@ -1,26 +1,22 @@
 -- What an event by which downloads halt keeps of a machine.
-use Rattle.std.proofs.Common.{◌≡◌, ◌≢◌, ◌⊎◌, ℕ, Bool, true, false, cond, Option, Some, None, ◌+◌, ◌<◌, ◌≤◌, List, [], ◌∷◌, ◌++◌, length, set, slice_get, refl, sym, ap, ◌∙◌, subst, ⊎_elim, arith}
-use Rattle.std.specs.Prelude.{All, Contains}
-use Rattle.std.specs.Option.{is_some, option_and_then}
+use Rattle.std.proofs.Common.{◌≡◌, ◌≢◌, ℕ, true, false, Some, ◌+◌, ◌≤◌, List, [], ◌∷◌, ◌++◌, set, slice_get, refl, sym, ap, ◌∙◌, subst, ⊎_elim, arith}
+use Rattle.std.specs.Option.{option_and_then}
 use Rattle.std.proofs.lemmas.Bool.{cases_eq}
 use Rattle.std.proofs.lemmas.List.{length-set}
 use Rattle.std.proofs.lemmas.Option.{slice_get_within, same_Some}
-use Rattle.dl_kinds.specs.declared.gid.Gid.{Gid}
-use Rattle.dl_kinds.specs.declared.claims.Claim.{Claim}
 use Rattle.option_set.specs.Values.{OptionValues}
 use Rattle.dl_history.specs.AccountLaws.{UnopenedAccountsAreAlike}
-use Rattle.dl_history.specs.Accounts.{Account, account_of, after_halt, after_own, after_sizing}
+use Rattle.dl_history.specs.Accounts.{Account, after_halt, after_sizing}
 use Rattle.dl_history.specs.OwnEvents.{OwnEvent, Sizes, Halts}
 use Rattle.dl_history.specs.OwnLegal.{LegalOwn}
-use Rattle.dl_history.specs.PayloadParts.{is_opened, blames_in}
-use Rattle.dl_history.specs.StandingClaims.{granted_claims}
+use Rattle.dl_history.specs.PayloadParts.{is_opened}
 use Rattle.one_download.specs.DownloadViews.{DownloadView, StaysUnmarked}
 use Rattle.machine_core.specs.Choices.{options_now}
-use Rattle.machine_core.specs.OwnParts.{PayloadLengths, halted_where, own_of}
-use Rattle.machine_core.specs.Replays.{Replay, download_of, replay_of}
-use Rattle.machine_core.specs.RunLegal.{IsLegal, MayFollow, download_in, is_stop, known_lengths}
+use Rattle.machine_core.specs.OwnParts.{PayloadLengths, own_of}
+use Rattle.machine_core.specs.Replays.{replay_of}
+use Rattle.machine_core.specs.RunLegal.{MayFollow, known_lengths}
 use Rattle.machine_core.specs.Starts.{RunStart, Download}
-use Rattle.machine_core.specs.MachineParts.{AreAddedAt, AreHalted, AreHaltedUpTo, IsHalted, KeepsDownload, KeepsDownloads, KeepsEnds, KeepsHomes, KeepsQueue, KeepsRun, MachineState, kept_room, subject_of_event}
+use Rattle.machine_core.specs.MachineParts.{AreAddedAt, AreHalted, AreHaltedUpTo, IsHalted, KeepsDownload, KeepsDownloads, KeepsRun, MachineState, kept_room, subject_of_event}
 use Rattle.machine_core.specs.declared.entries.Entry.{Entry}
 use Rattle.machine_core.specs.declared.events.Event.{Event}
 use Rattle.machine_core.specs.declared.events.Event.TheVariants.{Stopped}

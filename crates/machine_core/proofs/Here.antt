@@ -1,6 +1,6 @@
 -- What a step on one download needs of what is kept, and what it keeps.
 use Rattle.std.proofs.Common.{◌≡◌, ◌≢◌, ℕ, suc, Bool, true, false, cond, Option, Some, None, ◌+◌, ◌-◌, ◌<◌, ◌≤◌, List, [], ◌∷◌, ◌++◌, length, get_or, set, slice_get, reverse, refl, sym, ap, ◌∙◌, subst, arith}
-use Rattle.std.specs.Prelude.{All, Contains, ◌↔◌, IfNone, IfSome, IsNone, IsSome, count_by, map}
+use Rattle.std.specs.Prelude.{All, Contains, ◌↔◌, IfNone, IfSome, IsNone, count_by, map}
 use Rattle.std.specs.List.{list_any}
 use Rattle.std.specs.Option.{is_some, option_and_then}
 use Rattle.std.proofs.Math.Seq.{map-set_same}
@@ -18,7 +18,7 @@ use Rattle.dl_queue.specs.Calls.{after}
 use Rattle.dl_queue.specs.Lists.{QueueLists}
 use Rattle.dl_history.specs.AccountLaws.{UnopenedAccountsAreAlike}
 use Rattle.dl_history.specs.Accounts.{Account, after_finding, after_halt, after_landing, after_loss, after_save, after_sizing, first_still_open, without_piece}
-use Rattle.dl_history.specs.OwnEvents.{OwnEvent, Lands, Settles, Clears, Loses, Sizes, Saves, Checks, Halts}
+use Rattle.dl_history.specs.OwnEvents.{OwnEvent, Lands, Settles, Loses, Sizes, Saves}
 use Rattle.dl_history.specs.OwnLegal.{MayBeLost}
 use Rattle.dl_history.specs.PayloadParts.{is_opened}
 use Rattle.dl_history.specs.StandingClaims.{first_open_since, granted_claims, standing_claims}
@@ -29,7 +29,7 @@ use Rattle.machine_core.specs.MachineParts.{AreHalted, IsHalted, KeepsRun, Machi
 use Rattle.machine_core.specs.MachineViews.{IsPlaceOf, MachineView, IsFirstOpen, StandsNowhere, StandsSomewhere, StandsUnder, account_in, is_added_in, standing_in}
 use Rattle.machine_core.specs.OwnParts.{own_of}
 use Rattle.machine_core.specs.Replays.{replay_of, stop_of}
-use Rattle.machine_core.specs.RunLegal.{IsLaterThan, doors_left, is_left, is_stop, MayBeChecked, MayBeCleared, MayBeEnded, MayBeSettled, MayFollow, MayOwn, download_in, known_lengths, mirrors_by}
+use Rattle.machine_core.specs.RunLegal.{IsLaterThan, doors_left, is_left, is_stop, MayBeChecked, MayBeCleared, MayBeSettled, MayFollow, MayOwn, download_in, known_lengths, mirrors_by}
 use Rattle.machine_core.specs.Starts.{Download}
 use Rattle.machine_core.specs.declared.ends.End.{End}
 use Rattle.machine_core.specs.declared.entries.Entry.{Entry}

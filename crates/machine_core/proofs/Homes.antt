@@ -1,11 +1,9 @@
 -- Where a download and a claim are found.
-use Rattle.std.proofs.Common.{◌≡◌, ◌≢◌, ℕ, Bool, true, false, cond, Option, Some, None, ◌<◌, ◌≤◌, List, [], ◌∷◌, length, get_or, slice_get, refl, sym, ap, ◌∙◌, subst, arith}
-use Rattle.std.specs.Prelude.{◌==◌, All, Contains, filter, find, map}
+use Rattle.std.proofs.Common.{◌≡◌, ℕ, Bool, true, false, cond, Some, None, ◌<◌, ◌≤◌, List, [], ◌∷◌, length, slice_get, refl, sym, ap, ◌∙◌, subst, arith}
+use Rattle.std.specs.Prelude.{◌==◌, Contains, find, map}
 use Rattle.std.specs.List.{position_or_len}
-use Rattle.std.specs.Option.{is_some}
 use Rattle.std.proofs.lemmas.Bool.{eqb-true, eq-eqb}
 use Rattle.std.proofs.lemmas.Bool.Decides.{nat_tests}
-use Rattle.std.proofs.lemmas.List.Elements.{All-contains, All-filter, filter_passes}
 use Rattle.std.proofs.lemmas.List.Folds.{find_at}
 use Rattle.std.proofs.lemmas.Option.{cond_some, same_Some, slice_get_past, slice_get_within}
 use Rattle.dl_kinds.specs.declared.claims.Claim.{Claim}
@@ -26,7 +24,7 @@ use Rattle.machine_core.specs.declared.entries.Entry.{Entry}
 use Rattle.machine_core.specs.declared.events.Event.{Event}
 use Rattle.machine_core.proofs.Fitting.{known}
 use Rattle.machine_core.proofs.Legal.{Laws}
-use Rattle.machine_core.proofs.Lists.{IsFound, contains_filter, element_at, found, not_found, find_one}
+use Rattle.machine_core.proofs.Lists.{contains_filter, element_at, found, not_found}
 use Rattle.machine_core.proofs.Parts.{gid_is}
 use Rattle.machine_core.proofs.Steps.{IsAt}
 

@@ -1,14 +1,14 @@
 -- Which downloads leave the active list by a call.
-use Rattle.std.proofs.Common.{◌≡◌, ◌≢◌, ◌⊎◌, ℕ, zero, suc, Bool, true, false, cond, Option, Some, None, ◌<◌, ◌≤◌, ◌-◌, List, [], ◌∷◌, ◌++◌, length, slice_get, refl, sym, ap, ◌∙◌, subst, arith}
-use Rattle.std.specs.Prelude.{◌&&◌, ◌||◌, All, not, map, remove}
-use Rattle.std.specs.List.{list_any, position_or_len}
+use Rattle.std.proofs.Common.{◌≡◌, ◌≢◌, ℕ, zero, suc, Bool, true, false, Option, Some, None, ◌-◌, List, [], ◌∷◌, ◌++◌, length, slice_get, refl, sym, ap, ◌∙◌}
+use Rattle.std.specs.Prelude.{◌||◌, All, map, remove}
+use Rattle.std.specs.List.{list_any}
 use Rattle.std.proofs.lemmas.List.Elements.{All-nil, All-cons, All-head, All-tail, All-append}
 use Rattle.std.proofs.lemmas.List.Folds.{find_at}
 use Rattle.dl_kinds.specs.declared.gid.Gid.{Gid}
 use Rattle.dl_kinds.specs.declared.status.Status.{Status}
 use Rattle.dl_kinds.specs.declared.status.Status.TheVariants as status
 use Rattle.dl_queue.specs.Calls.{QueueCall, after, effect, paused_from, refusal, stopped_from, unless_refused, as_paused, aside}
-use Rattle.dl_queue.specs.Calls.{Add, SetLimit, Pause, Unpause, PauseAll, UnpauseAll, Remove, ChangePosition, Stop, Forget, Purge}
+use Rattle.dl_queue.specs.Calls.{Pause, PauseAll, Remove, Stop}
 use Rattle.dl_queue.specs.Endings.{ending_by_status}
 use Rattle.dl_queue.specs.Lists.{QueueLists}
 use Rattle.dl_queue.specs.Places.{active_place, is_gid, status_of}

@@ -1,5 +1,5 @@
 -- Room for the marks of each download, and what a step appends.
-use Rattle.std.proofs.Common.{◌≡◌, ◌≢◌, ℕ, Bool, true, false, Option, Some, None, ◌+◌, ◌-◌, ◌<◌, ◌≤◌, List, [], ◌∷◌, ◌++◌, length, get_or, set, slice_get, reverse, refl, sym, ap, ◌∙◌, subst, arith}
+use Rattle.std.proofs.Common.{◌≡◌, ◌≢◌, ℕ, Bool, true, Option, Some, ◌+◌, ◌≤◌, List, [], ◌∷◌, ◌++◌, length, set, slice_get, reverse, refl, sym, ap, ◌∙◌, subst, arith}
 use Rattle.std.specs.Prelude.{Contains, find, map, slice_index_or}
 use Rattle.std.specs.List.{position_or_len}
 use Rattle.std.specs.Option.{option_map, unwrap_or}
@@ -17,7 +17,7 @@ use Rattle.machine_core.specs.MachineParts.{AreApart, KeepsRun, MachineState}
 use Rattle.machine_core.specs.MachineViews.{Appends, IsFindingOf, IsNext, MachineView, StandsUnder, UsesMarkRoomAt, UsesMarkRoomOf, mark_spare_in, place_in}
 use Rattle.machine_core.specs.Replays.{is_download, replay_of}
 use Rattle.machine_core.specs.RunLegal.{MayFollow, download_in}
-use Rattle.machine_core.specs.Starts.{RunStart, Download}
+use Rattle.machine_core.specs.Starts.{Download}
 use Rattle.machine_core.specs.declared.entries.Entry.{Entry}
 use Rattle.machine_core.specs.declared.events.Event.{Event}
 use Rattle.machine_core.specs.declared.events.Event.TheVariants.{Settled}

@@ -1,5 +1,5 @@
 -- What a step of one download keeps of a machine.
-use Rattle.std.proofs.Common.{◌≡◌, ◌≢◌, ◌⊎◌, ℕ, Bool, true, false, cond, Option, Some, None, ◌<◌, ◌≤◌, ◌-◌, List, [], ◌∷◌, ◌++◌, length, set, slice_get, refl, sym, ap, ◌∙◌, subst, ⊎_elim, arith}
+use Rattle.std.proofs.Common.{◌≡◌, ◌≢◌, ℕ, Bool, true, false, cond, Some, ◌<◌, ◌≤◌, List, [], ◌∷◌, ◌++◌, length, set, slice_get, refl, sym, ap, ◌∙◌, subst, ⊎_elim}
 use Rattle.std.specs.Prelude.{All, Contains}
 use Rattle.std.specs.Option.{is_some, option_and_then}
 use Rattle.std.proofs.lemmas.Bool.{cases_eq, eq-eqb}
@@ -10,7 +10,7 @@ use Rattle.dl_kinds.specs.declared.claims.Claim.{Claim}
 use Rattle.mirror_blame.specs.Marks.{counted}
 use Rattle.dl_queue.specs.Lists.{QueueLists}
 use Rattle.option_set.specs.Values.{OptionValues}
-use Rattle.dl_history.specs.Accounts.{Account, account_of, after_own}
+use Rattle.dl_history.specs.Accounts.{Account, after_own}
 use Rattle.dl_history.specs.OwnEvents.{OwnEvent}
 use Rattle.dl_history.specs.PayloadParts.{is_opened, is_opening, blames_in, told_total}
 use Rattle.dl_history.specs.StandingClaims.{granted_claims}
@@ -20,11 +20,10 @@ use Rattle.machine_core.specs.OwnParts.{PayloadLengths, own_of, with_own}
 use Rattle.machine_core.specs.Replays.{Replay, download_of, replay_of, is_same_gid}
 use Rattle.machine_core.specs.RunLegal.{MayFollow, download_in, known_lengths, mirrors_by, tries_in}
 use Rattle.machine_core.specs.Starts.{RunStart, Download}
-use Rattle.machine_core.specs.Wanted.{wanted_pieces}
 use Rattle.machine_core.specs.MachineParts.{KeepsDownload, KeepsDownloads, KeepsQueue, KeepsHomes, KeepsEnds, KeepsRun, MachineState, AreApart, AreAddedAt, kept_room, subject_of_event}
 use Rattle.machine_core.specs.declared.entries.Entry.{Entry}
 use Rattle.machine_core.specs.declared.events.Event.{Event}
-use Rattle.machine_core.proofs.Lists.{slice_get-set_same, slice_get-set_other, element_at, read-more}
+use Rattle.machine_core.proofs.Lists.{slice_get-set_same, slice_get-set_other, read-more}
 use Rattle.machine_core.proofs.Parts.{gid_is, lengths_in, lengths_same}
 
 -- ---- one's own events, and those of others

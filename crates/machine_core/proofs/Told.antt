@@ -1,7 +1,6 @@
 -- What a machine's look-ups tell, and what a step needs of them.
-use Rattle.std.proofs.Common.{◌≡◌, ◌≢◌, ℕ, Bool, true, false, Option, Some, None, ◌<◌, ◌≤◌, List, [], ◌∷◌, length, get_or, slice_get, refl, sym, ap, ◌∙◌, subst, arith}
-use Rattle.std.specs.Prelude.{All, Contains, IfNone, IfSome, IsSome}
-use Rattle.std.specs.Option.{is_some}
+use Rattle.std.proofs.Common.{◌≡◌, ◌≢◌, ℕ, Option, Some, None, ◌<◌, List, length, get_or, slice_get, refl, sym, ap, ◌∙◌, subst, arith}
+use Rattle.std.specs.Prelude.{Contains, IfNone, IfSome, IsSome}
 use Rattle.std.proofs.lemmas.List.Elements.{All-contains}
 use Rattle.std.proofs.lemmas.Option.{slice_get_read, slice_get_within}
 use Rattle.dl_kinds.specs.declared.claims.Claim.{Claim}
@@ -10,17 +9,16 @@ use Rattle.dl_kinds.specs.declared.marks.Mark.{Mark}
 use Rattle.dl_kinds.specs.declared.runs.Moment.{Moment}
 use Rattle.dl_kinds.specs.declared.runs.Run.{Run}
 use Rattle.dl_queue.specs.Room.{number_in}
-use Rattle.dl_history.specs.OwnEvents.{OwnEvent, Lands, Loses, Sizes}
+use Rattle.dl_history.specs.OwnEvents.{Lands, Loses, Sizes}
 use Rattle.machine_core.specs.MachineParts.{KeepsRun, MachineState}
 use Rattle.machine_core.specs.MachineViews.{IsLandingOf, IsLossOfClaim, IsNext, IsPlaceOf, IsSizingBy, MachineView, StandsNowhere, StandsUnder, standing_in}
-use Rattle.machine_core.specs.Replays.{download_of, replay_of}
+use Rattle.machine_core.specs.Replays.{replay_of}
 use Rattle.machine_core.specs.RunLegal.{IsLaterThan, MayFollow, MayOwn, download_in}
 use Rattle.machine_core.specs.Starts.{Download}
 use Rattle.machine_core.specs.declared.entries.Entry.{Entry}
 use Rattle.machine_core.specs.declared.events.Event.{Event}
 use Rattle.machine_core.specs.declared.events.Event.TheVariants.{Landed, Lost, Sized}
 use Rattle.machine_core.proofs.Homes.{place_found, place_none}
-use Rattle.machine_core.proofs.Lists.{element_at}
 use Rattle.machine_core.proofs.Steps.{IsAt}
 
 abbrev pub view_of : List Event → MachineState → ℕ → List ℕ → MachineView

@@ -1,37 +1,32 @@
 -- Each step of one download keeps the run.
-use Rattle.std.proofs.Common.{◌≡◌, ◌≢◌, ℕ, Bool, true, false, Option, Some, None, ◌<◌, ◌≤◌, ◌-◌, List, [], ◌∷◌, ◌++◌, length, set, slice_get, reverse, refl, sym, ap, ◌∙◌, subst, arith}
-use Rattle.std.specs.Prelude.{All, Contains, map}
-use Rattle.std.proofs.Math.Seq.{map-set_same}
+use Rattle.std.proofs.Common.{◌≡◌, ℕ, Bool, true, false, Some, ◌≤◌, List, [], ◌∷◌, ◌++◌, length, set, reverse, refl, sym, ap, ◌∙◌, subst}
 use Rattle.std.proofs.lemmas.List.{reverse-append}
-use Rattle.std.proofs.lemmas.Option.{get_or_from_slice_get}
-use Rattle.dl_kinds.specs.declared.claims.Claim.{Claim}
 use Rattle.dl_kinds.specs.declared.gid.Gid.{Gid}
 use Rattle.dl_kinds.specs.declared.marks.Mark.{Mark}
 use Rattle.dl_kinds.specs.declared.runs.Moment.{Moment}
 use Rattle.dl_kinds.specs.declared.runs.Run.{Run}
 use Rattle.dl_kinds.specs.declared.status.Status.TheVariants as status
-use Rattle.dl_queue.specs.Calls.{after, QueueCall}
+use Rattle.dl_queue.specs.Calls.{after}
 use Rattle.dl_queue.specs.Lists.{QueueLists}
 use Rattle.dl_history.specs.AccountLaws.{UnopenedAccountsAreAlike}
 use Rattle.dl_history.specs.Accounts.{after_finding, after_halt, after_landing, after_loss, after_save, after_sizing, without_piece}
 use Rattle.dl_history.specs.OwnEvents.{OwnEvent, Lands, Settles, Clears, Loses, Sizes, Saves, Checks, Halts}
 use Rattle.dl_history.specs.OwnLegal.{LegalOwn}
 use Rattle.dl_history.specs.PayloadParts.{is_opened}
-use Rattle.one_download.specs.DownloadLaws.{AccountsTellOpening}
 use Rattle.one_download.specs.DownloadViews.{DownloadView, StaysSetUp, StaysUnmarked, marks_after}
 use Rattle.piece_table.specs.declared.giver.Giver.{Giver}
 use Rattle.machine_core.specs.Choices.{options_now}
-use Rattle.machine_core.specs.MachineParts.{KeepsDownload, KeepsEnds, KeepsQueue, KeepsRun, MachineState, kept_room}
+use Rattle.machine_core.specs.MachineParts.{KeepsDownload, KeepsRun, MachineState, kept_room}
 use Rattle.machine_core.specs.OwnParts.{own_of, with_own}
-use Rattle.machine_core.specs.Replays.{Replay, replay_of, stop_of}
+use Rattle.machine_core.specs.Replays.{replay_of, stop_of}
 use Rattle.machine_core.specs.RunLegal.{MayFollow, known_lengths}
 use Rattle.machine_core.specs.Starts.{Download}
 use Rattle.machine_core.specs.declared.ends.End.{End}
 use Rattle.machine_core.specs.declared.ends.End.TheVariants as end
 use Rattle.machine_core.specs.declared.entries.Entry.{Entry}
 use Rattle.machine_core.specs.declared.events.Event.{Event}
-use Rattle.machine_core.specs.declared.events.Event.TheVariants.{Sized, Landed, Settled, Cleared, Lost, Checked, Saved, Ended, Left}
-use Rattle.machine_core.proofs.Steps.{Concerns, Follows, IsAt, IsPlain, MarksFollow, one_step, own_here, own_one, run_step}
+use Rattle.machine_core.specs.declared.events.Event.TheVariants.{Sized, Landed, Settled, Cleared, Lost, Checked, Saved, Ended}
+use Rattle.machine_core.proofs.Steps.{IsAt, MarksFollow, one_step, own_here, own_one, run_step}
 use Rattle.machine_core.proofs.Halting.{sizes_on}
 use Rattle.machine_core.proofs.Fitting.{IsKnown}
 use Rattle.machine_core.proofs.Leaving.{stop_adds_none}

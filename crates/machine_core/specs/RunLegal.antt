@@ -193,9 +193,12 @@ IsEndCause start past download wanted end.Complete =
     IsCompleteIn wanted (is_some (text_of_word download.options word.Checksum)) (own_of start past download.gid)
 IsEndCause start past download wanted (end.Dead piece mark) = IsDeadIn start past download piece mark
 IsEndCause start past download wanted (end.Disk count) = IsNewFault past count
-IsEndCause start past download wanted (end.Exists length) = IsOpening start past download.gid
-IsEndCause start past download wanted (end.PieceLength have want) = IsOpening start past download.gid × (have ≢ want)
-IsEndCause start past download wanted (end.Length have want) = IsOpening start past download.gid × (have ≢ want)
+IsEndCause start past download wanted (end.Exists length) =
+    IsOpening start past download.gid × (is_listed download.subject ≡ false)
+IsEndCause start past download wanted (end.PieceLength have want) =
+    IsOpening start past download.gid × (want ≡ (known_lengths start past download.gid).piece_len) × (have ≢ want)
+IsEndCause start past download wanted (end.Length have want) =
+    IsOpening start past download.gid × (want ≡ (known_lengths start past download.gid).total) × (have ≢ want)
 IsEndCause start past download wanted end.InfoHash = IsOpening start past download.gid
 IsEndCause start past download wanted (end.Unreadable at) = IsOpening start past download.gid
 IsEndCause start past download wanted (end.TooLarge total) = IsTooLong (own_of start past download.gid) download total

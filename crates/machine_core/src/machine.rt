@@ -3,6 +3,8 @@ ghost use Rattle.std.specs.Prelude.{◌≡◌, ◌≤◌, [], false, reverse, If
 ghost use Rattle.std.specs.Option.{option_map};
 ghost use Rattle.dl_history.specs.PayloadParts.{is_opened};
 ghost use Rattle.machine_core.specs.Choices.{options_now};
+ghost use Rattle.dl_queue.specs.Places.{status_of};
+ghost use Rattle.machine_core.specs.Replays.{queue_in};
 ghost use Rattle.machine_core.specs.OwnParts.{own_of};
 ghost use Rattle.machine_core.specs.MachineViews.{Appends, HasMarkRoomAt, IsFindingOf, IsLandingOf, IsLossOfClaim, IsNext, IsPlaceOf, IsSizingBy, StandsNowhere, StandsSomewhere, StandsUnder, IsFirstOpen, account_in, is_added_in, UsesMarkRoomAt, UsesMarkRoomOf, UsesRoom, mark_spare_in};
 ghost use Rattle.machine_core.specs.RunLegal.{IsLegal, MayFollow, doors_left, download_in};
@@ -12,7 +14,7 @@ use crate::entries::Entry;
 use crate::halts::halt_all;
 use crate::{End, Event, Journal};
 use dl_history::{accounts_match_events, histories_are_sound, unopened_accounts_are_alike};
-use dl_kinds::{Claim, Gid, Mark, Moment, Run, plan_laws};
+use dl_kinds::{Claim, Gid, Mark, Moment, Run, Status, plan_laws};
 use dl_queue::Queue;
 use one_download::steps_match_events;
 use option_set::{Num, Options};
@@ -372,6 +374,24 @@ impl Machine {
     {
         let place = self.place(gid)?;
         Some(&self.entries[place].options)
+    }
+
+    /// The moment of the last save of a download, or of its opening where there is none.
+    pub fn saved_at(&self, gid: Gid) -> Option<Moment>
+        ensures { is_added_in self.now gid ≡ true → result ≡ (account_in self.now gid).saved }
+    {
+        let place = self.place(gid)?;
+        self.entries[place].state.saved_at()
+    }
+
+    /// The status of a download that stands in one of the queue's lists.
+    pub fn status(&self, gid: Gid) -> Option<Status>
+        ensures { result ≡ status_of (queue_in self.now.start self.now.past) gid }
+    {
+        match self.queue.status(gid) {
+            Ok(status) => Some(status),
+            Err(_) => None,
+        }
     }
 
     /// How many doors of the console stand.

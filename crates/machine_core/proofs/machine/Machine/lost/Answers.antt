@@ -1,7 +1,7 @@
-use Rattle.std.proofs.Common.{◌∙◌, ap, refl, arith}
+use Rattle.std.proofs.Common.{refl, arith}
 use Rattle.dl_kinds.specs.declared.claims.Claim.{Claim}
 use Rattle.dl_kinds.specs.declared.gid.Gid.{Gid}
-use Rattle.machine_core.specs.MachineViews.{IsLossOfClaim, MachineView, StandsUnder}
+use Rattle.machine_core.specs.MachineViews.{IsLossOfClaim, StandsUnder}
 use Rattle.machine_core.specs.declared.events.Event.TheVariants.{Lost}
 use Rattle.machine_core.proofs.Here.{TellsPiece, blame_here, here, lose_here, loses, may_here, piece_told, sees, told_piece, told_some, within}
 use Rattle.machine_core.proofs.Rooms.{appends, downloads_after, other_home, room_here, uses_room}
