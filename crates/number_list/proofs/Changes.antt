@@ -1,9 +1,9 @@
 -- What taking a number out and putting one in does to the links.
-use Rattle.std.proofs.Common.{◌≡◌, ◌≢◌, ◌<◌, ◌≤◌, ◌+◌, ◌-◌, ◌==◌, ◌||◌, ◌&&◌, not, ℕ, zero, suc, Bool, true, false, List, [], ◌∷◌, ◌++◌, length, get_or, refl, sym, ◌∙◌, ap, subst, arith, get_or-set_other, get_or-set_same, eq-eqb, true≢false, append_assoc, append-nil, length-append}
+use Rattle.std.proofs.Common.{◌≡◌, ◌≢◌, ◌<◌, ◌≤◌, ◌+◌, ◌-◌, ◌==◌, ◌||◌, ◌&&◌, not, ℕ, zero, suc, Bool, true, false, List, Option, Some, [], ◌∷◌, ◌++◌, length, get_or, refl, sym, ◌∙◌, ap, subst, arith, get_or-set_other, get_or-set_same, eq-eqb, true≢false, append_assoc, append-nil, length-append}
 use Rattle.std.proofs.Math.ListN.{set, length-set}
 use borrow.Author.Tests.{eqb-true}
 use Rattle.std.proofs.lemmas.Bool.{eqb-false, ne_eqb}
-use Rattle.std.specs.Prelude.{insert, remove}
+use Rattle.std.specs.Prelude.{insert, remove, slice_get}
 use Rattle.std.specs.List.{IsDistinct, AllByRecursion, list_any}
 use Rattle.std.proofs.lemmas.Map.Steps.{length-le_from_distinct_below}
 use Rattle.std.proofs.lemmas.List.{get_or_default}
@@ -467,3 +467,18 @@ some_in_bound next previous bound (suc count) linked some =
     let x = get_or next 0 0 in
     let least = linked.below x (either_left (x == x) (lists_number (walk count next x) x) (eq-eqb x x refl)) in
     omega (arith, least)
+
+-- the last number of a list of some
+last_got : (next previous : List ℕ) (a x : ℕ) (numbers : List ℕ) (b : ℕ) → IsPath next previous a (x ∷ numbers) b
+    → slice_get (x ∷ numbers) (length numbers) ≡ Some (get_or previous b 0)
+last_got next previous a x [] b path = ap (λ (k : ℕ). Some k) (sym path.2.1)
+last_got next previous a x (y ∷ numbers) b path = last_got next previous x y numbers b path.2
+
+pub last_is : (next previous : List ℕ) (bound count : ℕ) → AreLinked next previous bound (walk count next 0) → 0 < count
+    → slice_get (walk count next 0) (length (walk count next 0) - 1) ≡ Some (get_or previous 0 0)
+last_is next previous bound zero linked some = let none : ⊥ = omega (arith, some) in absurd none
+last_is next previous bound (suc count) linked some =
+    let x = get_or next 0 0 in
+    let one : length (walk (suc count) next 0) - 1 ≡ length (walk count next x) = omega arith in
+    ap (slice_get (walk (suc count) next 0)) one
+    ∙ last_got next previous 0 x (walk count next x) 0 linked.path

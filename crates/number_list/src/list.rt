@@ -1,5 +1,5 @@
 // A list of numbers that are linked to one another.
-ghost use Rattle.std.specs.Prelude.{◌≡◌, ◌==◌, ◌&&◌, ◌||◌, not, ◌≤◌, ◌<◌, ◌+◌, ◌^◌, ℕ, [], ◌∷◌, ◌++◌, true, false, max, is_ok, if◌then◌else◌, position, insert, remove, length, IfSome, OnOk, slice_get, slice_index, vec_len};
+ghost use Rattle.std.specs.Prelude.{◌≡◌, ◌==◌, ◌&&◌, ◌||◌, not, ◌≤◌, ◌<◌, ◌+◌, ◌-◌, ◌^◌, ℕ, [], ◌∷◌, ◌++◌, true, false, max, is_ok, if◌then◌else◌, position, insert, remove, length, IfSome, OnOk, slice_get, slice_index, vec_len};
 ghost use Rattle.number_list.specs.Order.{NumberOrder, lists_number, number_place, is_listed_or_end, NoneTwice};
 
 use crate::Numbers;
@@ -87,6 +87,17 @@ impl NumberList {
         Some(self.next[0])
     }
 
+    /// The last number.
+    pub fn last(&self) -> Option<usize>
+        ensures value { result ≡ slice_get self.now.order (length self.now.order - 1) }
+        ensures listed { IfSome result (λ number. lists_number self.now.order number ≡ true) }
+    {
+        if self.count == 0 {
+            return None;
+        }
+        Some(self.previous[0])
+    }
+
     /// The number behind one, or 0 for the last.
     pub(crate) fn behind(&self, number: usize) -> usize
         requires { lists_number self.now.order number ≡ true }
@@ -167,7 +178,7 @@ impl NumberList {
         self.insert_before(0, number);
     }
 
-    /// Puts a number at a place, which is found from the front.
+    /// Puts a number at a place, which is found from the front unless it is the end.
     pub fn insert(&mut self, place: usize, number: usize)
         requires within { number < self.old.bound }
         requires counts { 0 < number }
@@ -178,7 +189,11 @@ impl NumberList {
             ≡ ((other == number) || lists_number self.old.order other) }
     {
         self.numbers_differ();
-        let other = self.at(place).unwrap_or(0);
+        let other = if place == self.count {
+            0
+        } else {
+            self.at(place).unwrap_or(0)
+        };
         self.insert_before(other, number);
     }
 
