@@ -1,5 +1,6 @@
 // The numbers of a list, one by one.
-ghost use Rattle.std.specs.Prelude.{◌≡◌};
+ghost use Rattle.std.specs.Prelude.{◌≡◌, ◌+◌, true, drop};
+ghost use Rattle.number_list.specs.Order.{lists_number, number_place};
 ghost use Rattle.std.specs.Iterator.{YieldsFirst, item_count};
 
 use crate::NumberList;
@@ -30,6 +31,15 @@ impl<'a> Numbers<'a> {
     {
         list.numbers_differ();
         let next = list.first().unwrap_or(0);
+        Numbers { list, next }
+    }
+
+    pub(crate) fn behind(list: &'a NumberList, number: usize) -> Self
+        requires { lists_number list.now.order number ≡ true }
+        ensures { result ≡ drop (number_place list.now.order number + 1) list.now.order }
+    {
+        list.numbers_differ();
+        let next = list.behind(number);
         Numbers { list, next }
     }
 }

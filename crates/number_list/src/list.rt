@@ -1,5 +1,5 @@
 // A list of numbers that are linked to one another.
-ghost use Rattle.std.specs.Prelude.{◌≡◌, ◌==◌, ◌&&◌, ◌||◌, not, ◌≤◌, ◌<◌, ◌+◌, ◌-◌, ◌^◌, ℕ, [], ◌∷◌, ◌++◌, true, false, max, is_ok, if◌then◌else◌, position, insert, remove, length, IfSome, OnOk, slice_get, slice_index, vec_len};
+ghost use Rattle.std.specs.Prelude.{◌≡◌, ◌==◌, ◌&&◌, ◌||◌, not, ◌≤◌, ◌<◌, ◌+◌, ◌-◌, ◌^◌, ℕ, [], ◌∷◌, ◌++◌, true, false, max, is_ok, if◌then◌else◌, position, drop, insert, remove, length, IfSome, OnOk, slice_get, slice_index, vec_len};
 ghost use Rattle.number_list.specs.Order.{NumberOrder, lists_number, number_place, is_listed_or_end, NoneTwice};
 
 use crate::Numbers;
@@ -125,6 +125,14 @@ impl NumberList {
         ensures { result ≡ self.now.order }
     {
         Numbers::from(self)
+    }
+
+    /// The numbers behind one.
+    pub fn iter_behind(&self, number: usize) -> Numbers<'_>
+        requires { lists_number self.now.order number ≡ true }
+        ensures { result ≡ drop (number_place self.now.order number + 1) self.now.order }
+    {
+        Numbers::behind(self, number)
     }
 
     /// The number at a place, counted from 0. It is found from the front.
