@@ -1,6 +1,14 @@
 mod Defaults
+mod Ups
 mod Parts
 mod Numbers
-mod Ups
-mod Names
+mod Standing
+mod Moves
+mod Readies
+mod Steps
+mod Inside
+mod Wholes
 mod Finds
+mod Marks
+mod Additions
+mod Lifts

@@ -72,6 +72,10 @@ added_place gid added = position_or_len (λ download. download.gid.0 == gid.0) a
 abbrev pub was_added : List Added → Gid → Bool
 was_added added gid = nat_lt (added_place gid added) (length added)
 
+-- where it stands in the order of adding, from 0
+abbrev pub adding_place : List Added → Gid → Option ℕ
+adding_place added gid = if was_added added gid then Some (added_place gid added) else None
+
 -- the options of a download that was added
 abbrev pub options_in : List Added → Gid → Option OptionValues
 options_in added gid = option_map (λ download. download.options) (find (λ download. download.gid.0 == gid.0) added)

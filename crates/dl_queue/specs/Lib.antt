@@ -3,5 +3,6 @@ pub mod Lists
 pub mod Places
 pub mod Rising
 pub mod Calls
-pub mod Room
+pub mod Held
 pub mod Named
+pub mod NextUp

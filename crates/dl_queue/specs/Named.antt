@@ -1,27 +1,38 @@
--- The downloads of a list whose gids begin with a key's digits.
-use Rattle.std.specs.Prelude.{◌≡◌, ◌==◌, ◌<◌, List, length, count_by, IsSome, IfSome, IsTrue}
-use Rattle.std.specs.List.{position_or_len}
-use Rattle.dl_kinds.specs.declared.gid.Gid.{Gid}
+-- The downloads of a list of numbers whose gids begin with a key's digits.
+use Rattle.std.specs.Prelude.{◌≡◌, ◌<◌, ◌≤◌, ◌*◌, ℕ, true, List, length, count_by, IsSome, IfSome, IsTrue}
 use Rattle.dl_kinds.specs.declared.gid_key.GidKey.{GidKey}
-use Rattle.dl_queue.specs.declared.kinds.Queued.{Queued}
-use Rattle.dl_queue.specs.declared.kinds.Stopped.{Stopped}
+use Rattle.number_list.specs.Order.{lists_number}
+use Rattle.dl_queue.specs.declared.kinds.Added.{Added}
 use Rattle.dl_queue.specs.declared.named.Named.{Named}
-use Rattle.dl_queue.specs.Calls.{names_gid}
+use Rattle.dl_queue.specs.declared.kinds.TheConstants.{MAX_DOWNLOADS}
+use Rattle.dl_queue.specs.Lists.{QueueLists}
+use Rattle.dl_queue.specs.Places.{status_of}
+use Rattle.dl_queue.specs.Calls.{names_gid, count_named}
+use Rattle.dl_queue.specs.Held.{gid_at}
 
-abbrev pub id_of_queued : Queued → Gid
-id_of_queued download = download.gid
-
-abbrev pub id_of_stopped : Stopped → Gid
-id_of_stopped download = download.gid
-
--- the key names a gid that stands in the list
-pub record StandsNamed {X : Type 0} (id_of : X → Gid) (list : List X) (key : GidKey) (gid : Gid) : Type 0 where
-  pub named : IsTrue (names_gid key gid)
-  pub stands : position_or_len (λ item. (id_of item).0 == gid.0) list < length list
+-- the key names the download of a number that is listed
+pub record IsListedNamed (added : List Added) (key : GidKey) (numbers : List ℕ) (number : ℕ) : Type 0 where
+  pub named : IsTrue (names_gid key (gid_at added number))
+  pub listed : lists_number numbers number ≡ true
 
 -- so many are named, and one of them
-pub record AreNamed {X : Type 0} (id_of : X → Gid) (list : List X) (key : GidKey) (found : Named) : Type 0 where
-  pub count : found.count ≡ count_by (λ item. names_gid key (id_of item)) list
-  pub some : 0 < found.count → IsSome found.gid
-  pub counted : IsSome found.gid → 0 < found.count
-  pub one : IfSome found.gid (StandsNamed id_of list key)
+pub record AreNamed (added : List Added) (key : GidKey) (numbers : List ℕ) (found : Named) : Type 0 where
+  pub count : found.count ≡ count_by (λ number. names_gid key (gid_at added number)) numbers
+  pub some : 0 < found.count → IsSome found.number
+  pub counted : IsSome found.number → 0 < found.count
+  pub one : IfSome found.number (IsListedNamed added key numbers)
+
+-- the key names the download of a number, which has a status
+pub record IsNamedIn (queue : QueueLists) (key : GidKey) (number : ℕ) : Type 0 where
+  pub named : IsTrue (names_gid key (gid_at queue.added number))
+  pub status : IsSome (status_of queue (gid_at queue.added number))
+  pub counts : 0 < number
+  pub within : number ≤ length queue.added
+
+-- so many of the downloads of a queue are named, and the number of one of them
+pub record AreNamedIn (queue : QueueLists) (key : GidKey) (found : Named) : Type 0 where
+  pub count : found.count ≡ count_named queue key
+  pub some : 0 < found.count → IsSome found.number
+  pub counted : IsSome found.number → 0 < found.count
+  pub one : IfSome found.number (IsNamedIn queue key)
+  pub few : found.count ≤ 3 * MAX_DOWNLOADS

@@ -1,7 +1,7 @@
 // What stands in the lists of a queue, and why a call is refused.
 ghost use Rattle.std.specs.Prelude.{◌≡◌};
 ghost use Rattle.dl_queue.specs.declared.kinds.QueueErr.TheVariants.{NoMemory};
-ghost use Rattle.dl_queue.specs.Endings.{ended_status, ending_by_status};
+ghost use Rattle.dl_queue.specs.Endings.{ended_status, ending_by_status, ending_by_standing};
 
 use dl_kinds::{Gid, Status};
 use option_set::Options;
@@ -38,11 +38,18 @@ impl Stopped {
     pub fn status(&self) -> Status
         ensures { result ≡ ended_status self.now.ending }
     {
-        match self.ending {
-            Ending::Failed => Status::Failed,
-            Ending::Complete => Status::Complete,
-            Ending::Removed => Status::Removed,
-        }
+        status_by_ending(self.ending)
+    }
+}
+
+/// The status of a download that stopped so.
+pub(crate) fn status_by_ending(ending: Ending) -> Status
+    ensures { result ≡ ended_status ending }
+{
+    match ending {
+        Ending::Failed => Status::Failed,
+        Ending::Complete => Status::Complete,
+        Ending::Removed => Status::Removed,
     }
 }
 
@@ -54,6 +61,16 @@ pub(crate) fn ending_by_status(status: Status) -> Ending
         Status::Complete => Ending::Complete,
         Status::Removed => Ending::Removed,
         _ => Ending::Failed,
+    }
+}
+
+/// How a download stopped that stands so; one that stands in none of the lists counts as `Failed`.
+pub(crate) fn ending_by_standing(standing: Option<Status>) -> Ending
+    ensures { result ≡ ending_by_standing standing }
+{
+    match standing {
+        Some(status) => ending_by_status(status),
+        None => Ending::Failed,
     }
 }
 

@@ -1,12 +1,18 @@
 //! The queue of downloads: which are active, which wait, and which have stopped.
 #![tactic(auto)]
 
+mod calls;
 mod kinds;
+mod lines;
+mod listed;
 mod named;
+
 mod places;
 mod queue;
-mod rising;
+
 mod room;
 
 pub use kinds::{Added, Ending, How, MAX_DOWNLOADS, QueueErr, Queued, Stopped};
+pub use listed::{ActiveGids, QueuedDownloads, StoppedDownloads};
 pub use queue::Queue;
+

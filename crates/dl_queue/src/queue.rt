@@ -1,57 +1,56 @@
 // The queue.
-ghost use Rattle.std.specs.Prelude.{◌≡◌, ◌↔◌, ◌≤◌, ◌<◌, ℕ, [], length, true, IsTrue, IsSome, Some, None, IfOk, IfErr, MatchOption, IsOkUnless, option_copied, is_ok, if◌then◌else◌};
+ghost use Rattle.std.specs.Prelude.{◌≡◌, ◌≤◌, ◌<◌, ◌-◌, ◌++◌, ◌∷◌, [], ℕ, true, false, IsTrue, Option, Some, None, IfSome, IfOk, OnOk, insert, is_ok, is_some, length, map, option_copied, remove, if◌then◌else◌};
 ghost use Rattle.std.specs.Option.{ok_or};
-ghost use Rattle.dl_kinds.specs.declared.status.Status.TheVariants.{Active};
-ghost use Rattle.dl_queue.specs.declared.kinds.QueueErr.TheVariants.{NotFound, NoMemory};
-ghost use Rattle.dl_queue.specs.Places.{status_of, active_place, queued_place, stopped_place, StandsAmong};
-ghost use Rattle.dl_queue.specs.Rising.{moved_up};
-ghost use Rattle.dl_queue.specs.Room.{number_in};
-ghost use Rattle.dl_queue.specs.Calls.{QueueCall, refusal, effect, after, queue_answer, has_stopped, stopped_from, paused_from, with_pause, target_of, options_in, Finds};
+ghost use Rattle.dl_kinds.specs.declared.status.Status.TheVariants.{Active, Waiting};
+ghost use Rattle.dl_queue.specs.declared.kinds.QueueErr.TheVariants.{NotFound};
+ghost use Rattle.dl_queue.specs.Places.{status_of, active_place, queued_place, stopped_place, queued_at};
+ghost use Rattle.dl_queue.specs.Calls.{adding_place, was_added, with_pause, as_paused, options_in};
+ghost use Rattle.dl_queue.specs.Named.{AreNamedIn};
+ghost use Rattle.dl_queue.specs.NextUp.{IsNextUp, IsLastActive};
+ghost use Rattle.dl_queue.specs.Held.{number_in, gid_at, stands_queued, stands_stopped};
 
-use crate::kinds::ending_by_status;
-use crate::named::{named_active, named_queued, named_stopped};
-use crate::places::{active_place, queued_place, stopped_place, target};
-use crate::rising::{insert, move_up, set_all_paused, set_aside, set_paused};
-use crate::room::{give_number, reserve, reserve_deque};
-use crate::{Added, Ending, How, MAX_DOWNLOADS, QueueErr, Queued, Stopped};
+use crate::kinds::status_by_ending;
+use crate::lines::{fill, first_ready, gid_of, is_ready, mark_all, remove_if, standing_of};
+use crate::named::{Named, all_named};
+use crate::room::{give_number, reserve_lists};
+use crate::{ActiveGids, Added, Ending, MAX_DOWNLOADS, QueueErr, QueuedDownloads, StoppedDownloads};
 use dl_kinds::{Gid, GidKey, Status};
-use option_set::{Options, Setting};
-use std::alloc::Global;
-use std::collections::{BTreeMap, VecDeque};
+use number_list::NumberList;
+use option_set::Options;
+use std::alloc::{AllocError, Global};
+use std::collections::BTreeMap;
 use std::marker::Model;
 
 /// The downloads of a run: which are active, which wait or are paused, and which have stopped.
 #[derive(Drop)]
 pub struct Queue {
     limit: u16,
-    active: Vec<Gid>,
-    waiting: VecDeque<Queued>,
-    stopped: Vec<Stopped>,
+    // The downloads in the order of their adding, by which they have numbers from 1, and where each stands.
     added: Vec<Added>,
-    // The place of each gid in the order of adding.
+    standings: Vec<Option<Status>>,
     numbers: BTreeMap<u64, usize>,
+    active: NumberList,
+    waiting: NumberList,
+    // Those of the waiting ones that aren't paused.
+    ready: NumberList,
+    stopped: NumberList,
 }
 
 impl Model for Queue {
-    ghost use Rattle.std.specs.Prelude.{vec_capacity};
-    ghost use Rattle.std.specs.VecDeque.{deque_capacity};
     ghost use Rattle.dl_queue.specs.Lists.{QueueLists};
 
     ghost Value = { QueueLists };
 
-    ghost use Rattle.dl_queue.specs.Room.{HasRoom};
+    ghost use Rattle.dl_queue.specs.Held.{lists_of, AreHeld};
 
-    ghost view = { λ q. record {
-      limit = q.limit;
-      active = q.active.items;
-      waiting = q.waiting.items;
-      stopped = q.stopped.items;
-      added = q.added.items;
-    } };
+    ghost view = { λ q. lists_of q.limit record {
+        added = q.added.items; standings = q.standings.items;
+        active = q.active.order; waiting = q.waiting.order; ready = q.ready.order; stopped = q.stopped.order } };
 
-    ghost invariant = { λ q. HasRoom
-        record { limit = q.limit; active = q.active.items; waiting = q.waiting.items; stopped = q.stopped.items; added = q.added.items }
-        (vec_capacity q.active) (deque_capacity q.waiting) (vec_capacity q.stopped) q.numbers };
+    ghost invariant = { λ q. AreHeld record {
+        added = q.added.items; standings = q.standings.items;
+        active = q.active.order; waiting = q.waiting.order; ready = q.ready.order; stopped = q.stopped.order }
+        q.numbers q.active.bound q.waiting.bound q.ready.bound q.stopped.bound };
 }
 
 impl Queue {
@@ -61,294 +60,342 @@ impl Queue {
     {
         Queue {
             limit,
-            active: Vec::new(alloc),
-            waiting: VecDeque::new(alloc),
-            stopped: Vec::new(alloc),
             added: Vec::new(alloc),
+            standings: Vec::new(alloc),
             numbers: BTreeMap::new(alloc),
+            active: NumberList::new(alloc),
+            waiting: NumberList::new(alloc),
+            ready: NumberList::new(alloc),
+            stopped: NumberList::new(alloc),
         }
     }
 
-    /// The active downloads, in the order in which they became active.
-    pub fn active(&self) -> &[Gid]
-        ensures { result.now ≡ self.now.active }
+    /// How many downloads may be active.
+    pub fn limit(&self) -> u16
+        ensures { result ≡ self.now.limit }
     {
-        &self.active
+        self.limit
+    }
+
+    /// How many downloads are active.
+    pub fn active_len(&self) -> usize
+        ensures { result ≡ length self.now.active }
+    {
+        self.active.len()
+    }
+
+    /// How many downloads wait or are paused.
+    pub fn waiting_len(&self) -> usize
+        ensures { result ≡ length self.now.waiting }
+    {
+        self.waiting.len()
+    }
+
+    /// How many downloads have stopped and weren't taken out of the lists.
+    pub fn stopped_len(&self) -> usize
+        ensures { result ≡ length self.now.stopped }
+    {
+        self.stopped.len()
+    }
+
+    /// The active downloads, in the order in which they became active.
+    pub fn active(&self) -> ActiveGids<'_>
+        ensures { result ≡ self.now.active }
+    {
+        ActiveGids::of(&self.added, self.active.iter())
     }
 
     /// The waiting and paused downloads, in the order in which they wait.
-    pub fn waiting(&self) -> &VecDeque<Queued>
-        ensures { result.now.items ≡ self.now.waiting }
+    pub fn waiting(&self) -> QueuedDownloads<'_>
+        ensures { result ≡ self.now.waiting }
     {
-        &self.waiting
+        QueuedDownloads::of(&self.added, &self.standings, self.waiting.iter())
     }
 
     /// The stopped downloads, the oldest first.
-    pub fn stopped(&self) -> &[Stopped]
-        ensures { result.now ≡ self.now.stopped }
+    pub fn stopped(&self) -> StoppedDownloads<'_>
+        ensures { result ≡ self.now.stopped }
     {
-        &self.stopped
+        StoppedDownloads::of(&self.added, &self.standings, self.stopped.iter())
+    }
+
+    /// The number of a download in the order of adding, from 1.
+    fn number(&self, gid: Gid) -> Option<usize>
+        ensures { result ≡ number_in self.now.added gid }
+    {
+        self.numbers.get(&gid.0).copied()
+    }
+
+    fn number_of(&self, gid: Gid) -> usize
+        requires { was_added self.now.added gid ≡ true }
+        ensures { number_in self.now.added gid ≡ Some result }
+    {
+        match self.number(gid) {
+            Some(number) => number,
+            None => unreachable!(),
+        }
     }
 
     /// The status of a download. NotFound comes where it stands in none of the lists.
     pub fn status(&self, gid: Gid) -> Result<Status, QueueErr>
         ensures value { result ≡ ok_or (status_of self.now gid) NotFound }
-        ensures stands { IfOk result (λ status. StandsAmong status self.now gid) }
+        ensures stands { IfOk result (λ status. status_of self.now gid ≡ Some status) }
+        ensures known { IfOk result (λ _. was_added self.now.added gid ≡ true) }
     {
-        if active_place(&self.active, gid) < self.active.len() {
-            return Ok(Status::Active);
-        }
-        if let Some(download) = self.waiting.get(queued_place(&self.waiting, gid)) {
-            return Ok(if download.paused {
-                Status::Paused
-            } else {
-                Status::Waiting
-            });
-        }
-        match self.stopped.get(stopped_place(&self.stopped, gid)) {
-            Some(download) => Ok(download.status()),
+        match self.number(gid) {
+            Some(number) => standing_of(&self.standings, number).ok_or(QueueErr::NotFound),
             None => Err(QueueErr::NotFound),
         }
     }
 
-    /// Changes how many downloads may be active. Those that are active stay so.
-    pub fn set_limit(&mut self, limit: u16)
-        ensures { self.new ≡ after self.old (QueueCall.SetLimit limit) }
+    /// The place of a download in the order of adding, from 0.
+    pub fn adding_place(&self, gid: Gid) -> Option<usize>
+        ensures { result ≡ adding_place self.now.added gid }
     {
-        self.limit = limit;
-        move_up(self.limit, &mut self.active, &mut self.waiting);
-    }
-
-    fn pause_active(&mut self, gid: Gid)
-        requires { active_place gid self.old.active < length self.old.active }
-        ensures { self.new ≡ moved_up (paused_from (Some Active) gid self.old) }
-    {
-        let place = active_place(&self.active, gid);
-        self.active.remove(place);
-        self.waiting
-            .push_front_reserved(Queued { gid, paused: true });
-        move_up(self.limit, &mut self.active, &mut self.waiting);
-    }
-
-    fn mark_paused(&mut self, gid: Gid, paused: bool)
-        requires { queued_place gid self.old.waiting < length self.old.waiting }
-        ensures { self.new ≡ moved_up (record self.old { waiting = with_pause paused gid self.old.waiting }) }
-    {
-        set_paused(&mut self.waiting, gid, paused);
-        move_up(self.limit, &mut self.active, &mut self.waiting);
-    }
-
-    /// Pauses a download: an active one goes to the front of the waiting ones, a waiting one stays in its place. WrongStatus
-    /// comes in any other status.
-    pub fn pause(&mut self, gid: Gid) -> Result<(), QueueErr>
-        ensures answer { result ≡ queue_answer (refusal self.old (QueueCall.Pause gid)) tt }
-        ensures state { self.new ≡ after self.old (QueueCall.Pause gid) }
-    {
-        match self.status(gid)? {
-            Status::Active => self.pause_active(gid),
-            Status::Waiting => self.mark_paused(gid, true),
-            status => return Err(QueueErr::WrongStatus(status)),
-        }
-        Ok(())
-    }
-
-    /// Lets a paused download wait again, in its place. WrongStatus comes in any other status.
-    pub fn unpause(&mut self, gid: Gid) -> Result<(), QueueErr>
-        ensures answer { result ≡ queue_answer (refusal self.old (QueueCall.Unpause gid)) tt }
-        ensures state { self.new ≡ after self.old (QueueCall.Unpause gid) }
-    {
-        match self.status(gid)? {
-            Status::Paused => self.mark_paused(gid, false),
-            status => return Err(QueueErr::WrongStatus(status)),
-        }
-        Ok(())
-    }
-
-    /// Pauses all downloads that aren't paused: the active ones go to the front of the waiting ones, in their order.
-    pub fn pause_all(&mut self)
-        ensures { self.new ≡ after self.old QueueCall.PauseAll }
-    {
-        set_all_paused(&mut self.waiting, true);
-        set_aside(&mut self.active, &mut self.waiting);
-        move_up(self.limit, &mut self.active, &mut self.waiting);
-    }
-
-    /// Lets all paused downloads wait again.
-    pub fn unpause_all(&mut self)
-        ensures { self.new ≡ after self.old QueueCall.UnpauseAll }
-    {
-        set_all_paused(&mut self.waiting, false);
-        move_up(self.limit, &mut self.active, &mut self.waiting);
-    }
-
-    fn stop_active(&mut self, gid: Gid, ending: Ending)
-        requires { active_place gid self.old.active < length self.old.active }
-        ensures { self.new ≡ moved_up (stopped_from (Some Active) gid ending self.old) }
-    {
-        let place = active_place(&self.active, gid);
-        self.active.remove(place);
-        self.stopped.push_reserved(Stopped { gid, ending });
-        move_up(self.limit, &mut self.active, &mut self.waiting);
-    }
-
-    fn stop_queued(&mut self, gid: Gid, ending: Ending)
-        requires { queued_place gid self.old.waiting < length self.old.waiting }
-        ensures { self.new ≡ moved_up (stopped_from None gid ending self.old) }
-    {
-        let place = queued_place(&self.waiting, gid);
-        self.waiting.remove(place);
-        self.stopped.push_reserved(Stopped { gid, ending });
-        move_up(self.limit, &mut self.active, &mut self.waiting);
-    }
-
-    /// Stops a download with one of the statuses of stopped ones. WrongStatus comes where it has stopped.
-    pub fn stop(&mut self, gid: Gid, status: Status) -> Result<(), QueueErr>
-        requires { IsTrue (has_stopped status) }
-        ensures answer { result ≡ queue_answer (refusal self.old (QueueCall.Stop gid status)) tt }
-        ensures state { self.new ≡ after self.old (QueueCall.Stop gid status) }
-    {
-        match self.status(gid)? {
-            Status::Active => self.stop_active(gid, ending_by_status(status)),
-            Status::Waiting | Status::Paused => self.stop_queued(gid, ending_by_status(status)),
-            stopped => return Err(QueueErr::WrongStatus(stopped)),
-        }
-        Ok(())
-    }
-
-    /// Removes a download: it stops as removed. WrongStatus comes where it has stopped.
-    pub fn remove(&mut self, gid: Gid) -> Result<(), QueueErr>
-        ensures answer { result ≡ queue_answer (refusal self.old (QueueCall.Remove gid)) tt }
-        ensures state { self.new ≡ after self.old (QueueCall.Remove gid) }
-    {
-        self.stop(gid, Status::Removed)
-    }
-
-    fn forget_stopped(&mut self, gid: Gid)
-        requires { stopped_place gid self.old.stopped < length self.old.stopped }
-        ensures { self.new ≡ moved_up (effect self.old (QueueCall.Forget gid)) }
-    {
-        let place = stopped_place(&self.stopped, gid);
-        self.stopped.remove(place);
-        move_up(self.limit, &mut self.active, &mut self.waiting);
-    }
-
-    /// Takes a stopped download out of the lists. WrongStatus comes where it hasn't stopped.
-    pub fn forget(&mut self, gid: Gid) -> Result<(), QueueErr>
-        ensures answer { result ≡ queue_answer (refusal self.old (QueueCall.Forget gid)) tt }
-        ensures state { self.new ≡ after self.old (QueueCall.Forget gid) }
-    {
-        match self.status(gid)? {
-            Status::Failed | Status::Complete | Status::Removed => self.forget_stopped(gid),
-            status => return Err(QueueErr::WrongStatus(status)),
-        }
-        Ok(())
-    }
-
-    /// Takes all stopped downloads out of the lists.
-    pub fn purge(&mut self)
-        ensures { self.new ≡ after self.old QueueCall.Purge }
-    {
-        self.stopped.clear();
-        move_up(self.limit, &mut self.active, &mut self.waiting);
-    }
-
-    fn move_queued(&mut self, gid: Gid, position: i64, how: How) -> u32
-        requires { queued_place gid self.old.waiting < length self.old.waiting }
-        ensures place { result ≡ target_of self.old.waiting gid position how }
-        ensures state { self.new ≡ moved_up (effect self.old (QueueCall.ChangePosition gid position how)) }
-    {
-        let place = queued_place(&self.waiting, gid);
-        let last = self.waiting.len() - 1;
-        let target = target(place, last, position, how);
-        let download = self.waiting[place];
-        self.waiting.remove(place);
-        insert(&mut self.waiting, target, download);
-        move_up(self.limit, &mut self.active, &mut self.waiting);
-        target as u32
-    }
-
-    /// Moves a waiting or paused download so far from the front, its own place or the last place, and answers its new place,
-    /// from 0. A place before the first is the first one, and one behind the last is the last one. WrongStatus comes in any
-    /// other status.
-    pub fn change_position(&mut self, gid: Gid, pos: i64, how: How) -> Result<u32, QueueErr>
-        ensures answer { result ≡ queue_answer
-            (refusal self.old (QueueCall.ChangePosition gid pos how))
-            (target_of self.old.waiting gid pos how) }
-        ensures state { self.new ≡ after self.old (QueueCall.ChangePosition gid pos how) }
-    {
-        match self.status(gid)? {
-            Status::Waiting | Status::Paused => Ok(self.move_queued(gid, pos, how)),
-            status => Err(QueueErr::WrongStatus(status)),
-        }
-    }
-
-    /// Adds a download to the waiting ones at the position, and at their end without one or beyond it. SameGid comes where the
-    /// gid was used before in this run, Full where as many downloads were added as may be.
-    pub fn add(
-        &mut self,
-        gid: Gid,
-        options: Options,
-        paused: bool,
-        position: Option<u32>,
-    ) -> Result<(), QueueErr>
-        ensures answer { MatchOption (refusal self.old (QueueCall.Add gid options paused position))
-            (IsOkUnless result NoMemory) (λ refused. result ≡ Err refused) }
-        ensures state { self.new ≡ (if is_ok result
-            then after self.old (QueueCall.Add gid options paused position) else self.old) }
-    {
-        if self.numbers.contains_key(&gid.0) {
-            return Err(QueueErr::SameGid);
-        }
-        let count = self.added.len();
-        if count >= MAX_DOWNLOADS {
-            return Err(QueueErr::Full {
-                count: count as u32,
-            });
-        }
-        reserve(&mut self.active, count)?;
-        reserve(&mut self.stopped, count)?;
-        reserve(&mut self.added, count)?;
-        reserve_deque(&mut self.waiting, count)?;
-        give_number(&mut self.numbers, gid, count)?;
-        self.added.push_reserved(Added { gid, options });
-        let last = self.waiting.len();
-        let place = position.map_or(last, |place| (place as usize).min(last));
-        insert(&mut self.waiting, place, Queued { gid, paused });
-        move_up(self.limit, &mut self.active, &mut self.waiting);
-        Ok(())
-    }
-
-    /// The one download whose gid begins with the key's digits. NotFound comes where none does, Ambiguous where several do.
-    pub fn find(&self, key: GidKey) -> Result<Gid, QueueErr>
-        ensures { Finds self.now key result }
-    {
-        let active = named_active(&self.active, key);
-        let queued = named_queued(&self.waiting, key);
-        let named = active.and(queued).and(named_stopped(&self.stopped, key));
-        match named.gid {
-            None => Err(QueueErr::NotFound),
-            Some(gid) if named.count == 1 => Ok(gid),
-            Some(_) => Err(QueueErr::Ambiguous {
-                count: named.count as u32,
-            }),
-        }
-    }
-
-    /// The number of a download in the order of adding, from 0.
-    pub fn number(&self, gid: Gid) -> Option<usize>
-        ensures { result ≡ number_in self.now.added gid }
-    {
-        self.numbers.get(&gid.0).copied()
+        let number = self.number(gid)?;
+        Some(number - 1)
     }
 
     /// The options of a download that was added in this run.
     pub fn options(&self, gid: Gid) -> Option<&Options>
         ensures { option_copied result ≡ options_in self.now.added gid }
     {
-        let number = *self.numbers.get(&gid.0)?;
-        match self.added.get(number) {
+        let number = self.number(gid)?;
+        match self.added.get(number - 1) {
             Some(download) => Some(&download.options),
             None => None,
         }
+    }
+
+    /// The downloads of the lists that a key names.
+    pub(crate) fn named(&self, key: GidKey) -> Named
+        ensures { AreNamedIn self.now key result }
+    {
+        let active = all_named(&self.added, self.active.iter(), key);
+        let queued = all_named(&self.added, self.waiting.iter(), key);
+        let stopped = all_named(&self.added, self.stopped.iter(), key);
+        active.and(queued).and(stopped)
+    }
+
+    /// The first waiting download that isn't paused.
+    pub(crate) fn next_up(&self) -> Option<Gid>
+        ensures { IsNextUp self.now result }
+    {
+        let number = self.ready.first()?;
+        Some(gid_of(&self.added, number))
+    }
+
+    /// The active download that became so last.
+    pub(crate) fn last_active(&self) -> Option<Gid>
+        ensures { IsLastActive self.now result }
+    {
+        let number = self.active.last()?;
+        Some(gid_of(&self.added, number))
+    }
+
+    /// The place of a waiting or paused download.
+    pub(crate) fn place(&self, gid: Gid) -> usize
+        requires known { was_added self.now.added gid ≡ true }
+        requires stands { stands_queued (status_of self.now gid) ≡ true }
+        ensures value { result ≡ queued_place gid self.now.waiting }
+        ensures within { result < length self.now.waiting }
+        ensures few { length self.now.waiting ≤ MAX_DOWNLOADS }
+    {
+        let number = self.number_of(gid);
+        self.waiting.place(number)
+    }
+
+    /// Whether a waiting or paused download is paused.
+    pub(crate) fn is_paused(&self, gid: Gid) -> bool
+        requires known { was_added self.now.added gid ≡ true }
+        requires stands { stands_queued (status_of self.now gid) ≡ true }
+        ensures value { result ≡ (queued_at gid self.now.waiting (queued_place gid self.now.waiting)).paused }
+        ensures within { queued_place gid self.now.waiting < length self.now.waiting }
+    {
+        let number = self.number_of(gid);
+        !is_ready(standing_of(&self.standings, number))
+    }
+
+    /// Whether the gid was used in this run.
+    pub(crate) fn was_added(&self, gid: Gid) -> bool
+        ensures { result ≡ was_added self.now.added gid }
+    {
+        self.number(gid).is_some()
+    }
+
+    /// How many downloads were added.
+    pub(crate) fn added_len(&self) -> usize
+        ensures value { result ≡ length self.now.added }
+        ensures few { length self.now.added ≤ MAX_DOWNLOADS }
+    {
+        self.added.len()
+    }
+
+    /// The gid of a number.
+    pub(crate) fn gid(&self, number: usize) -> Gid
+        requires counts { 0 < number }
+        requires within { number ≤ length self.now.added }
+        ensures { result ≡ gid_at self.now.added number }
+    {
+        gid_of(&self.added, number)
+    }
+
+    /// Changes how many downloads may be active.
+    pub(crate) fn put_limit(&mut self, limit: u16)
+        ensures { self.new ≡ record self.old { limit = limit } }
+    {
+        self.limit = limit;
+    }
+
+    /// Takes an active download out of its list.
+    pub(crate) fn leave_active(&mut self, gid: Gid)
+        requires known { was_added self.old.added gid ≡ true }
+        requires stands { status_of self.old gid ≡ Some Active }
+        ensures lists { self.new ≡ record self.old { active = remove self.old.active (active_place gid self.old.active) } }
+        ensures gone { status_of self.new gid ≡ None }
+    {
+        let number = self.number_of(gid);
+        self.active.remove(number);
+        self.active.numbers_differ();
+        self.standings[number - 1] = None;
+    }
+
+    /// Takes a waiting or paused download out of its list.
+    pub(crate) fn leave_waiting(&mut self, gid: Gid)
+        requires known { was_added self.old.added gid ≡ true }
+        requires stands { stands_queued (status_of self.old gid) ≡ true }
+        ensures lists { self.new ≡ record self.old { waiting = remove self.old.waiting (queued_place gid self.old.waiting) } }
+        ensures gone { status_of self.new gid ≡ None }
+    {
+        let number = self.number_of(gid);
+        let waits = is_ready(standing_of(&self.standings, number));
+        remove_if(&mut self.ready, number, waits);
+        self.waiting.remove(number);
+        self.waiting.numbers_differ();
+        self.standings[number - 1] = None;
+    }
+
+    /// Takes a stopped download out of its list.
+    pub(crate) fn leave_stopped(&mut self, gid: Gid)
+        requires known { was_added self.old.added gid ≡ true }
+        requires stands { stands_stopped (status_of self.old gid) ≡ true }
+        ensures lists { self.new ≡ record self.old { stopped = remove self.old.stopped (stopped_place gid self.old.stopped) } }
+        ensures gone { status_of self.new gid ≡ None }
+    {
+        let number = self.number_of(gid);
+        self.stopped.remove(number);
+        self.stopped.numbers_differ();
+        self.standings[number - 1] = None;
+    }
+
+    /// Puts a download that stands in no list to the end of the active ones.
+    pub(crate) fn enter_active(&mut self, gid: Gid)
+        requires known { was_added self.old.added gid ≡ true }
+        requires stands { status_of self.old gid ≡ None }
+        ensures { self.new ≡ record self.old { active = self.old.active ++ gid ∷ [] } }
+    {
+        let number = self.number_of(gid);
+        self.active.push_back(number);
+        self.active.numbers_differ();
+        self.standings[number - 1] = Some(Status::Active);
+    }
+
+    /// Puts a download that stands in no list to the end of the stopped ones.
+    pub(crate) fn enter_stopped(&mut self, gid: Gid, ending: Ending)
+        requires known { was_added self.old.added gid ≡ true }
+        requires stands { status_of self.old gid ≡ None }
+        ensures { self.new ≡ record self.old {
+            stopped = self.old.stopped ++ record { gid = gid; ending = ending } ∷ [] } }
+    {
+        let number = self.number_of(gid);
+        self.stopped.push_back(number);
+        self.stopped.numbers_differ();
+        self.standings[number - 1] = Some(status_by_ending(ending));
+    }
+
+    /// Puts a download that stands in no list to a place among the waiting ones.
+    pub(crate) fn enter_waiting(&mut self, gid: Gid, place: usize, paused: bool)
+        requires known { was_added self.old.added gid ≡ true }
+        requires stands { status_of self.old gid ≡ None }
+        requires place { place ≤ length self.old.waiting }
+        ensures { self.new ≡ record self.old {
+            waiting = insert self.old.waiting place record { gid = gid; paused = paused } } }
+    {
+        let number = self.number_of(gid);
+        self.waiting.insert(place, number);
+        self.waiting.numbers_differ();
+        if paused {
+            self.standings[number - 1] = Some(Status::Paused);
+            return;
+        }
+        let other = if place == 0 {
+            self.ready.first().unwrap_or(0)
+        } else {
+            first_ready(&self.standings, self.waiting.iter_behind(number))
+        };
+        self.ready.insert_before(other, number);
+        self.standings[number - 1] = Some(Status::Waiting);
+    }
+
+    /// Pauses a waiting download in its place.
+    pub(crate) fn mark_paused(&mut self, gid: Gid)
+        requires known { was_added self.old.added gid ≡ true }
+        requires stands { status_of self.old gid ≡ Some Waiting }
+        ensures { self.new ≡ record self.old { waiting = with_pause true gid self.old.waiting } }
+    {
+        let number = self.number_of(gid);
+        self.ready.remove(number);
+        self.standings[number - 1] = Some(Status::Paused);
+    }
+
+    /// Pauses all waiting downloads in their places.
+    pub(crate) fn pause_queued(&mut self)
+        ensures { self.new ≡ record self.old { waiting = map (as_paused true) self.old.waiting } }
+    {
+        mark_all(&mut self.standings, self.waiting.iter(), Some(Status::Paused));
+        self.ready.clear();
+    }
+
+    /// Lets all paused downloads wait again in their places.
+    pub(crate) fn unpause_queued(&mut self)
+        ensures { self.new ≡ record self.old { waiting = map (as_paused false) self.old.waiting } }
+    {
+        mark_all(&mut self.standings, self.waiting.iter(), Some(Status::Waiting));
+        self.ready.clear();
+        fill(&mut self.ready, self.waiting.iter());
+    }
+
+    /// Takes all stopped downloads out of their list.
+    pub(crate) fn drop_stopped(&mut self)
+        ensures { self.new ≡ record self.old { stopped = [] } }
+    {
+        mark_all(&mut self.standings, self.stopped.iter(), None);
+        self.stopped.clear();
+        self.stopped.numbers_differ();
+    }
+
+    /// Adds a download that stands in no list yet.
+    pub(crate) fn register(&mut self, gid: Gid, options: Options) -> Result<(), AllocError>
+        requires fresh { was_added self.old.added gid ≡ false }
+        requires room { length self.old.added < MAX_DOWNLOADS }
+        ensures state { self.new ≡ (if is_ok result
+            then record self.old { added = self.old.added ++ record { gid = gid; options = options } ∷ [] } else self.old) }
+        ensures known { OnOk result (was_added self.new.added gid ≡ true) }
+        ensures stands { OnOk result (status_of self.new gid ≡ None) }
+    {
+        let count = self.added.len();
+        reserve_lists(
+            &mut self.active,
+            &mut self.waiting,
+            &mut self.ready,
+            &mut self.stopped,
+            count + 2,
+        )?;
+        self.added.reserve(1)?;
+        self.standings.reserve(1)?;
+        give_number(&mut self.numbers, gid, count + 1)?;
+        self.added.push_reserved(Added { gid, options });
+        self.standings.push_reserved(None);
+        Ok(())
     }
 }

@@ -1,34 +1,36 @@
 // Room for one download more.
-ghost use Rattle.std.specs.Prelude.{◌≡◌, ◌==◌, ◌≤◌, ◌<◌, ◌+◌, ℕ, length, OnOk, OnErr, Some, vec_capacity, if◌then◌else◌};
+ghost use Rattle.std.specs.Prelude.{◌≡◌, ◌==◌, ◌≤◌, ℕ, OnOk, OnErr, Some, if◌then◌else◌};
 ghost use Rattle.std.specs.Ordering.{nat_cmp};
 ghost use Rattle.std.specs.BTreeMap.{get};
-ghost use Rattle.std.specs.VecDeque.{deque_capacity};
+ghost use Rattle.number_list.specs.Order.{NumberOrder};
+ghost use Rattle.dl_queue.specs.Held.{IsWider};
 
-use crate::{MAX_DOWNLOADS, Queued};
 use dl_kinds::Gid;
+use number_list::NumberList;
 use std::alloc::AllocError;
-use std::collections::{BTreeMap, VecDeque};
+use std::collections::BTreeMap;
 
-/// Makes room for one more than `count` elements in all.
-pub fn reserve<T>(list: &mut Vec<T>, count: usize) -> Result<(), AllocError>
-    requires few { count < MAX_DOWNLOADS }
-    requires within { length list.old.items ≤ count }
-    ensures items { list.new.items ≡ list.old.items }
-    ensures room { vec_capacity list.old ≤ vec_capacity list.new }
-    ensures ok { OnOk result (count + 1 ≤ vec_capacity list.new) }
+/// Raises the bounds of the lists.
+pub fn reserve_lists(
+    active: &mut NumberList,
+    waiting: &mut NumberList,
+    ready: &mut NumberList,
+    stopped: &mut NumberList,
+    bound: usize,
+) -> Result<(), AllocError>
+    ensures active { IsWider active.old active.new }
+    ensures waiting { IsWider waiting.old waiting.new }
+    ensures ready { IsWider ready.old ready.new }
+    ensures stopped { IsWider stopped.old stopped.new }
+    ensures active_ok { OnOk result (bound ≤ active.new.bound) }
+    ensures waiting_ok { OnOk result (bound ≤ waiting.new.bound) }
+    ensures ready_ok { OnOk result (bound ≤ ready.new.bound) }
+    ensures stopped_ok { OnOk result (bound ≤ stopped.new.bound) }
 {
-    list.reserve(count + 1 - list.len())
-}
-
-/// Makes room for one more than `count` waiting downloads in all.
-pub fn reserve_deque(list: &mut VecDeque<Queued>, count: usize) -> Result<(), AllocError>
-    requires few { count < MAX_DOWNLOADS }
-    requires within { length list.old.items ≤ count }
-    ensures items { list.new.items ≡ list.old.items }
-    ensures room { deque_capacity list.old ≤ deque_capacity list.new }
-    ensures ok { OnOk result (count + 1 ≤ deque_capacity list.new) }
-{
-    list.reserve(count + 1 - list.len())
+    active.reserve(bound)?;
+    waiting.reserve(bound)?;
+    ready.reserve(bound)?;
+    stopped.reserve(bound)
 }
 
 /// Gives a gid its number.

@@ -9,7 +9,7 @@ use Rattle.std.proofs.lemmas.Option.{cond_some, same_Some, slice_get_past, slice
 use Rattle.dl_kinds.specs.declared.claims.Claim.{Claim}
 use Rattle.dl_kinds.specs.declared.gid.Gid.{Gid}
 use Rattle.dl_queue.specs.Calls.{added_place}
-use Rattle.dl_queue.specs.Room.{number_in}
+use Rattle.dl_queue.specs.Calls.{adding_place}
 use Rattle.dl_queue.specs.declared.kinds.Added.{Added}
 use Rattle.dl_history.specs.OwnEvents.{OwnEvent}
 use Rattle.dl_history.specs.StandingClaims.{granted_claims, is_standing, standing_claims}
@@ -40,7 +40,7 @@ length_added [] = refl
 length_added (d ∷ ds) = rw (length_added ds) refl
 
 pub place_found : (gid : Gid) (ds : List Download) (added : List Added) (n : ℕ) → added ≡ map added_as ds
-    → number_in added gid ≡ Some n → (d : Download) × (slice_get ds n ≡ Some d) × (d.gid ≡ gid)
+    → adding_place added gid ≡ Some n → (d : Download) × (slice_get ds n ≡ Some d) × (d.gid ≡ gid)
 place_found gid ds added n added_is number =
     let parts = cond_some _ _ n number in
     let same : added_place gid added ≡ position_or_len (is_download gid) ds =
@@ -58,7 +58,7 @@ not_added true n is = absurd cc
 not_added false n is = refl
 
 pub place_none : (gid : Gid) (ds : List Download) (added : List Added) → added ≡ map added_as ds
-    → number_in added gid ≡ None → download_of ds gid ≡ None
+    → adding_place added gid ≡ None → download_of ds gid ≡ None
 place_none gid ds added added_is number =
     let none = not_added _ _ number in
     let same : added_place gid added ≡ position_or_len (is_download gid) ds =

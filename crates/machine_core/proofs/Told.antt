@@ -8,7 +8,7 @@ use Rattle.dl_kinds.specs.declared.gid.Gid.{Gid}
 use Rattle.dl_kinds.specs.declared.marks.Mark.{Mark}
 use Rattle.dl_kinds.specs.declared.runs.Moment.{Moment}
 use Rattle.dl_kinds.specs.declared.runs.Run.{Run}
-use Rattle.dl_queue.specs.Room.{number_in}
+use Rattle.dl_queue.specs.Calls.{adding_place}
 use Rattle.dl_history.specs.OwnEvents.{Lands, Loses, Sizes}
 use Rattle.machine_core.specs.MachineParts.{KeepsRun, MachineState}
 use Rattle.machine_core.specs.MachineViews.{IsLandingOf, IsLossOfClaim, IsNext, IsPlaceOf, IsSizingBy, MachineView, StandsNowhere, StandsUnder, standing_in}
@@ -27,7 +27,7 @@ view_of past s spare marks = record { start = s.start; past = past; spare = spar
 -- ---- places
 
 pub told_found : (past : List Event) (s : MachineState) (spare : ℕ) (marks : List ℕ) (gid : Gid) (o : Option ℕ)
-    → KeepsRun past s → o ≡ number_in s.queue.added gid → IfSome o (IsPlaceOf (view_of past s spare marks) gid)
+    → KeepsRun past s → o ≡ adding_place s.queue.added gid → IfSome o (IsPlaceOf (view_of past s spare marks) gid)
 told_found past s spare marks gid None k is = tt
 told_found past s spare marks gid (Some n) k is =
     let f = place_found gid (replay_of s.start past).downloads s.queue.added n
@@ -35,7 +35,7 @@ told_found past s spare marks gid (Some n) k is =
     record { download = f.0; added = f.1; gid_is = f.2 }
 
 pub told_none : (past : List Event) (s : MachineState) (gid : Gid) (o : Option ℕ)
-    → KeepsRun past s → o ≡ number_in s.queue.added gid → IfNone o (download_in s.start past gid ≡ None)
+    → KeepsRun past s → o ≡ adding_place s.queue.added gid → IfNone o (download_in s.start past gid ≡ None)
 told_none past s gid None k is =
     place_none gid (replay_of s.start past).downloads s.queue.added
     (ap (λ q. q.added) k.queue.queue_is ∙ k.queue.added) (sym is)

@@ -121,7 +121,7 @@ impl Machine {
         ensures found { IfSome result (λ place. IsPlaceOf self.now gid place) }
         ensures none { IfNone result (download_in self.now.start self.now.past gid ≡ None) }
     {
-        self.queue.number(gid)
+        self.queue.adding_place(gid)
     }
 
     /// The claim that stands under a number, and its download.

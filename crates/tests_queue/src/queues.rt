@@ -22,38 +22,38 @@ fn one_download_at_a_time(rt: HostRuntime) -> Result<(), Fail> {
         queue.add(A, Options::new(alloc)?, false, None),
         Err(QueueErr::SameGid)
     );
-    assert_eq!(rt; queue.active(), [A].as_slice());
+    assert!(rt; queue.active().eq([A]));
     assert_eq!(rt; queue.pause(A), Ok(()));
-    assert_eq!(rt; queue.active(), [B].as_slice());
+    assert!(rt; queue.active().eq([B]));
     assert_eq!(rt;
-        queue.waiting().get(0).map(|download| download.gid),
+        queue.waiting().nth(0).map(|download| download.gid),
         Some(A)
     );
     assert_eq!(rt;
-        queue.waiting().get(1).map(|download| download.gid),
+        queue.waiting().nth(1).map(|download| download.gid),
         Some(C)
     );
     assert_eq!(rt; queue.pause(A), Err(QueueErr::WrongStatus(Status::Paused)));
     assert_eq!(rt; queue.unpause(A), Ok(()));
     assert_eq!(rt; queue.change_position(A, 1, How::Cur), Ok(1));
     assert_eq!(rt;
-        queue.waiting().get(0).map(|download| download.gid),
+        queue.waiting().nth(0).map(|download| download.gid),
         Some(C)
     );
     assert_eq!(rt; queue.change_position(A, -9, How::End), Ok(0));
     assert_eq!(rt; queue.stop(B, Status::Complete), Ok(()));
-    assert_eq!(rt; queue.active(), [A].as_slice());
+    assert!(rt; queue.active().eq([A]));
     assert_eq!(rt; queue.status(B), Ok(Status::Complete));
     assert_eq!(rt; queue.forget(B), Ok(()));
     assert_eq!(rt; queue.status(B), Err(QueueErr::NotFound));
     queue.pause_all();
-    assert_eq!(rt; queue.active(), [].as_slice());
+    assert_eq!(rt; queue.active_len(), 0);
     queue.set_limit(2);
     queue.unpause_all();
-    assert_eq!(rt; queue.active(), [A, C].as_slice());
+    assert!(rt; queue.active().eq([A, C]));
     assert_eq!(rt; queue.remove(C), Ok(()));
     queue.purge();
-    assert!(rt; queue.stopped().is_empty());
+    assert_eq!(rt; queue.stopped_len(), 0);
     Ok(())
 }
 
@@ -132,7 +132,7 @@ fn many_downloads_are_added_paused_and_stopped(rt: HostRuntime) -> Result<(), Fa
     for number in 32_769..65_537u64 {
         assert_eq!(rt; queue.stop(Gid(number), Status::Complete), Ok(()));
     }
-    assert_eq!(rt; queue.waiting().len(), 32_768);
-    assert_eq!(rt; queue.stopped().len(), 32_768);
+    assert_eq!(rt; queue.waiting_len(), 32_768);
+    assert_eq!(rt; queue.stopped_len(), 32_768);
     Ok(())
 }

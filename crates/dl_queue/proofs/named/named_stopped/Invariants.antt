@@ -1,6 +1,0 @@
-use Rattle.dl_queue.specs.Named.{id_of_stopped}
-use Rattle.dl_queue.proofs.Names.{SoFar}
-use Rattle.dl_queue.proofs.named.named_stopped.Given as goal
-
-abbrev pub invariant-loop-download : goal.invariant-loop-download
-invariant-loop-download l = SoFar id_of_stopped l.stopped l.key l.named l.download-index

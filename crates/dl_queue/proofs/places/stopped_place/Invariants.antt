@@ -1,8 +1,0 @@
-use Rattle.std.proofs.Common.{◌≡◌, ℕ, ◌<◌, false, get_or}
-use Rattle.dl_queue.specs.Places.{is_stopped}
-use Rattle.dl_queue.proofs.Defaults.{any_is_stopped}
-use Rattle.dl_queue.proofs.places.stopped_place.Given as goal
-
--- it stands at none of the places so far
-abbrev pub invariant-loop-place : goal.invariant-loop-place
-invariant-loop-place l = (k : ℕ) → k < l.place → is_stopped l.gid (get_or l.stopped k any_is_stopped) ≡ false
