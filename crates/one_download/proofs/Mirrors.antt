@@ -138,7 +138,12 @@ of_check mirrors k right of = record { saved = of.saved; claims = of.claims; giv
 
 pub of_grant : (mirrors : ℕ) (k : Account) (claim : Claim) → IsOfMirrors mirrors k → claim.mirror < mirrors
     → IsOfMirrors mirrors (with_claim k claim)
-of_grant mirrors k claim of known = record { saved = of.saved; claims = All-cons (λ (c : Claim). c.mirror < mirrors) claim k.standing known of.claims; givers = of.givers }
+of_grant mirrors k claim of known =
+    record {
+      saved = of.saved;
+      claims = All-cons (λ (c : Claim). c.mirror < mirrors) claim k.standing known of.claims;
+      givers = of.givers;
+    }
 
 pub of_opening : (mirrors total len : ℕ) (k : Account) (verified blocks : List Bool) (now : Moment) → k.standing ≡ []
     → IsOfMirrors mirrors (at_opening total len k verified blocks now)

@@ -13,7 +13,8 @@ pub piece_of-requires : goal.piece_of-requires
 piece_of-requires c =
     let book = c.args.claims.now in
     let place = c.standing-count.result - 1 - c.loop-done.done in
-    let here : place < length book.standing = let t = c.loop-done-test.true in let l = c.standing-count.ensures.len in omega arith in
+    let here : place < length book.standing =
+    let t = c.loop-done-test.true in let l = c.standing-count.ensures.len in omega arith in
     let one = some_at book.standing place here in
     let first : FirstBlock c.args.table.now.landed (blocks_of book.total book.piece_len) c.in-Some.block =
     first_block book.piece_len c.args.table.now.landed book.closed book.standing place
@@ -28,7 +29,8 @@ end_sole-requires-clause-piece c =
     let table = c.args.table.now in
     let b = c.in-Some.block in
     let place = c.standing-count.result - 1 - c.loop-done.done in
-    let here : place < length book.standing = let t = c.loop-done-test.true in let l = c.standing-count.ensures.len in omega arith in
+    let here : place < length book.standing =
+    let t = c.loop-done-test.true in let l = c.standing-count.ensures.len in omega arith in
     let one = some_at book.standing place here in
     let first : FirstBlock table.landed (blocks_of book.total book.piece_len) b =
     first_block book.piece_len table.landed book.closed book.standing place

@@ -34,7 +34,8 @@ returns-then-get-is_listed c =
       λ e. absurd cc,
       λ same.
           absurd (differs (lists_block p) (length p.landed) b c.args.row.now within
-          (λ e. apart c.get.result c.is_listed.result c.if-get-is_listed.true (sym (get_or_from_slice_get c.args.row.now b c.get.result false c.get.ensures) ∙ e
+          (λ e. apart c.get.result c.is_listed.result c.if-get-is_listed.true
+          (sym (get_or_from_slice_get c.args.row.now b c.get.result false c.get.ensures) ∙ e
           ∙ sym (listed_value p b c.is_listed.result c.is_listed.ensures c.blocks-2.ensures.valid below known)))
           same),
     )

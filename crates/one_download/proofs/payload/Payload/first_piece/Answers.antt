@@ -15,7 +15,8 @@ returns-in-Some c =
     let f = c.self.invariant in
     let b = c.in-Some.block in
     let len : p.claims.piece_len ≡ p.table.piece_len = f.claims_len ∙ sym f.piece_len in
-    let found : c.first_open.result ≡ option_and_then (first_still_open (account_by p)) (standing_under (account_by p) c.args.id) =
+    let found : c.first_open.result
+    ≡ option_and_then (first_still_open (account_by p)) (standing_under (account_by p) c.args.id) =
     c.first_open.ensures
     ∙ ap (λ n. option_and_then (first_open_in n p.table.landed p.claims.closed) (claim_under p.claims c.args.id)) len in
     subst (λ (v : PayloadView). IsFirstPiece v.account c.args.id (b / c.div_ceil.result)) c.self.view_is
@@ -27,7 +28,8 @@ returns-in-None c =
     let p = c.self.inside in
     let f = c.self.invariant in
     let len : p.claims.piece_len ≡ p.table.piece_len = f.claims_len ∙ sym f.piece_len in
-    let found : c.first_open.result ≡ option_and_then (first_still_open (account_by p)) (standing_under (account_by p) c.args.id) =
+    let found : c.first_open.result
+    ≡ option_and_then (first_still_open (account_by p)) (standing_under (account_by p) c.args.id) =
     c.first_open.ensures
     ∙ ap (λ n. option_and_then (first_open_in n p.table.landed p.claims.closed) (claim_under p.claims c.args.id)) len in
     subst (λ (v : PayloadView). IsFirstPiece v.account c.args.id 0) c.self.view_is
