@@ -26,7 +26,7 @@ use Rattle.one_download.specs.DownloadLaws.{AccountsTellOpening}
 use Rattle.one_download.specs.DownloadViews.{DownloadView, IsFullUnverified, IsOpenAt, IsUnverified, MayBlame, StaysSetUp, StaysUnmarked, is_opened_by, marks_after, standing_under}
 use Rattle.piece_table.specs.declared.giver.Giver.{Giver}
 use Rattle.machine_core.specs.MachineParts.{AreHalted, IsHalted, KeepsRun, MachineState, kept_room, subject_of_event}
-use Rattle.machine_core.specs.MachineViews.{IsPlaceOf, MachineView, IsFirstOpen, StandsNowhere, StandsSomewhere, StandsUnder, account_in, is_added_in, standing_in}
+use Rattle.machine_core.specs.MachineViews.{IsPlaceOf, MachineView, IsFirstOpen, StandsNowhere, StandsSomewhere, StandsUnder, account_of_gid, is_added_in, standing_in}
 use Rattle.machine_core.specs.OwnParts.{own_of}
 use Rattle.machine_core.specs.Replays.{replay_of, stop_of}
 use Rattle.machine_core.specs.RunLegal.{IsLaterThan, doors_left, is_left, is_stop, MayBeChecked, MayBeCleared, MayBeSettled, MayFollow, MayOwn, download_in, known_lengths, mirrors_by}
@@ -541,11 +541,11 @@ first_here laws tells s v id gid claim at x block seen h stands is =
     }
 
 pub account_here : (s : MachineState) (v : MachineView) (gid : Gid) (at : ℕ) (x : Entry) → Seen s v → Here s gid at x
-    → x.state.account ≡ account_in v gid
+    → x.state.account ≡ account_of_gid v gid
 account_here s v gid at x seen h =
     let kept = seen.keeps.downloads.each at h.download x h.is.added h.is.there in
-    subst (λ (w : MachineView). x.state.account ≡ account_in w gid) seen.view_is
-    (subst (λ (g : Gid). x.state.account ≡ account_in (view_of s) g) h.is.gid_is kept.account)
+    subst (λ (w : MachineView). x.state.account ≡ account_of_gid w gid) seen.view_is
+    (subst (λ (g : Gid). x.state.account ≡ account_of_gid (view_of s) g) h.is.gid_is kept.account)
 
 pub opened_here : Laws → AccountsTellOpening → (s : MachineState) (v : MachineView) (gid : Gid) (at : ℕ) (x : Entry)
     → Seen s v → Here s gid at x → is_opened_by x.state.account ≡ is_opened (own_of v.start v.past gid)

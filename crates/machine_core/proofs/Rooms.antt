@@ -13,7 +13,7 @@ use Rattle.one_download.specs.DownloadViews.{DownloadView}
 use Rattle.option_set.specs.Values.{OptionValues}
 use Rattle.piece_table.specs.declared.giver.Giver.{Giver}
 use Rattle.machine_core.specs.Choices.{options_now}
-use Rattle.machine_core.specs.MachineParts.{AreApart, KeepsRun, MachineState}
+use Rattle.machine_core.specs.MachineParts.{HaveOwnGids, KeepsRun, MachineState}
 use Rattle.machine_core.specs.MachineViews.{Appends, IsFindingOf, IsNext, MachineView, StandsUnder, UsesMarkRoomAt, UsesMarkRoomOf, mark_spare_in, place_in}
 use Rattle.machine_core.specs.Replays.{is_download, replay_of}
 use Rattle.machine_core.specs.RunLegal.{MayFollow, download_in}
@@ -27,14 +27,14 @@ use Rattle.machine_core.proofs.Parts.{gid_is}
 
 -- ---- the place of a gid
 
-one_download : (ds : List Download) (gid : Gid) (at : ℕ) (d y : Download) → AreApart ds → slice_get ds at ≡ Some d
+one_download : (ds : List Download) (gid : Gid) (at : ℕ) (d y : Download) → HaveOwnGids ds → slice_get ds at ≡ Some d
     → d.gid ≡ gid → Contains ds y → is_download gid y ≡ true → y ≡ d
 one_download ds gid at d y apart there d_is has passes =
     let y_there : slice_get ds has.0 ≡ Some y = slice_get_read ds (length ds) has.0 y refl has.1 (sym has.2) in
     let same : has.0 ≡ at = apart has.0 at y d y_there there (gid_is gid y.gid passes ∙ sym d_is) in
     same_Some y d (sym y_there ∙ (ap (slice_get ds) same ∙ there))
 
-place_is : (ds : List Download) (gid : Gid) (at : ℕ) (d : Download) → AreApart ds → slice_get ds at ≡ Some d
+place_is : (ds : List Download) (gid : Gid) (at : ℕ) (d : Download) → HaveOwnGids ds → slice_get ds at ≡ Some d
     → d.gid ≡ gid → position_or_len (is_download gid) ds ≡ at
 place_is ds gid at d apart there d_is =
     let has : Contains ds d =

@@ -20,7 +20,7 @@ use Rattle.machine_core.specs.OwnParts.{PayloadLengths, own_of, with_own}
 use Rattle.machine_core.specs.Replays.{Replay, download_of, replay_of, is_same_gid}
 use Rattle.machine_core.specs.RunLegal.{MayFollow, download_in, known_lengths, mirrors_by, tries_in}
 use Rattle.machine_core.specs.Starts.{RunStart, Download}
-use Rattle.machine_core.specs.MachineParts.{KeepsDownload, KeepsDownloads, KeepsQueue, KeepsHomes, KeepsEnds, KeepsRun, MachineState, AreApart, AreAddedAt, kept_room, subject_of_event}
+use Rattle.machine_core.specs.MachineParts.{KeepsDownload, KeepsDownloads, KeepsQueue, KeepsHomes, KeepsEnds, KeepsRun, MachineState, HaveOwnGids, AreAddedAt, kept_room, subject_of_event}
 use Rattle.machine_core.specs.declared.entries.Entry.{Entry}
 use Rattle.machine_core.specs.declared.events.Event.{Event}
 use Rattle.machine_core.proofs.Lists.{slice_get-set_same, slice_get-set_other, read-more}
@@ -112,7 +112,7 @@ lengths_of start past e g downloads told =
 -- the event leaves what is kept of every other download, and what is kept of its own one is given
 pub set_one : (start : RunStart) (past : List Event) (e : Event) (gid : Gid) (o : OwnEvent) (entries : List Entry)
     (at : ℕ) (d : Download) (x x' : Entry)
-    → KeepsDownloads start past entries → AreApart (replay_of start past).downloads
+    → KeepsDownloads start past entries → HaveOwnGids (replay_of start past).downloads
     → IsAt start past entries gid at d x → Concerns start past e gid o
     → KeepsDownload (own_of start (e ∷ past) d.gid) (known_lengths start (e ∷ past) d.gid)
     (options_now start (e ∷ past) d) d x'
@@ -226,7 +226,7 @@ run_step past s e gid o at d x v queue room k here c granted queues ends may new
       legal = (k.legal, may);
       queue = queues;
       downloads = set_one s.start past e gid o s.entries at d x (record x { state = v }) k.downloads k.apart here c new;
-      apart = subst (λ (ds : List Download). AreApart ds) (sym c.downloads) k.apart;
+      apart = subst (λ (ds : List Download). HaveOwnGids ds) (sym c.downloads) k.apart;
       called = subst
           (λ (ds : List Download). AreAddedAt (s.events ++ e ∷ []) ds (set s.entries at (record x { state = v })))
           (sym c.downloads)

@@ -60,8 +60,8 @@ pub record KeepsDownloads (start : RunStart) (past : List Event) (entries : List
       (options_now start past download) download entry
 
 -- no two have one gid
-abbrev pub AreApart : List Download → Type 0
-AreApart downloads =
+abbrev pub HaveOwnGids : List Download → Type 0
+HaveOwnGids downloads =
     (i j : ℕ) (one other : Download) → slice_get downloads i ≡ Some one → slice_get downloads j ≡ Some other
     → one.gid ≡ other.gid → i ≡ j
 
@@ -120,7 +120,7 @@ pub record KeepsRun (past : List Event) (s : MachineState) : Type 0 where
   pub legal : IsLegal s.start past
   pub queue : KeepsQueue (replay_of s.start past) s.queue s.global s.shut
   pub downloads : KeepsDownloads s.start past s.entries
-  pub apart : AreApart (replay_of s.start past).downloads
+  pub apart : HaveOwnGids (replay_of s.start past).downloads
   pub called : AreAddedAt s.events (replay_of s.start past).downloads s.entries
   pub homes : KeepsHomes s.start past s.homes
   pub ends : KeepsEnds past s.left s.stopped

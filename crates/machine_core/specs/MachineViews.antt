@@ -113,8 +113,8 @@ pub record IsFirstOpen (m : MachineView) (id : ℕ) (block : Option ℕ) : Type 
 -- ---- what is kept of a download
 
 -- its account, by its events
-abbrev pub account_in : MachineView → Gid → Account
-account_in m gid =
+abbrev pub account_of_gid : MachineView → Gid → Account
+account_of_gid m gid =
     account_of (known_lengths m.start m.past gid).total (known_lengths m.start m.past gid).piece_len
     (own_of m.start m.past gid)
 

@@ -6,7 +6,7 @@ ghost use Rattle.machine_core.specs.Choices.{options_now};
 ghost use Rattle.dl_queue.specs.Places.{status_of};
 ghost use Rattle.machine_core.specs.Replays.{queue_in};
 ghost use Rattle.machine_core.specs.OwnParts.{own_of};
-ghost use Rattle.machine_core.specs.MachineViews.{Appends, HasMarkRoomAt, IsFindingOf, IsLandingOf, IsLossOfClaim, IsNext, IsPlaceOf, IsSizingBy, StandsNowhere, StandsSomewhere, StandsUnder, IsFirstOpen, account_in, is_added_in, UsesMarkRoomAt, UsesMarkRoomOf, UsesRoom, mark_spare_in};
+ghost use Rattle.machine_core.specs.MachineViews.{Appends, HasMarkRoomAt, IsFindingOf, IsLandingOf, IsLossOfClaim, IsNext, IsPlaceOf, IsSizingBy, StandsNowhere, StandsSomewhere, StandsUnder, IsFirstOpen, account_of_gid, is_added_in, UsesMarkRoomAt, UsesMarkRoomOf, UsesRoom, mark_spare_in};
 ghost use Rattle.machine_core.specs.RunLegal.{IsLegal, MayFollow, doors_left, download_in};
 ghost use Rattle.machine_core.specs.declared.events.Event.TheVariants as event;
 
@@ -354,7 +354,7 @@ impl Machine {
 
     /// What a download has of its payload, once it is opened.
     pub fn table(&self, gid: Gid) -> Option<&Table>
-        ensures some { IfSome result (λ table. table.now ≡ (account_in self.now gid).progress) }
+        ensures some { IfSome result (λ table. table.now ≡ (account_of_gid self.now gid).progress) }
         ensures opened { IfSome result (λ _. is_opened (own_of self.now.start self.now.past gid) ≡ true) }
         ensures none { is_added_in self.now gid ≡ true
             → IfNone result (is_opened (own_of self.now.start self.now.past gid) ≡ false) }
@@ -378,7 +378,7 @@ impl Machine {
 
     /// The moment of the last save of a download, or of its opening where there is none.
     pub fn saved_at(&self, gid: Gid) -> Option<Moment>
-        ensures { is_added_in self.now gid ≡ true → result ≡ (account_in self.now gid).saved }
+        ensures { is_added_in self.now gid ≡ true → result ≡ (account_of_gid self.now gid).saved }
     {
         let place = self.place(gid)?;
         self.entries[place].state.saved_at()

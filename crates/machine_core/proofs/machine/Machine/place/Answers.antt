@@ -8,10 +8,10 @@ use Rattle.machine_core.proofs.machine.Machine.place.Goals as goal
 
 pub returns-clause-found : goal.returns-clause-found
 returns-clause-found c =
-    subst (λ (v : MachineView). IfSome c.number.result (IsPlaceOf v c.args.gid)) c.self.view_is
-    (told_found _ _ _ _ c.args.gid c.number.result c.self.invariant c.number.ensures)
+    subst (λ (v : MachineView). IfSome c.adding_place.result (IsPlaceOf v c.args.gid)) c.self.view_is
+    (told_found _ _ _ _ c.args.gid c.adding_place.result c.self.invariant c.adding_place.ensures)
 
 pub returns-clause-none : goal.returns-clause-none
 returns-clause-none c =
-    subst (λ (v : MachineView). IfNone c.number.result (download_in v.start v.past c.args.gid ≡ None)) c.self.view_is
-    (told_none _ _ c.args.gid c.number.result c.self.invariant c.number.ensures)
+    subst (λ (v : MachineView). IfNone c.adding_place.result (download_in v.start v.past c.args.gid ≡ None)) c.self.view_is
+    (told_none _ _ c.args.gid c.adding_place.result c.self.invariant c.adding_place.ensures)
