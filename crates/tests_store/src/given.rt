@@ -1,4 +1,6 @@
 // What stands on a disk gives of a want, found slowly, piece by piece and block by block, as the definitions have it.
+ghost use Rattle.std.specs.Prelude.{◌<◌};
+
 use control_file::{Control, Want};
 use dl_disk::MemDisk;
 use sha1::Sha1;
@@ -133,7 +135,9 @@ fn push_blocks(
     payload: &[Option<u8>],
     piece: u32,
     text: &mut String,
-) -> Result<(), Fail> {
+) -> Result<(), Fail>
+    requires { piece < want.now.plan.pieces }
+{
     let whole = gives_piece(alloc, want, found, payload, piece)?;
     let run = want.plan.piece_run(piece);
     for place in 0..run.count {

@@ -66,7 +66,10 @@ fn layout_of(alloc: Global, text: &str) -> Result<Layout, Fail> {
 fn digests_of(alloc: Global, payload: &[u8], piece_len: u32) -> Result<Digests, Fail> {
     let mut digests = Digests::new(alloc);
     let mut rest = payload;
-    while !rest.is_empty() {
+    for _ in 0..payload.len() {
+        if rest.is_empty() {
+            break;
+        }
         let (piece, behind) = rest.split_at((piece_len as usize).max(1).min(rest.len()));
         digests.push(Sha1::digest(piece))?;
         rest = behind;
