@@ -1,16 +1,16 @@
 -- What taking a number out and putting one in does to the links.
-use Rattle.std.proofs.Common.{◌≡◌, ◌≢◌, ◌<◌, ◌≤◌, ◌+◌, ◌-◌, ◌==◌, ◌||◌, ◌&&◌, not, ℕ, zero, suc, Bool, true, false, List, Option, Some, [], ◌∷◌, ◌++◌, length, get_or, refl, sym, ◌∙◌, ap, subst, arith, get_or-set_other, get_or-set_same, eq-eqb, true≢false, append_assoc, append-nil, length-append}
+use Rattle.std.proofs.Common.{◌≡◌, ◌≢◌, ◌<◌, ◌≤◌, ◌+◌, ◌-◌, ◌==◌, ◌||◌, ◌&&◌, not, ℕ, zero, suc, Bool, true, false, List, Some, [], ◌∷◌, ◌++◌, length, get_or, refl, sym, ◌∙◌, ap, subst, arith, get_or-set_same, eq-eqb, true≢false, append_assoc, append-nil, length-append}
 use Rattle.std.proofs.Math.ListN.{set, length-set}
 use borrow.Author.Tests.{eqb-true}
-use Rattle.std.proofs.lemmas.Bool.{eqb-false, ne_eqb}
+use Rattle.std.proofs.lemmas.Bool.{ne_eqb}
 use Rattle.std.specs.Prelude.{insert, remove, slice_get}
-use Rattle.std.specs.List.{IsDistinct, AllByRecursion, list_any}
+use Rattle.std.specs.List.{IsDistinct, AllByRecursion}
 use Rattle.std.proofs.lemmas.Map.Steps.{length-le_from_distinct_below}
 use Rattle.std.proofs.lemmas.List.{get_or_default}
 use Rattle.number_list.specs.Order.{NumberOrder, lists_number, number_place, is_listed_or_end, NoneTwice}
 use Rattle.number_list.specs.Links.{IsPath, AreLinked, walk}
 use Rattle.number_list.proofs.Paths.{neither, either_right, either_left, differs, path_front, path_back, path_join, last_listed, keeps_next, keeps_previous, led_to, walked, walk_len}
-use Rattle.number_list.proofs.Cuts.{Cut, cut, place_behind, place_there, place_nowhere, inserted_between, removed_between, listed_in_both, none_in_front, none_in_back, none_in_both, none_less, none_more, listed_more, listed_less}
+use Rattle.number_list.proofs.Cuts.{cut, place_behind, place_there, place_nowhere, inserted_between, removed_between, listed_in_both, none_in_front, none_in_back, none_in_both, none_less, none_more, listed_more, listed_less}
 
 -- the links of a number are numbers below the bound
 in_bound : (next previous : List ℕ) (bound : ℕ) (numbers : List ℕ) → AreLinked next previous bound numbers → (x y : ℕ)

@@ -1,10 +1,9 @@
 -- A list of distinct numbers, cut at one of them.
-use Rattle.std.proofs.Common.{◌≡◌, ◌≢◌, ◌<◌, ◌≤◌, ◌+◌, ◌==◌, ◌||◌, ◌&&◌, not, cond, ℕ, zero, suc, Bool, true, false, List, [], ◌∷◌, ◌++◌, length, get_or, take, drop, unwrap_or, Option, Some, None, IfSome, rules, refl, sym, ◌∙◌, ap, subst, arith, eq-eqb, true≢false, append_assoc, length-append}
+use Rattle.std.proofs.Common.{◌≡◌, ◌≢◌, ◌<◌, ◌≤◌, ◌+◌, ◌==◌, ◌||◌, ◌&&◌, not, cond, ℕ, zero, suc, Bool, true, false, List, [], ◌∷◌, ◌++◌, length, get_or, drop, unwrap_or, Option, Some, None, IfSome, rules, refl, sym, ◌∙◌, ap, arith, eq-eqb, true≢false, append_assoc, length-append}
 use borrow.Author.Tests.{eqb-true}
 use Rattle.std.proofs.lemmas.List.{drop_all}
 use Rattle.std.proofs.lemmas.List.Edits.{insert_end}
 use Rattle.std.proofs.lemmas.Bool.{eqb-false, ne_eqb}
-use Rattle.std.specs.List.{position_or_len}
 use Rattle.std.specs.Prelude.{insert, remove, slice_get}
 use Rattle.number_list.specs.Order.{lists_number, number_place, NoneTwice, IsAt}
 use Rattle.number_list.proofs.Paths.{neither, either_left, either_right, differs}

@@ -1,4 +1,4 @@
-use Rattle.std.proofs.Common.{◌==◌, ℕ, List, refl, rules}
+use Rattle.std.proofs.Common.{ℕ, List, refl, rules}
 use borrow.Author.Tests.{tests}
 use Rattle.std.proofs.lemmas.Iterator.Consumers.{YieldsList-from_first}
 use Rattle.std.proofs.lemmas.Iterator.Search.{position_from_yields_List}

@@ -1,4 +1,4 @@
-use Rattle.std.proofs.Common.{◌≡◌, ◌∙◌, ◌∷◌, ℕ, List, length, sym, ap, arith}
+use Rattle.std.proofs.Common.{◌∙◌, length, sym, ap, arith}
 use Rattle.number_list.proofs.Cuts.{at_end, at_number}
 use Rattle.number_list.proofs.iter.NumbersIterator.next.Goals as goal
 

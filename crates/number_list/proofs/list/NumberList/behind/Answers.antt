@@ -1,6 +1,6 @@
-use Rattle.std.proofs.Common.{◌≡◌, ◌∙◌, ◌+◌, ℕ, sym, subst, ap, true, arith}
-use Rattle.number_list.specs.Order.{NumberOrder, lists_number, number_place, is_listed_or_end}
-use Rattle.number_list.proofs.Changes.{Behind, BehindIs, behind_is, read_link}
+use Rattle.std.proofs.Common.{◌∙◌, subst, ap, arith}
+use Rattle.number_list.specs.Order.{NumberOrder, lists_number}
+use Rattle.number_list.proofs.Changes.{BehindIs, behind_is, read_link}
 use Rattle.number_list.proofs.list.NumberList.behind.Goals as goal
 use Rattle.number_list.proofs.list.NumberList.behind.Goals.{After-index}
 

@@ -1,4 +1,4 @@
-use Rattle.std.proofs.Common.{◌≡◌, ◌==◌, ◌||◌, ◌<◌, ℕ, List, length, ◌∙◌, ap, arith}
+use Rattle.std.proofs.Common.{◌==◌, ◌||◌, ◌<◌, ℕ, List, ◌∙◌, ap, arith}
 use Rattle.std.specs.Prelude.{insert}
 use Rattle.number_list.specs.Order.{NumberOrder, lists_number, is_listed_or_end, number_place}
 use Rattle.number_list.proofs.Changes.{PutIn, put_in, has_links, read_link}

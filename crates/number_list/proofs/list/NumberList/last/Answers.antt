@@ -1,4 +1,4 @@
-use Rattle.std.proofs.Common.{◌≡◌, ◌-◌, ◌<◌, ◌∙◌, ℕ, List, Option, Some, IfSome, length, true, sym, ap, subst, arith}
+use Rattle.std.proofs.Common.{◌≡◌, ◌-◌, ◌<◌, ◌∙◌, ℕ, Option, Some, IfSome, length, true, sym, ap, subst, arith}
 use Rattle.std.specs.Prelude.{slice_get}
 use Rattle.number_list.specs.Order.{NumberOrder, lists_number}
 use Rattle.number_list.proofs.Changes.{some_in_bound, last_is, read_link}
@@ -8,8 +8,12 @@ use Rattle.number_list.proofs.list.NumberList.last.Goals.{After-index, Else-self
 
 within : (c : Else-self-eq0) → 0 < length c.self.inside.previous.items
 within c =
-    omega (arith, c.self.invariant.previous_len, some_in_bound c.self.inside.next.items c.self.inside.previous.items c.self.inside.bound
-    c.self.inside.count c.self.invariant (omega (arith, c.if-self-eq0.false)))
+    omega (
+      arith,
+      c.self.invariant.previous_len,
+      some_in_bound c.self.inside.next.items c.self.inside.previous.items c.self.inside.bound
+          c.self.inside.count c.self.invariant (omega (arith, c.if-self-eq0.false)),
+    )
 
 pub index-requires : goal.index-requires
 index-requires c = omega (arith, within (goal.at.index-requires c).Else-self-eq0)
@@ -20,8 +24,12 @@ got c =
     ∙ last_is c.self.inside.next.items c.self.inside.previous.items c.self.inside.bound c.self.inside.count c.self.invariant
     (omega (arith, c.if-self-eq0.false))
     ∙ ap (λ (k : ℕ). Some k) (sym (read_link c.self.inside.previous.items 0 c.index.result.now
-    (omega (arith, c.self.invariant.previous_len, some_in_bound c.self.inside.next.items c.self.inside.previous.items c.self.inside.bound
-    c.self.inside.count c.self.invariant (omega (arith, c.if-self-eq0.false)))) c.index.ensures))
+    (omega (
+      arith,
+      c.self.invariant.previous_len,
+      some_in_bound c.self.inside.next.items c.self.inside.previous.items c.self.inside.bound
+          c.self.inside.count c.self.invariant (omega (arith, c.if-self-eq0.false)),
+    )) c.index.ensures))
 
 pub returns-clause-value : goal.returns-clause-value
 returns-clause-value c = sym (got (goal.at.returns-clause-value c).After-index)

@@ -1,6 +1,6 @@
-use Rattle.std.proofs.Common.{◌≡◌, ◌∙◌, ◌||◌, ◌==◌, Some, sym, ap, true, rules}
+use Rattle.std.proofs.Common.{◌∙◌, sym, ap, rules}
 use Rattle.std.specs.Prelude.{slice_get}
-use Rattle.number_list.specs.Order.{lists_number, number_place, is_listed_or_end}
+use Rattle.number_list.specs.Order.{number_place}
 use Rattle.number_list.proofs.Cuts.{got_at_end, got_at_place, place_nowhere, stands_there}
 use Rattle.number_list.proofs.list.NumberList.next.Goals as goal
 

@@ -1,7 +1,7 @@
-use Rattle.std.proofs.Common.{◌≡◌, ◌==◌, ◌&&◌, not, ℕ, List, ◌∙◌, ap, arith}
+use Rattle.std.proofs.Common.{◌==◌, ◌&&◌, not, ℕ, List, ◌∙◌, ap, arith}
 use Rattle.std.specs.Prelude.{remove}
 use Rattle.number_list.specs.Order.{NumberOrder, lists_number, number_place}
-use Rattle.number_list.proofs.Changes.{TakenOut, taken_out, has_links, read_link}
+use Rattle.number_list.proofs.Changes.{TakenOut, taken_out, read_link}
 use Rattle.number_list.proofs.list.NumberList.remove.Goals as goal
 use Rattle.number_list.proofs.list.NumberList.remove.Goals.{After-index-back}
 

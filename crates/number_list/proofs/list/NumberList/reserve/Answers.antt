@@ -1,6 +1,6 @@
-use Rattle.std.proofs.Common.{◌≡◌, ◌∙◌, ap, refl, arith}
+use Rattle.std.proofs.Common.{◌∙◌, ap, refl, arith}
 use Rattle.number_list.specs.Order.{NumberOrder}
-use Rattle.number_list.proofs.Changes.{Longer, longer}
+use Rattle.number_list.proofs.Changes.{longer}
 use Rattle.number_list.proofs.list.NumberList.reserve.Goals as goal
 
 pub invariant_of-self : goal.invariant_of-self
