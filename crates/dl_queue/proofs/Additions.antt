@@ -128,14 +128,14 @@ apart_tested false added new n fresh apart counts within is =
 pub registered : (limit : ℕ) (parts : QueueParts) (new : Added) → AreParts parts → was_added parts.added new.gid ≡ false
     → length parts.added < MAX_DOWNLOADS
     → Registered limit record parts { added = parts.added ++ new ∷ []; standings = parts.standings ++ None ∷ [] }
-        record (lists_of limit parts) { added = parts.added ++ new ∷ [] } new.gid
+    record (lists_of limit parts) { added = parts.added ++ new ∷ [] } new.gid
 registered limit parts new are fresh room =
     let added = parts.added ++ new ∷ [] in
     let standings = parts.standings ++ None ∷ [] in
     let len = length-append parts.added (new ∷ []) in
     let same : (m : ℕ) → standing_at standings m ≡ standing_at parts.standings m = λ m. got_none parts.standings (m - 1) in
     let gid_same : (numbers : List ℕ) → AreNumbersOf parts.standings numbers → (m : ℕ) → lists_number numbers m ≡ true
-        → gid_at added m ≡ gid_at parts.added m = λ numbers their m listed.
+    → gid_at added m ≡ gid_at parts.added m = λ numbers their m listed.
     let it = of_added parts are numbers their m listed in gid_kept parts.added new m it.0 it.1 in
     let now : QueueParts = record parts { added = added; standings = standings } in
     let parts_are : AreParts now = record {
@@ -172,7 +172,7 @@ registered limit parts new are fresh room =
       status = status_is limit now parts_are new.gid (length parts.added + 1) (number_is added new.gid (length parts.added + 1) number)
           ∙ same (length parts.added + 1) ∙ past parts.standings (length parts.added + 1 - 1) (omega (arith, are.many));
     } where
-  past : (xs : List (Option Status)) (k : ℕ) → length xs ≤ k → get_or xs k None ≡ None
-  past [] k most = refl
-  past (x ∷ xs) zero most = let none : ⊥ = omega (arith, most) in absurd none
-  past (x ∷ xs) (suc k) most = past xs k (omega (arith, most))
+      past : (xs : List (Option Status)) (k : ℕ) → length xs ≤ k → get_or xs k None ≡ None
+      past [] k most = refl
+      past (x ∷ xs) zero most = let none : ⊥ = omega (arith, most) in absurd none
+      past (x ∷ xs) (suc k) most = past xs k (omega (arith, most))

@@ -84,7 +84,7 @@ waiting_marked : (limit : ℕ) (parts : QueueParts) (standings : List (Option St
     → stands_queued (Some status) ≡ true → stands_active (Some status) ≡ false → stands_stopped (Some status) ≡ false
     → ready ≡ filter (λ m. stands_ready (standing_at standings m)) parts.waiting
     → Marked limit record parts { ready = ready; standings = standings }
-        record (lists_of limit parts) { waiting = map (as_paused (not (stands_ready (Some status)))) (lists_of limit parts).waiting }
+    record (lists_of limit parts) { waiting = map (as_paused (not (stands_ready (Some status)))) (lists_of limit parts).waiting }
 waiting_marked limit parts standings ready status are len marked queued active stopped ready_is =
     let s = λ (m : ℕ). standing_at parts.standings m in
     let queued_s : (m : ℕ) → 0 < m → lists_number parts.waiting m ≡ true → stands_queued (s m) ≡ true =
@@ -123,7 +123,7 @@ waiting_marked limit parts standings ready status are len marked queued active s
 pub all_paused : (limit : ℕ) (parts : QueueParts) (standings : List (Option Status)) → AreParts parts
     → length standings ≡ length parts.standings → AreMarked parts.standings parts.waiting (Some Paused) standings
     → Marked limit record parts { ready = []; standings = standings }
-        record (lists_of limit parts) { waiting = map (as_paused true) (lists_of limit parts).waiting }
+    record (lists_of limit parts) { waiting = map (as_paused true) (lists_of limit parts).waiting }
 all_paused limit parts standings are len marked =
     waiting_marked limit parts standings [] Paused are len marked refl refl refl
     (sym (filter_none (λ m. stands_ready (standing_at standings m)) parts.waiting (λ m listed. ap stands_ready
@@ -132,7 +132,7 @@ all_paused limit parts standings are len marked =
 pub all_waiting : (limit : ℕ) (parts : QueueParts) (standings : List (Option Status)) → AreParts parts
     → length standings ≡ length parts.standings → AreMarked parts.standings parts.waiting (Some Waiting) standings
     → Marked limit record parts { ready = parts.waiting; standings = standings }
-        record (lists_of limit parts) { waiting = map (as_paused false) (lists_of limit parts).waiting }
+    record (lists_of limit parts) { waiting = map (as_paused false) (lists_of limit parts).waiting }
 all_waiting limit parts standings are len marked =
     waiting_marked limit parts standings parts.waiting Waiting are len marked refl refl refl
     (sym (filter_all (λ m. stands_ready (standing_at standings m)) parts.waiting (λ m listed. ap stands_ready
@@ -146,7 +146,7 @@ gone_tested false s is = is
 pub all_gone : (limit : ℕ) (parts : QueueParts) (standings : List (Option Status)) → AreParts parts
     → length standings ≡ length parts.standings → AreMarked parts.standings parts.stopped None standings
     → Marked limit record parts { stopped = []; standings = standings }
-        record (lists_of limit parts) { stopped = [] }
+    record (lists_of limit parts) { stopped = [] }
 all_gone limit parts standings are len marked =
     let s = λ (m : ℕ). standing_at parts.standings m in
     let stopped_s : (m : ℕ) → 0 < m → lists_number parts.stopped m ≡ true → stands_stopped (s m) ≡ true =

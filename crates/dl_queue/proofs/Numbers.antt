@@ -55,9 +55,9 @@ mark_tested true standings x y rest standing test counts within counted =
     let here : standing_at (set standings (x - 1) standing) y ≡ standing =
     ap (standing_at (set standings (x - 1) standing)) (eqb-true y x test) ∙ marked_there standings x standing counts within in
     ap (λ s. cond (lists_number rest y) standing s) here ∙ both (lists_number rest y) standing where
-  both : (b : Bool) (s : Option Status) → cond b s s ≡ s
-  both true s = refl
-  both false s = refl
+      both : (b : Bool) (s : Option Status) → cond b s s ≡ s
+      both true s = refl
+      both false s = refl
 mark_tested false standings x y rest standing test counts within counted =
     ap (λ s. cond (lists_number rest y) standing s) (marked_elsewhere standings x y standing counts counted test)
 
@@ -98,9 +98,9 @@ fresh_between (y ∷ front) x rest apart =
     let other = later front x rest y apart.0 in
     let not_y : (x == y) ≡ false = ne_eqb x y (λ same. eqb-false y x other (sym same)) in
     ap (λ t. t || lists_number front x) not_y ∙ fresh_between front x rest apart.1 where
-  later : (front : List ℕ) (x : ℕ) (rest : List ℕ) (y : ℕ) → lists_number (front ++ x ∷ rest) y ≡ false → (y == x) ≡ false
-  later [] x rest y fresh = (neither (y == x) (lists_number rest y) fresh).0
-  later (z ∷ front) x rest y fresh = later front x rest y (neither (y == z) (lists_number (front ++ x ∷ rest) y) fresh).1
+      later : (front : List ℕ) (x : ℕ) (rest : List ℕ) (y : ℕ) → lists_number (front ++ x ∷ rest) y ≡ false → (y == x) ≡ false
+      later [] x rest y fresh = (neither (y == x) (lists_number rest y) fresh).0
+      later (z ∷ front) x rest y fresh = later front x rest y (neither (y == z) (lists_number (front ++ x ∷ rest) y) fresh).1
 
 pub listed_between : (front : List ℕ) (x : ℕ) (rest : List ℕ) → lists_number (front ++ x ∷ rest) x ≡ true
 listed_between [] x rest = first_listed x rest

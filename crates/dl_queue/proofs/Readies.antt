@@ -22,7 +22,7 @@ gone_tested : (b s : Bool) (p q : ℕ → Bool) (y : ℕ) (numbers : List ℕ) (
     → lists_number numbers y ≡ false
     → ((m : ℕ) → lists_number (y ∷ numbers) m ≡ true → (m == n) ≡ false → q m ≡ p m)
     → (lists_number numbers n ≡ true → filter q (remove numbers (number_place numbers n))
-        ≡ remove (filter p numbers) (number_place (filter p numbers) n))
+    ≡ remove (filter p numbers) (number_place (filter p numbers) n))
     → (b || lists_number numbers n) ≡ true
     → filter q (remove (y ∷ numbers) (number_place (y ∷ numbers) n))
     ≡ remove (cond s (y ∷ filter p numbers) (filter p numbers)) (number_place (cond s (y ∷ filter p numbers) (filter p numbers)) n)
@@ -123,23 +123,23 @@ passing_fresh p [] m fresh = fresh
 passing_fresh p (y ∷ numbers) m fresh =
     let both = neither (m == y) (lists_number numbers m) fresh in
     step (p y) both.0 (passing_fresh p numbers m both.1) where
-  step : (s : Bool) → (m == y) ≡ false → lists_number (filter p numbers) m ≡ false
-      → lists_number (cond s (y ∷ filter p numbers) (filter p numbers)) m ≡ false
-  step true not_y rest = ap (λ t. t || lists_number (filter p numbers) m) not_y ∙ rest
-  step false not_y rest = rest
+      step : (s : Bool) → (m == y) ≡ false → lists_number (filter p numbers) m ≡ false
+          → lists_number (cond s (y ∷ filter p numbers) (filter p numbers)) m ≡ false
+      step true not_y rest = ap (λ t. t || lists_number (filter p numbers) m) not_y ∙ rest
+      step false not_y rest = rest
 
 pub listed_passing : (p : ℕ → Bool) (numbers : List ℕ) (m : ℕ) → lists_number numbers m ≡ true → p m ≡ true
     → lists_number (filter p numbers) m ≡ true
 listed_passing p [] m listed passes = listed
 listed_passing p (y ∷ numbers) m listed passes =
     step (m == y) (p y) refl refl listed (λ any. listed_passing p numbers m any passes) where
-  step : (b s : Bool) → (m == y) ≡ b → p y ≡ s → (b || lists_number numbers m) ≡ true
-      → (lists_number numbers m ≡ true → lists_number (filter p numbers) m ≡ true)
-      → lists_number (cond s (y ∷ filter p numbers) (filter p numbers)) m ≡ true
-  step true true is at any rest = either_left (m == y) (lists_number (filter p numbers) m) is
-  step true false is at any rest = absurd (true≢false (sym passes ∙ ap p (eqb-true m y is) ∙ at))
-  step false true is at any rest = either_right (m == y) (lists_number (filter p numbers) m) (rest any)
-  step false false is at any rest = rest any
+      step : (b s : Bool) → (m == y) ≡ b → p y ≡ s → (b || lists_number numbers m) ≡ true
+          → (lists_number numbers m ≡ true → lists_number (filter p numbers) m ≡ true)
+          → lists_number (cond s (y ∷ filter p numbers) (filter p numbers)) m ≡ true
+      step true true is at any rest = either_left (m == y) (lists_number (filter p numbers) m) is
+      step true false is at any rest = absurd (true≢false (sym passes ∙ ap p (eqb-true m y is) ∙ at))
+      step false true is at any rest = either_right (m == y) (lists_number (filter p numbers) m) (rest any)
+      step false false is at any rest = rest any
 
 -- one comes that doesn't pass, or passes
 pub other_comes : (p q : ℕ → Bool) (numbers : List ℕ) (i n : ℕ) → q n ≡ false
@@ -162,11 +162,11 @@ ready_comes p q (y ∷ numbers) (suc i) n one within others =
     ∙ ap (λ l. cond (p y) (y ∷ l) l)
     (ready_comes p q numbers i n one (omega (arith, within)) (λ m there. others m (rest_listed y numbers m there)))
     ∙ step (p y) where
-  step : (s : Bool) → cond s (y ∷ insert (filter p numbers) (length (filter p (take i numbers))) n)
-      (insert (filter p numbers) (length (filter p (take i numbers))) n)
-      ≡ insert (cond s (y ∷ filter p numbers) (filter p numbers)) (length (cond s (y ∷ filter p (take i numbers)) (filter p (take i numbers)))) n
-  step true = refl
-  step false = refl
+      step : (s : Bool) → cond s (y ∷ insert (filter p numbers) (length (filter p (take i numbers))) n)
+          (insert (filter p numbers) (length (filter p (take i numbers))) n)
+          ≡ insert (cond s (y ∷ filter p numbers) (filter p numbers)) (length (cond s (y ∷ filter p (take i numbers)) (filter p (take i numbers)))) n
+      step true = refl
+      step false = refl
 
 -- the first that passes from a place on, and where it stands among all that pass
 found_listed : (p : ℕ → Bool) (numbers : List ℕ) → IfSome (find p numbers) (λ x. lists_number numbers x ≡ true)
@@ -175,6 +175,7 @@ found_listed p (y ∷ numbers) = step (p y) (found_listed p numbers) where
   more : (o : Option ℕ) → IfSome o (λ x. lists_number numbers x ≡ true) → IfSome o (λ x. lists_number (y ∷ numbers) x ≡ true)
   more None one = tt
   more (Some x) one = rest_listed y numbers x one
+
   step : (s : Bool) → IfSome (find p numbers) (λ x. lists_number numbers x ≡ true)
       → IfSome (cond s (Some y) (find p numbers)) (λ x. lists_number (y ∷ numbers) x ≡ true)
   step true rest = first_listed y numbers
@@ -201,21 +202,21 @@ ready_place p [] zero counts apart = refl
 ready_place p [] (suc i) counts apart = refl
 ready_place p (y ∷ numbers) zero counts apart =
     step (p y) (ready_place p numbers zero (neither (0 == y) (lists_number numbers 0) counts).1 apart.1) where
-  step : (s : Bool) → number_place (filter p numbers) (unwrap_or (find p numbers) 0) ≡ 0
-      → number_place (cond s (y ∷ filter p numbers) (filter p numbers)) (unwrap_or (cond s (Some y) (find p numbers)) 0) ≡ 0
-  step true rest = place_first y (filter p numbers) y (eq-eqb y y refl)
-  step false rest = rest
+      step : (s : Bool) → number_place (filter p numbers) (unwrap_or (find p numbers) 0) ≡ 0
+          → number_place (cond s (y ∷ filter p numbers) (filter p numbers)) (unwrap_or (cond s (Some y) (find p numbers)) 0) ≡ 0
+      step true rest = place_first y (filter p numbers) y (eq-eqb y y refl)
+      step false rest = rest
 ready_place p (y ∷ numbers) (suc i) counts apart =
     let x = unwrap_or (find p (drop i numbers)) 0 in
     let both = neither (0 == y) (lists_number numbers 0) counts in
     let not_y = other_than numbers y (find p (drop i numbers)) (weaker numbers i (find p (drop i numbers)) (found_listed p (drop i numbers)))
     apart.0 both.0 in
     step (p y) x not_y (ready_place p numbers i both.1 apart.1) where
-  step : (s : Bool) (x : ℕ) → (x == y) ≡ false → number_place (filter p numbers) x ≡ length (filter p (take i numbers))
-      → number_place (cond s (y ∷ filter p numbers) (filter p numbers)) x
-      ≡ length (cond s (y ∷ filter p (take i numbers)) (filter p (take i numbers)))
-  step true x not_y rest = let here = place_rest y (filter p numbers) x not_y in omega (arith, here, rest)
-  step false x not_y rest = rest
+      step : (s : Bool) (x : ℕ) → (x == y) ≡ false → number_place (filter p numbers) x ≡ length (filter p (take i numbers))
+          → number_place (cond s (y ∷ filter p numbers) (filter p numbers)) x
+          ≡ length (cond s (y ∷ filter p (take i numbers)) (filter p (take i numbers)))
+      step true x not_y rest = let here = place_rest y (filter p numbers) x not_y in omega (arith, here, rest)
+      step false x not_y rest = rest
 
 found_passes : (q : ℕ → Bool) (xs : List ℕ) → IfSome (find q xs) (λ x. q x ≡ true)
 found_passes q [] = tt

@@ -63,9 +63,9 @@ pub left_active : (limit : ℕ) (parts : QueueParts) (gid : Gid) (n : ℕ) (acti
     → status_of (lists_of limit parts) gid ≡ Some Active → active ≡ remove parts.active (number_place parts.active n)
     → NoneTwice (0 ∷ active) → ((m : ℕ) → lists_number active m ≡ (not (m == n) && lists_number parts.active m))
     → Became limit record parts { active = active; standings = set parts.standings (n - 1) None }
-        record (lists_of limit parts) {
-          active = remove (lists_of limit parts).active (active_place gid (lists_of limit parts).active)
-        } gid None
+    record (lists_of limit parts) {
+      active = remove (lists_of limit parts).active (active_place gid (lists_of limit parts).active);
+    } gid None
 left_active limit parts gid n active at status is apart listed =
     let are = at.are in
     let counts = at.its.counts in
@@ -100,9 +100,9 @@ pub left_stopped : (limit : ℕ) (parts : QueueParts) (gid : Gid) (n : ℕ) (sto
     → stands_stopped (status_of (lists_of limit parts) gid) ≡ true → stopped ≡ remove parts.stopped (number_place parts.stopped n)
     → NoneTwice (0 ∷ stopped) → ((m : ℕ) → lists_number stopped m ≡ (not (m == n) && lists_number parts.stopped m))
     → Became limit record parts { stopped = stopped; standings = set parts.standings (n - 1) None }
-        record (lists_of limit parts) {
-          stopped = remove (lists_of limit parts).stopped (stopped_place gid (lists_of limit parts).stopped)
-        } gid None
+    record (lists_of limit parts) {
+      stopped = remove (lists_of limit parts).stopped (stopped_place gid (lists_of limit parts).stopped);
+    } gid None
 left_stopped limit parts gid n stopped at status is apart listed =
     let are = at.are in
     let counts = at.its.counts in
@@ -137,15 +137,16 @@ left_stopped limit parts gid n stopped at status is apart listed =
           ∙ ap (remove (map (stopped_download parts.added parts.standings) parts.stopped)) (sym (stopped_place_is parts are gid n at.its)));
       status = stands_now limit parts record parts { stopped = stopped; standings = set parts.standings (n - 1) None } gid n None at new refl refl;
     } where
-  and_right : (a b : Bool) → (a && b) ≡ true → b ≡ true
-  and_right true b any = any
-  and_right false b any = cc
-  stopped_only : (s : Option Status) → stands_stopped s ≡ true → (stands_active s ≡ false) × (stands_queued s ≡ false)
-  stopped_only None any = cc
-  stopped_only (Some Active) any = cc
-  stopped_only (Some Waiting) any = cc
-  stopped_only (Some Paused) any = cc
-  stopped_only (Some other) any = (refl, refl)
+      and_right : (a b : Bool) → (a && b) ≡ true → b ≡ true
+      and_right true b any = any
+      and_right false b any = cc
+
+      stopped_only : (s : Option Status) → stands_stopped s ≡ true → (stands_active s ≡ false) × (stands_queued s ≡ false)
+      stopped_only None any = cc
+      stopped_only (Some Active) any = cc
+      stopped_only (Some Waiting) any = cc
+      stopped_only (Some Paused) any = cc
+      stopped_only (Some other) any = (refl, refl)
 
 -- a waiting or paused download leaves its list
 pub left_waiting : (limit : ℕ) (parts : QueueParts) (gid : Gid) (n : ℕ) (waiting ready : List ℕ) → Place limit parts gid n
@@ -153,9 +154,9 @@ pub left_waiting : (limit : ℕ) (parts : QueueParts) (gid : Gid) (n : ℕ) (wai
     → NoneTwice (0 ∷ waiting) → ((m : ℕ) → lists_number waiting m ≡ (not (m == n) && lists_number parts.waiting m))
     → ready ≡ cond (stands_ready (standing_at parts.standings n)) (remove parts.ready (number_place parts.ready n)) parts.ready
     → Became limit record parts { waiting = waiting; ready = ready; standings = set parts.standings (n - 1) None }
-        record (lists_of limit parts) {
-          waiting = remove (lists_of limit parts).waiting (queued_place gid (lists_of limit parts).waiting)
-        } gid None
+    record (lists_of limit parts) {
+      waiting = remove (lists_of limit parts).waiting (queued_place gid (lists_of limit parts).waiting);
+    } gid None
 left_waiting limit parts gid n waiting ready at status is apart listed ready_is =
     let are = at.are in
     let counts = at.its.counts in
@@ -199,27 +200,29 @@ left_waiting limit parts gid n waiting ready at status is apart listed ready_is 
       status = stands_now limit parts record parts { waiting = waiting; ready = ready; standings = set parts.standings (n - 1) None }
           gid n None at new refl refl;
     } where
-  and_right : (a b : Bool) → (a && b) ≡ true → b ≡ true
-  and_right true b any = any
-  and_right false b any = cc
-  queued_only : (s : Option Status) → stands_queued s ≡ true → (stands_active s ≡ false) × (stands_stopped s ≡ false)
-  queued_only None any = cc
-  queued_only (Some Waiting) any = (refl, refl)
-  queued_only (Some Paused) any = (refl, refl)
-  queued_only (Some other) any = cc
-  left_ready : (b : Bool) (p q : ℕ → Bool) → p n ≡ b → lists_number parts.waiting n ≡ true
-      → ((m : ℕ) → lists_number parts.waiting m ≡ true → (m == n) ≡ false → q m ≡ p m)
-      → cond b (remove (filter p parts.waiting) (number_place (filter p parts.waiting) n)) (filter p parts.waiting)
-      ≡ filter q (remove parts.waiting (number_place parts.waiting n))
-  left_ready true p q is there others = sym (ready_gone p q parts.waiting n at.are.waiting_apart.1 there is others)
-  left_ready false p q is there others = sym (other_gone p q parts.waiting n at.are.waiting_apart.1 there is others)
+      and_right : (a b : Bool) → (a && b) ≡ true → b ≡ true
+      and_right true b any = any
+      and_right false b any = cc
+
+      queued_only : (s : Option Status) → stands_queued s ≡ true → (stands_active s ≡ false) × (stands_stopped s ≡ false)
+      queued_only None any = cc
+      queued_only (Some Waiting) any = (refl, refl)
+      queued_only (Some Paused) any = (refl, refl)
+      queued_only (Some other) any = cc
+
+      left_ready : (b : Bool) (p q : ℕ → Bool) → p n ≡ b → lists_number parts.waiting n ≡ true
+          → ((m : ℕ) → lists_number parts.waiting m ≡ true → (m == n) ≡ false → q m ≡ p m)
+          → cond b (remove (filter p parts.waiting) (number_place (filter p parts.waiting) n)) (filter p parts.waiting)
+          ≡ filter q (remove parts.waiting (number_place parts.waiting n))
+      left_ready true p q is there others = sym (ready_gone p q parts.waiting n at.are.waiting_apart.1 there is others)
+      left_ready false p q is there others = sym (other_gone p q parts.waiting n at.are.waiting_apart.1 there is others)
 
 -- a download comes to the end of the active ones
 pub came_active : (limit : ℕ) (parts : QueueParts) (gid : Gid) (n : ℕ) (active : List ℕ) → Place limit parts gid n
     → status_of (lists_of limit parts) gid ≡ None → active ≡ parts.active ++ n ∷ []
     → NoneTwice (0 ∷ active) → ((m : ℕ) → lists_number active m ≡ ((m == n) || lists_number parts.active m))
     → Became limit record parts { active = active; standings = set parts.standings (n - 1) (Some Active) }
-        record (lists_of limit parts) { active = (lists_of limit parts).active ++ gid ∷ [] } gid (Some Active)
+    record (lists_of limit parts) { active = (lists_of limit parts).active ++ gid ∷ [] } gid (Some Active)
 came_active limit parts gid n active at status is apart listed =
     let are = at.are in
     let counts = at.its.counts in
@@ -255,8 +258,8 @@ pub came_stopped : (limit : ℕ) (parts : QueueParts) (gid : Gid) (n : ℕ) (sto
     → status_of (lists_of limit parts) gid ≡ None → stopped ≡ parts.stopped ++ n ∷ []
     → NoneTwice (0 ∷ stopped) → ((m : ℕ) → lists_number stopped m ≡ ((m == n) || lists_number parts.stopped m))
     → Became limit record parts { stopped = stopped; standings = set parts.standings (n - 1) (Some (ended_status end)) }
-        record (lists_of limit parts) { stopped = (lists_of limit parts).stopped ++ record { gid = gid; ending = end } ∷ [] }
-        gid (Some (ended_status end))
+    record (lists_of limit parts) { stopped = (lists_of limit parts).stopped ++ record { gid = gid; ending = end } ∷ [] }
+    gid (Some (ended_status end))
 came_stopped limit parts gid n stopped end at status is apart listed =
     let are = at.are in
     let counts = at.its.counts in
@@ -295,11 +298,11 @@ came_stopped limit parts gid n stopped end at status is apart listed =
       status = stands_now limit parts record parts { stopped = stopped; standings = set parts.standings (n - 1) standing }
           gid n standing at new refl refl;
     } where
-  ended_only : (end : Ending) → (stands_active (Some (ended_status end)) ≡ false) × (stands_queued (Some (ended_status end)) ≡ false)
-      × (stands_stopped (Some (ended_status end)) ≡ true) × (ending_by_standing (Some (ended_status end)) ≡ end)
-  ended_only ending.Failed = (refl, refl, refl, refl)
-  ended_only ending.Complete = (refl, refl, refl, refl)
-  ended_only ending.Removed = (refl, refl, refl, refl)
+      ended_only : (end : Ending) → (stands_active (Some (ended_status end)) ≡ false) × (stands_queued (Some (ended_status end)) ≡ false)
+          × (stands_stopped (Some (ended_status end)) ≡ true) × (ending_by_standing (Some (ended_status end)) ≡ end)
+      ended_only ending.Failed = (refl, refl, refl, refl)
+      ended_only ending.Complete = (refl, refl, refl, refl)
+      ended_only ending.Removed = (refl, refl, refl, refl)
 
 -- a download comes among the waiting ones, to stand as it says
 came_queued : (limit : ℕ) (parts : QueueParts) (gid : Gid) (n : ℕ) (waiting ready : List ℕ) (i : ℕ) (status : Status)
@@ -308,9 +311,9 @@ came_queued : (limit : ℕ) (parts : QueueParts) (gid : Gid) (n : ℕ) (waiting 
     → stands_queued (Some status) ≡ true → stands_active (Some status) ≡ false → stands_stopped (Some status) ≡ false
     → ready ≡ filter (λ m. stands_ready (standing_at (set parts.standings (n - 1) (Some status)) m)) waiting
     → Became limit record parts { waiting = waiting; ready = ready; standings = set parts.standings (n - 1) (Some status) }
-        record (lists_of limit parts) {
-          waiting = insert (lists_of limit parts).waiting i record { gid = gid; paused = not (stands_ready (Some status)) }
-        } gid (Some status)
+    record (lists_of limit parts) {
+      waiting = insert (lists_of limit parts).waiting i record { gid = gid; paused = not (stands_ready (Some status)) };
+    } gid (Some status)
 came_queued limit parts gid n waiting ready i status at absent is apart listed queued active stopped ready_is =
     let are = at.are in
     let counts = at.its.counts in
@@ -358,9 +361,9 @@ pub came_paused : (limit : ℕ) (parts : QueueParts) (gid : Gid) (n : ℕ) (wait
     → Place limit parts gid n → status_of (lists_of limit parts) gid ≡ None → waiting ≡ insert parts.waiting i n
     → NoneTwice (0 ∷ waiting) → ((m : ℕ) → lists_number waiting m ≡ ((m == n) || lists_number parts.waiting m))
     → Became limit record parts { waiting = waiting; standings = set parts.standings (n - 1) (Some Paused) }
-        record (lists_of limit parts) {
-          waiting = insert (lists_of limit parts).waiting i record { gid = gid; paused = true }
-        } gid (Some Paused)
+    record (lists_of limit parts) {
+      waiting = insert (lists_of limit parts).waiting i record { gid = gid; paused = true };
+    } gid (Some Paused)
 came_paused limit parts gid n waiting i at absent is apart listed =
     let there = marked_there parts.standings n (Some Paused) at.its.counts (within limit parts gid n at) in
     came_queued limit parts gid n waiting parts.ready i Paused at absent is apart listed refl refl refl
@@ -376,9 +379,9 @@ pub came_ready : (limit : ℕ) (parts : QueueParts) (gid : Gid) (n : ℕ) (waiti
     → ready ≡ insert parts.ready (number_place parts.ready other) n
     → number_place parts.ready other ≡ length (filter (λ m. stands_ready (standing_at parts.standings m)) (take i parts.waiting))
     → Became limit record parts { waiting = waiting; ready = ready; standings = set parts.standings (n - 1) (Some Waiting) }
-        record (lists_of limit parts) {
-          waiting = insert (lists_of limit parts).waiting i record { gid = gid; paused = false }
-        } gid (Some Waiting)
+    record (lists_of limit parts) {
+      waiting = insert (lists_of limit parts).waiting i record { gid = gid; paused = false };
+    } gid (Some Waiting)
 came_ready limit parts gid n waiting ready i other at absent is most apart listed ready_is place =
     let there = marked_there parts.standings n (Some Waiting) at.its.counts (within limit parts gid n at) in
     let old = λ (m : ℕ). stands_ready (standing_at parts.standings m) in
@@ -416,7 +419,7 @@ map_set f g (y ∷ numbers) n apart listed others =
 pub paused_there : (limit : ℕ) (parts : QueueParts) (gid : Gid) (n : ℕ) (ready : List ℕ) → Place limit parts gid n
     → status_of (lists_of limit parts) gid ≡ Some Waiting → ready ≡ remove parts.ready (number_place parts.ready n)
     → Became limit record parts { ready = ready; standings = set parts.standings (n - 1) (Some Paused) }
-        record (lists_of limit parts) { waiting = with_pause true gid (lists_of limit parts).waiting } gid (Some Paused)
+    record (lists_of limit parts) { waiting = with_pause true gid (lists_of limit parts).waiting } gid (Some Paused)
 paused_there limit parts gid n ready at status is =
     let are = at.are in
     let counts = at.its.counts in
@@ -429,7 +432,7 @@ paused_there limit parts gid n ready at status is =
     let now = λ (m : ℕ). stands_ready (standing_at (set parts.standings (n - 1) standing) m) in
     let marked = marked_there parts.standings n standing counts in_all in
     let others : (m : ℕ) → lists_number parts.waiting m ≡ true → (m == n) ≡ false
-        → standing_at (set parts.standings (n - 1) standing) m ≡ standing_at parts.standings m =
+    → standing_at (set parts.standings (n - 1) standing) m ≡ standing_at parts.standings m =
     λ m here other. stays parts.standings n m standing counts (waiting_numbers parts are m here).0 other in
     let new : AreParts record parts { ready = ready; standings = set parts.standings (n - 1) standing } = record {
       many = length-set parts.standings (n - 1) standing ∙ are.many;

@@ -199,17 +199,17 @@ first_is_place q f p [] n same is = refl
 first_is_place q f p (y ∷ numbers) n same is =
     ap (λ t. cond (not t) (1 + position_or_len q (map f numbers)) 0) (same y)
     ∙ step (p y) refl is (first_is_place q f p numbers n same) (first_passes p (y ∷ numbers) n is) where
-  step : (s : Bool) → p y ≡ s → slice_get (cond s (y ∷ filter p numbers) (filter p numbers)) 0 ≡ Some n
-      → (slice_get (filter p numbers) 0 ≡ Some n → position_or_len q (map f numbers) ≡ number_place numbers n) → p n ≡ true
-      → cond (not (p y)) (1 + position_or_len q (map f numbers)) 0 ≡ number_place (y ∷ numbers) n
-  step true at some rest passes =
-      let first : y ≡ n = cc in
-      ap (λ t. cond (not t) (1 + position_or_len q (map f numbers)) 0) at
-      ∙ sym (place_first y numbers n (eq-eqb n y (sym first)))
-  step false at some rest passes =
-      let other : (n == y) ≡ false = ne_eqb n y (λ one. true≢false (sym passes ∙ ap p one ∙ at)) in
-      ap (λ t. cond (not t) (1 + position_or_len q (map f numbers)) 0) at
-      ∙ ap (λ k. 1 + k) (rest some) ∙ sym (place_rest y numbers n other)
+      step : (s : Bool) → p y ≡ s → slice_get (cond s (y ∷ filter p numbers) (filter p numbers)) 0 ≡ Some n
+          → (slice_get (filter p numbers) 0 ≡ Some n → position_or_len q (map f numbers) ≡ number_place numbers n) → p n ≡ true
+          → cond (not (p y)) (1 + position_or_len q (map f numbers)) 0 ≡ number_place (y ∷ numbers) n
+      step true at some rest passes =
+          let first : y ≡ n = cc in
+          ap (λ t. cond (not t) (1 + position_or_len q (map f numbers)) 0) at
+          ∙ sym (place_first y numbers n (eq-eqb n y (sym first)))
+      step false at some rest passes =
+          let other : (n == y) ≡ false = ne_eqb n y (λ one. true≢false (sym passes ∙ ap p one ∙ at)) in
+          ap (λ t. cond (not t) (1 + position_or_len q (map f numbers)) 0) at
+          ∙ ap (λ k. 1 + k) (rest some) ∙ sym (place_rest y numbers n other)
 
 pub none_is_past : {X : Type 0} (q : X → Bool) (f : ℕ → X) (p : ℕ → Bool) (numbers : List ℕ)
     → ((m : ℕ) → q (f m) ≡ p m) → slice_get (filter p numbers) 0 ≡ None
@@ -218,14 +218,14 @@ none_is_past q f p [] same is = omega arith
 none_is_past q f p (y ∷ numbers) same is =
     let here = ap (λ t. cond (not t) (1 + position_or_len q (map f numbers)) 0) (same y) in
     step (p y) refl is (none_is_past q f p numbers same) here where
-  step : (s : Bool) → p y ≡ s → slice_get (cond s (y ∷ filter p numbers) (filter p numbers)) 0 ≡ None
-      → (slice_get (filter p numbers) 0 ≡ None → length (map f numbers) ≤ position_or_len q (map f numbers))
-      → position_or_len q (map f (y ∷ numbers)) ≡ cond (not (p y)) (1 + position_or_len q (map f numbers)) 0
-      → length (map f (y ∷ numbers)) ≤ position_or_len q (map f (y ∷ numbers))
-  step true at some rest here = cc
-  step false at some rest here =
-      let now = here ∙ ap (λ t. cond (not t) (1 + position_or_len q (map f numbers)) 0) at in
-      omega (arith, now, rest some)
+      step : (s : Bool) → p y ≡ s → slice_get (cond s (y ∷ filter p numbers) (filter p numbers)) 0 ≡ None
+          → (slice_get (filter p numbers) 0 ≡ None → length (map f numbers) ≤ position_or_len q (map f numbers))
+          → position_or_len q (map f (y ∷ numbers)) ≡ cond (not (p y)) (1 + position_or_len q (map f numbers)) 0
+          → length (map f (y ∷ numbers)) ≤ position_or_len q (map f (y ∷ numbers))
+      step true at some rest here = cc
+      step false at some rest here =
+          let now = here ∙ ap (λ t. cond (not t) (1 + position_or_len q (map f numbers)) 0) at in
+          omega (arith, now, rest some)
 
 got_listed : (numbers : List ℕ) (i n : ℕ) → slice_get numbers i ≡ Some n → lists_number numbers n ≡ true
 got_listed [] i n is = cc
@@ -258,17 +258,18 @@ moves_up limit parts are n is =
       place = its_place ∙ sym place;
       within = omega (arith, place, tells);
     } where
-  waits : (s : Option Status) → stands_ready s ≡ true → s ≡ Some Waiting
-  waits None stands = cc
-  waits (Some Waiting) stands = refl
-  waits (Some other) stands = cc
-  first_listed_in : (p : ℕ → Bool) (numbers : List ℕ) (n : ℕ) → slice_get (filter p numbers) 0 ≡ Some n → lists_number numbers n ≡ true
-  first_listed_in p [] n is = cc
-  first_listed_in p (y ∷ numbers) n is = step (p y) is (first_listed_in p numbers n) where
-    step : (s : Bool) → slice_get (cond s (y ∷ filter p numbers) (filter p numbers)) 0 ≡ Some n
-        → (slice_get (filter p numbers) 0 ≡ Some n → lists_number numbers n ≡ true) → lists_number (y ∷ numbers) n ≡ true
-    step true some rest = let same : y ≡ n = cc in either_left (n == y) (lists_number numbers n) (eq-eqb n y (sym same))
-    step false some rest = rest_listed y numbers n (rest some)
+      waits : (s : Option Status) → stands_ready s ≡ true → s ≡ Some Waiting
+      waits None stands = cc
+      waits (Some Waiting) stands = refl
+      waits (Some other) stands = cc
+
+      first_listed_in : (p : ℕ → Bool) (numbers : List ℕ) (n : ℕ) → slice_get (filter p numbers) 0 ≡ Some n → lists_number numbers n ≡ true
+      first_listed_in p [] n is = cc
+      first_listed_in p (y ∷ numbers) n is = step (p y) is (first_listed_in p numbers n) where
+        step : (s : Bool) → slice_get (cond s (y ∷ filter p numbers) (filter p numbers)) 0 ≡ Some n
+            → (slice_get (filter p numbers) 0 ≡ Some n → lists_number numbers n ≡ true) → lists_number (y ∷ numbers) n ≡ true
+        step true some rest = let same : y ≡ n = cc in either_left (n == y) (lists_number numbers n) (eq-eqb n y (sym same))
+        step false some rest = rest_listed y numbers n (rest some)
 
 pub none_moves_up : (limit : ℕ) (parts : QueueParts) → AreParts parts → slice_get parts.ready 0 ≡ None
     → length (lists_of limit parts).waiting ≤ position_or_len is_ready (lists_of limit parts).waiting
@@ -281,13 +282,13 @@ pub ready_number : (parts : QueueParts) → AreParts parts → (n : ℕ) → sli
 ready_number parts are n is =
     of_added parts are parts.waiting (waiting_numbers parts are) n
     (first_in (λ (m : ℕ). stands_ready (standing_at parts.standings m)) parts.waiting n (ap (λ l. slice_get l 0) (sym are.ready_are) ∙ is)) where
-  first_in : (p : ℕ → Bool) (numbers : List ℕ) (n : ℕ) → slice_get (filter p numbers) 0 ≡ Some n → lists_number numbers n ≡ true
-  first_in p [] n is = cc
-  first_in p (y ∷ numbers) n is = step (p y) is (first_in p numbers n) where
-    step : (s : Bool) → slice_get (cond s (y ∷ filter p numbers) (filter p numbers)) 0 ≡ Some n
-        → (slice_get (filter p numbers) 0 ≡ Some n → lists_number numbers n ≡ true) → lists_number (y ∷ numbers) n ≡ true
-    step true some rest = let same : y ≡ n = cc in either_left (n == y) (lists_number numbers n) (eq-eqb n y (sym same))
-    step false some rest = rest_listed y numbers n (rest some)
+      first_in : (p : ℕ → Bool) (numbers : List ℕ) (n : ℕ) → slice_get (filter p numbers) 0 ≡ Some n → lists_number numbers n ≡ true
+      first_in p [] n is = cc
+      first_in p (y ∷ numbers) n is = step (p y) is (first_in p numbers n) where
+        step : (s : Bool) → slice_get (cond s (y ∷ filter p numbers) (filter p numbers)) 0 ≡ Some n
+            → (slice_get (filter p numbers) 0 ≡ Some n → lists_number numbers n ≡ true) → lists_number (y ∷ numbers) n ≡ true
+        step true some rest = let same : y ≡ n = cc in either_left (n == y) (lists_number numbers n) (eq-eqb n y (sym same))
+        step false some rest = rest_listed y numbers n (rest some)
 
 -- the last active download
 last_apart : (numbers : List ℕ) (n : ℕ) → NoneTwice numbers → slice_get numbers (length numbers - 1) ≡ Some n
@@ -321,10 +322,10 @@ stands_last limit parts are n is =
           ∙ sym (map-append gid (remove parts.active (number_place parts.active n)) (n ∷ []))
           ∙ ap (map gid) (last_apart parts.active n are.active_apart.1 is);
     } where
-  is_active : (s : Option Status) → stands_active s ≡ true → s ≡ Some Active
-  is_active None stands = cc
-  is_active (Some Active) stands = refl
-  is_active (Some other) stands = cc
+      is_active : (s : Option Status) → stands_active s ≡ true → s ≡ Some Active
+      is_active None stands = cc
+      is_active (Some Active) stands = refl
+      is_active (Some other) stands = cc
 
 pub active_number : (parts : QueueParts) → AreParts parts → (n : ℕ) → slice_get parts.active (length parts.active - 1) ≡ Some n
     → (0 < n) × (n ≤ length parts.added)

@@ -7,9 +7,6 @@ ghost use Rattle.dl_queue.specs.Rising.{moved_up};
 ghost use Rattle.dl_queue.specs.Held.{stands_queued, stands_stopped};
 ghost use Rattle.dl_queue.specs.Calls.{QueueCall, refusal, effect, after, was_added, queue_answer, has_stopped, stopped_from, paused_from, with_pause, target_of, Finds, aside};
 
-
-
-
 use crate::kinds::ending_by_status;
 use crate::places::target;
 use crate::{Ending, How, MAX_DOWNLOADS, Queue, QueueErr};
@@ -99,7 +96,9 @@ impl Queue {
     /// Active downloads go to the front of the waiting ones, the last of them first, and are paused.
     fn set_aside(&mut self)
         ensures { self.new ≡ record self.old {
-            active = []; waiting = map aside self.old.active ++ self.old.waiting } }
+          active = [];
+          waiting = map aside self.old.active ++ self.old.waiting;
+        } }
     {
         while let Some(gid) = self.last_active() {
             self.leave_active(gid);

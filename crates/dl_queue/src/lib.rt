@@ -6,13 +6,10 @@ mod kinds;
 mod lines;
 mod listed;
 mod named;
-
 mod places;
 mod queue;
-
 mod room;
 
 pub use kinds::{Added, Ending, How, MAX_DOWNLOADS, QueueErr, Queued, Stopped};
 pub use listed::{ActiveGids, QueuedDownloads, StoppedDownloads};
 pub use queue::Queue;
-

@@ -61,11 +61,7 @@ pub fn remove_if(list: &mut NumberList, number: usize, listed: bool)
 }
 
 /// Each of the numbers stands so.
-pub fn mark_all(
-    standings: &mut Vec<Option<Status>>,
-    numbers: Numbers<'_>,
-    standing: Option<Status>,
-)
+pub fn mark_all(standings: &mut Vec<Option<Status>>, numbers: Numbers<'_>, standing: Option<Status>)
     requires { AreNumbersOf standings.old.items numbers }
     ensures marked { (number : ℕ) → 0 < number → standing_at standings.new.items number
         ≡ (if lists_number numbers.entry number then standing else standing_at standings.old.items number) }

@@ -13,7 +13,9 @@ use crate::kinds::status_by_ending;
 use crate::lines::{fill, first_ready, gid_of, is_ready, mark_all, remove_if, standing_of};
 use crate::named::{Named, all_named};
 use crate::room::{give_number, reserve_lists};
-use crate::{ActiveGids, Added, Ending, MAX_DOWNLOADS, QueueErr, QueuedDownloads, StoppedDownloads};
+use crate::{
+    ActiveGids, Added, Ending, MAX_DOWNLOADS, QueueErr, QueuedDownloads, StoppedDownloads,
+};
 use dl_kinds::{Gid, GidKey, Status};
 use number_list::NumberList;
 use option_set::Options;
@@ -44,12 +46,22 @@ impl Model for Queue {
     ghost use Rattle.dl_queue.specs.Held.{lists_of, AreHeld};
 
     ghost view = { λ q. lists_of q.limit record {
-        added = q.added.items; standings = q.standings.items;
-        active = q.active.order; waiting = q.waiting.order; ready = q.ready.order; stopped = q.stopped.order } };
+      added = q.added.items;
+      standings = q.standings.items;
+      active = q.active.order;
+      waiting = q.waiting.order;
+      ready = q.ready.order;
+      stopped = q.stopped.order;
+    } };
 
     ghost invariant = { λ q. AreHeld record {
-        added = q.added.items; standings = q.standings.items;
-        active = q.active.order; waiting = q.waiting.order; ready = q.ready.order; stopped = q.stopped.order }
+      added = q.added.items;
+      standings = q.standings.items;
+      active = q.active.order;
+      waiting = q.waiting.order;
+      ready = q.ready.order;
+      stopped = q.stopped.order;
+    }
         q.numbers q.active.bound q.waiting.bound q.ready.bound q.stopped.bound };
 }
 
@@ -305,7 +317,8 @@ impl Queue {
         requires known { was_added self.old.added gid ≡ true }
         requires stands { status_of self.old gid ≡ None }
         ensures { self.new ≡ record self.old {
-            stopped = self.old.stopped ++ record { gid = gid; ending = ending } ∷ [] } }
+          stopped = self.old.stopped ++ record { gid = gid; ending = ending } ∷ [];
+        } }
     {
         let number = self.number_of(gid);
         self.stopped.push_back(number);
@@ -319,7 +332,8 @@ impl Queue {
         requires stands { status_of self.old gid ≡ None }
         requires place { place ≤ length self.old.waiting }
         ensures { self.new ≡ record self.old {
-            waiting = insert self.old.waiting place record { gid = gid; paused = paused } } }
+          waiting = insert self.old.waiting place record { gid = gid; paused = paused };
+        } }
     {
         let number = self.number_of(gid);
         self.waiting.insert(place, number);
@@ -352,7 +366,11 @@ impl Queue {
     pub(crate) fn pause_queued(&mut self)
         ensures { self.new ≡ record self.old { waiting = map (as_paused true) self.old.waiting } }
     {
-        mark_all(&mut self.standings, self.waiting.iter(), Some(Status::Paused));
+        mark_all(
+            &mut self.standings,
+            self.waiting.iter(),
+            Some(Status::Paused),
+        );
         self.ready.clear();
     }
 
@@ -360,7 +378,11 @@ impl Queue {
     pub(crate) fn unpause_queued(&mut self)
         ensures { self.new ≡ record self.old { waiting = map (as_paused false) self.old.waiting } }
     {
-        mark_all(&mut self.standings, self.waiting.iter(), Some(Status::Waiting));
+        mark_all(
+            &mut self.standings,
+            self.waiting.iter(),
+            Some(Status::Waiting),
+        );
         self.ready.clear();
         fill(&mut self.ready, self.waiting.iter());
     }

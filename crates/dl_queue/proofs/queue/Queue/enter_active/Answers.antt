@@ -49,7 +49,7 @@ became : (c : After-numbers_differ) → Place c.self.inside.limit (parts_of c.se
       active = (lists_of c.self.inside.limit (parts_of c.self.inside)).active ++ c.args.gid ∷ [];
     } c.args.gid (Some Active)
 became c place =
-    came_active c.self.inside.limit (parts_of c.self.inside) c.args.gid c.number_of-number.result c.push_back.new.self.order 
+    came_active c.self.inside.limit (parts_of c.self.inside) c.args.gid c.number_of-number.result c.push_back.new.self.order
     place
     (seen c.self.inside c.args.self.now c.args.gid None c.self.view_is c.requires.stands)
     (ap (λ (l : NumberOrder). l.order) c.push_back.ensures.value) c.numbers_differ.ensures c.push_back.ensures.listed

@@ -119,7 +119,7 @@ insert_before-requires-clause-other c =
     let here = (goal.at.insert_before-requires-clause-other c).After-number_of-number in
     let rest = behind (goal.at.insert_before-requires-clause-other c).After-numbers_differ (fresh here) (most here) in
     let other : OtherAt (parts_of c.self.inside) c.args.place c.if-place-eq0.other = elim c.if-place-eq0.branch [
-      then-place-eq0 w ↦ other_first (parts_of c.self.inside) c.if-place-eq0.other c.args.place
+      | then-place-eq0 w ↦ other_first (parts_of c.self.inside) c.if-place-eq0.other c.args.place
           (w.other-is ∙ w.unwrap_or-other.ensures ∙ ap (λ o. unwrap_or o 0) w.first.ensures.value) w.if-place-eq0.true
       | else-place-eq0 w ↦ other_behind (parts_of c.self.inside) c.self.invariant.parts_are c.if-place-eq0.other c.args.place
           (w.other-is ∙ w.first_ready-other.ensures
@@ -152,7 +152,7 @@ ready : (c : After-insert_before) → Place c.self.inside.limit (parts_of c.self
     } c.args.gid (Some Waiting)
 ready c place rest within_all =
     let other : OtherAt (parts_of c.self.inside) c.args.place c.if-place-eq0.other = elim c.if-place-eq0.branch [
-      then-place-eq0 w ↦ other_first (parts_of c.self.inside) c.if-place-eq0.other c.args.place
+      | then-place-eq0 w ↦ other_first (parts_of c.self.inside) c.if-place-eq0.other c.args.place
           (w.other-is ∙ w.unwrap_or-other.ensures ∙ ap (λ o. unwrap_or o 0) w.first.ensures.value) w.if-place-eq0.true
       | else-place-eq0 w ↦ other_behind (parts_of c.self.inside) c.self.invariant.parts_are c.if-place-eq0.other c.args.place
           (w.other-is ∙ w.first_ready-other.ensures

@@ -49,5 +49,10 @@ returns-clause-within c =
     ∙ ap stands_queued (sym (status_is c.self.inside.limit parts c.self.invariant.parts_are c.args.gid n at.its))
     ∙ seen_so stands_queued c.self.inside c.args.self.now c.args.gid c.self.view_is c.requires.stands in
     let tells = ltb-true (number_place parts.waiting n) (length (map queued parts.waiting)) (place_tells queued parts.waiting n ∙ listed) in
-    omega (arith, tells, queued_place_is parts c.self.invariant.parts_are c.args.gid n at.its,
-    ap (λ (v : QueueLists). length v.waiting) c.self.view_is, ap (λ (v : QueueLists). queued_place c.args.gid v.waiting) c.self.view_is)
+    omega (
+      arith,
+      tells,
+      queued_place_is parts c.self.invariant.parts_are c.args.gid n at.its,
+      ap (λ (v : QueueLists). length v.waiting) c.self.view_is,
+      ap (λ (v : QueueLists). queued_place c.args.gid v.waiting) c.self.view_is,
+    )

@@ -60,10 +60,10 @@ became c place waits =
     ∙ chosen c.is_ready-waits.result c.self.inside.ready
     ∙ ap (λ b. cond b (remove c.self.inside.ready.order (number_place c.self.inside.ready.order c.number_of-number.result))
     c.self.inside.ready.order) waits) where
-  chosen : (b : Bool) (l : NumberOrder) → (cond b record l { order = remove l.order (number_place l.order c.number_of-number.result) } l).order
-      ≡ cond b (remove l.order (number_place l.order c.number_of-number.result)) l.order
-  chosen true l = refl
-  chosen false l = refl
+      chosen : (b : Bool) (l : NumberOrder) → (cond b record l { order = remove l.order (number_place l.order c.number_of-number.result) } l).order
+          ≡ cond b (remove l.order (number_place l.order c.number_of-number.result)) l.order
+      chosen true l = refl
+      chosen false l = refl
 
 pub standing_of-requires-clause-counts : goal.standing_of-requires-clause-counts
 standing_of-requires-clause-counts c = (at (goal.at.standing_of-requires-clause-counts c).After-number_of-number).its.counts
@@ -100,10 +100,10 @@ invariant_of-self c =
       ready_takes = λ some. let it = held.ready_takes some in omega (arith, it, ready);
       stopped_takes = held.stopped_takes;
     } where
-  same_bound : (b : Bool) (l : NumberOrder) → (cond b record l { order = remove l.order (number_place l.order c.number_of-number.result) } l).bound
-      ≡ l.bound
-  same_bound true l = refl
-  same_bound false l = refl
+      same_bound : (b : Bool) (l : NumberOrder) → (cond b record l { order = remove l.order (number_place l.order c.number_of-number.result) } l).bound
+          ≡ l.bound
+      same_bound true l = refl
+      same_bound false l = refl
 
 pub returns-clause-lists : goal.returns-clause-lists
 returns-clause-lists c =

@@ -47,6 +47,9 @@ returns-clause-within c =
 
 pub returns-clause-few : goal.returns-clause-few
 returns-clause-few c =
-    omega (arith, few_waiting (parts_of c.self.inside) c.self.invariant.parts_are,
-    length-map c.self.inside.waiting.order (queued_download c.self.inside.added.items c.self.inside.standings.items),
-    ap (λ (v : QueueLists). length v.waiting) c.self.view_is)
+    omega (
+      arith,
+      few_waiting (parts_of c.self.inside) c.self.invariant.parts_are,
+      length-map c.self.inside.waiting.order (queued_download c.self.inside.added.items c.self.inside.standings.items),
+      ap (λ (v : QueueLists). length v.waiting) c.self.view_is,
+    )
