@@ -17,7 +17,7 @@ use Rattle.dl_queue.specs.Lists.{QueueLists}
 use Rattle.dl_queue.specs.Endings.{ending_by_standing}
 use Rattle.dl_queue.specs.Places.{status_of}
 use Rattle.dl_queue.specs.Calls.{added_place, was_added}
-use Rattle.dl_queue.specs.Held.{number_in, gid_at, standing_at, stands_active, stands_queued, stands_ready, stands_stopped, queued_download, stopped_download, QueueParts, lists_of, AreParts, AreNumbersOf}
+use Rattle.dl_queue.specs.Held.{number_in, gid_numbered, standing_at, stands_active, stands_queued, stands_ready, stands_stopped, queued_download, stopped_download, QueueParts, lists_of, AreParts, AreNumbersOf}
 use Rattle.dl_queue.proofs.Standing.{IsNumber, number_is, status_is, active_numbers, waiting_numbers, stopped_numbers, of_added}
 use Rattle.dl_queue.proofs.Moves.{map_same, filter_same}
 use Rattle.dl_queue.proofs.Steps.{same_lists}
@@ -63,13 +63,13 @@ place_new (d ∷ added) new fresh = step (d.gid.0 == new.gid.0) refl fresh (plac
       let more = rest (le-ltb (added_place new.gid added) (length added) (omega (arith, most))) in
       omega (arith, here, more)
 
-gid_kept : (added : List Added) (new : Added) (n : ℕ) → 0 < n → n ≤ length added → gid_at (added ++ new ∷ []) n ≡ gid_at added n
+gid_kept : (added : List Added) (new : Added) (n : ℕ) → 0 < n → n ≤ length added → gid_numbered (added ++ new ∷ []) n ≡ gid_numbered added n
 gid_kept added new n counts within =
     ap (λ l. get_or l (n - 1) record { 0 = 0 }) (map-append (λ (d : Added). d.gid) added (new ∷ []))
     ∙ got_push (map (λ (d : Added). d.gid) added) new.gid record { 0 = 0 } (n - 1)
     (omega (arith, counts, within, length-map added (λ (d : Added). d.gid)))
 
-gid_new : (added : List Added) (new : Added) → gid_at (added ++ new ∷ []) (length added + 1) ≡ new.gid
+gid_new : (added : List Added) (new : Added) → gid_numbered (added ++ new ∷ []) (length added + 1) ≡ new.gid
 gid_new added new =
     let one : length added + 1 - 1 ≡ length (map (λ (d : Added). d.gid) added) = omega (arith, length-map added (λ (d : Added). d.gid)) in
     ap (λ l. get_or l (length added + 1 - 1) record { 0 = 0 }) (map-append (λ (d : Added). d.gid) added (new ∷ []))
@@ -109,20 +109,20 @@ pub record Registered (limit : ℕ) (new : QueueParts) (lists : QueueLists) (gid
   pub status : status_of (lists_of limit new) gid ≡ None
 
 apart_tested : (b : Bool) (added : List Added) (new : Added) (n : ℕ) → was_added added new.gid ≡ false
-    → ((m : ℕ) → 0 < m → m ≤ length added → added_place (gid_at added m) added + 1 ≡ m)
+    → ((m : ℕ) → 0 < m → m ≤ length added → added_place (gid_numbered added m) added + 1 ≡ m)
     → 0 < n → n ≤ length (added ++ new ∷ []) → nat_lt (length added) n ≡ b
-    → added_place (gid_at (added ++ new ∷ []) n) (added ++ new ∷ []) + 1 ≡ n
+    → added_place (gid_numbered (added ++ new ∷ []) n) (added ++ new ∷ []) + 1 ≡ n
 apart_tested true added new n fresh apart counts within is =
     let past = ltb-true (length added) n is in
     let one : n ≡ length added + 1 = omega (arith, past, within, length-append added (new ∷ [])) in
-    let gid = ap (gid_at (added ++ new ∷ [])) one ∙ gid_new added new in
+    let gid = ap (gid_numbered (added ++ new ∷ [])) one ∙ gid_new added new in
     let place = ap (λ g. added_place g (added ++ new ∷ [])) gid ∙ place_new added new fresh in
     omega (arith, place, one)
 apart_tested false added new n fresh apart counts within is =
     let most = ltb-false (length added) n is in
     let old = apart n counts most in
-    let there : added_place (gid_at added n) added < length added = omega (arith, old, most) in
-    let place = ap (λ g. added_place g (added ++ new ∷ [])) (gid_kept added new n counts most) ∙ place_kept added new (gid_at added n) there in
+    let there : added_place (gid_numbered added n) added < length added = omega (arith, old, most) in
+    let place = ap (λ g. added_place g (added ++ new ∷ [])) (gid_kept added new n counts most) ∙ place_kept added new (gid_numbered added n) there in
     omega (arith, place, old)
 
 pub registered : (limit : ℕ) (parts : QueueParts) (new : Added) → AreParts parts → was_added parts.added new.gid ≡ false
@@ -135,7 +135,7 @@ registered limit parts new are fresh room =
     let len = length-append parts.added (new ∷ []) in
     let same : (m : ℕ) → standing_at standings m ≡ standing_at parts.standings m = λ m. got_none parts.standings (m - 1) in
     let gid_same : (numbers : List ℕ) → AreNumbersOf parts.standings numbers → (m : ℕ) → lists_number numbers m ≡ true
-    → gid_at added m ≡ gid_at parts.added m = λ numbers their m listed.
+    → gid_numbered added m ≡ gid_numbered parts.added m = λ numbers their m listed.
     let it = of_added parts are numbers their m listed in gid_kept parts.added new m it.0 it.1 in
     let now : QueueParts = record parts { added = added; standings = standings } in
     let parts_are : AreParts now = record {
@@ -159,15 +159,15 @@ registered limit parts new are fresh room =
     record {
       parts_are = parts_are;
       lists_are = same_lists limit added _ _ _ _ _ _
-          (map_same (gid_at added) (gid_at parts.added) parts.active (gid_same parts.active (active_numbers parts are)))
+          (map_same (gid_numbered added) (gid_numbered parts.added) parts.active (gid_same parts.active (active_numbers parts are)))
           (map_same (queued_download added standings) (queued_download parts.added parts.standings) parts.waiting (λ m listed.
           ap (λ (g : Gid). let q : Queued = record { gid = g; paused = not (stands_ready (standing_at standings m)) } in q)
           (gid_same parts.waiting (waiting_numbers parts are) m listed)
-          ∙ ap (λ s. let q : Queued = record { gid = gid_at parts.added m; paused = not (stands_ready s) } in q) (same m)))
+          ∙ ap (λ s. let q : Queued = record { gid = gid_numbered parts.added m; paused = not (stands_ready s) } in q) (same m)))
           (map_same (stopped_download added standings) (stopped_download parts.added parts.standings) parts.stopped (λ m listed.
           ap (λ (g : Gid). let d : Stopped = record { gid = g; ending = ending_by_standing (standing_at standings m) } in d)
           (gid_same parts.stopped (stopped_numbers parts are) m listed)
-          ∙ ap (λ s. let d : Stopped = record { gid = gid_at parts.added m; ending = ending_by_standing s } in d) (same m)));
+          ∙ ap (λ s. let d : Stopped = record { gid = gid_numbered parts.added m; ending = ending_by_standing s } in d) (same m)));
       known = known;
       status = status_is limit now parts_are new.gid (length parts.added + 1) (number_is added new.gid (length parts.added + 1) number)
           ∙ same (length parts.added + 1) ∙ past parts.standings (length parts.added + 1 - 1) (omega (arith, are.many));

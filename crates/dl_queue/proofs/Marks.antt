@@ -10,7 +10,7 @@ use Rattle.dl_queue.specs.declared.kinds.Stopped.{Stopped}
 use Rattle.dl_queue.specs.Lists.{QueueLists}
 use Rattle.dl_queue.specs.Endings.{ending_by_standing}
 use Rattle.dl_queue.specs.Calls.{as_paused}
-use Rattle.dl_queue.specs.Held.{gid_at, standing_at, stands_active, stands_queued, stands_ready, stands_stopped, queued_download, stopped_download, QueueParts, lists_of, AreParts, AreNumbersOf}
+use Rattle.dl_queue.specs.Held.{gid_numbered, standing_at, stands_active, stands_queued, stands_ready, stands_stopped, queued_download, stopped_download, QueueParts, lists_of, AreParts, AreNumbersOf}
 use Rattle.dl_queue.proofs.Numbers.{first_listed, rest_listed}
 use Rattle.dl_queue.proofs.Standing.{active_numbers, waiting_numbers, stopped_numbers}
 use Rattle.dl_queue.proofs.Moves.{map_same, filter_same}
@@ -111,11 +111,11 @@ waiting_marked limit parts standings ready status are len marked queued active s
       lists_are = same_lists limit parts.added _ _ _ _ _ _ refl
           (map_same (queued_download parts.added standings)
           (λ m. as_paused (not (stands_ready (Some status))) (queued_download parts.added parts.standings m)) parts.waiting
-          (λ m listed. ap (λ t. let q : Queued = record { gid = gid_at parts.added m; paused = not (stands_ready t) } in q)
+          (λ m listed. ap (λ t. let q : Queued = record { gid = gid_numbered parts.added m; paused = not (stands_ready t) } in q)
           (marked_so parts.standings standings parts.waiting (Some status) m marked (waiting_numbers parts are m listed).0 listed))
           ∙ sym (map_of_map (as_paused (not (stands_ready (Some status)))) (queued_download parts.added parts.standings) parts.waiting))
           (map_same (stopped_download parts.added standings) (stopped_download parts.added parts.standings) parts.stopped
-          (λ m listed. ap (λ t. let d : Stopped = record { gid = gid_at parts.added m; ending = ending_by_standing t } in d)
+          (λ m listed. ap (λ t. let d : Stopped = record { gid = gid_numbered parts.added m; ending = ending_by_standing t } in d)
           (unmarked parts.standings standings parts.waiting (Some status) m marked (stopped_numbers parts are m listed).0
           (not_waiting_stopped m listed))));
     }
@@ -174,6 +174,6 @@ all_gone limit parts standings are len marked =
       };
       lists_are = same_lists limit parts.added _ _ _ _ _ _ refl
           (map_same (queued_download parts.added standings) (queued_download parts.added parts.standings) parts.waiting
-          (λ m listed. ap (λ t. let q : Queued = record { gid = gid_at parts.added m; paused = not (stands_ready t) } in q) (stays m listed)))
+          (λ m listed. ap (λ t. let q : Queued = record { gid = gid_numbered parts.added m; paused = not (stands_ready t) } in q) (stays m listed)))
           refl;
     }

@@ -15,7 +15,7 @@ use Rattle.dl_queue.specs.declared.kinds.Stopped.{Stopped}
 use Rattle.dl_queue.specs.Lists.{QueueLists}
 use Rattle.dl_queue.specs.Endings.{ending_by_standing}
 use Rattle.dl_queue.specs.Places.{active_place, queued_place, stopped_place, status_of}
-use Rattle.dl_queue.specs.Held.{gid_at, standing_at, stands_active, stands_queued, stands_ready, stands_stopped, queued_download, stopped_download, QueueParts, lists_of, AreParts, AreNumbersOf}
+use Rattle.dl_queue.specs.Held.{gid_numbered, standing_at, stands_active, stands_queued, stands_ready, stands_stopped, queued_download, stopped_download, QueueParts, lists_of, AreParts, AreNumbersOf}
 use Rattle.dl_queue.proofs.Numbers.{first_listed, rest_listed, neither, either_left, either_right, marked_there, marked_elsewhere}
 use Rattle.dl_queue.proofs.Standing.{IsNumber, active_numbers, waiting_numbers, stopped_numbers, active_place_is, queued_place_is, stopped_place_is, status_is}
 
@@ -119,7 +119,7 @@ pub queued_same : (added : List Added) (standings : List (Option Status)) (n : �
     → map (queued_download added (set standings (n - 1) standing)) numbers ≡ map (queued_download added standings) numbers
 queued_same added standings n standing numbers counts their fresh =
     map_same (queued_download added (set standings (n - 1) standing)) (queued_download added standings) numbers
-    (λ m listed. ap (λ s. let q : Queued = record { gid = gid_at added m; paused = not (stands_ready s) } in q)
+    (λ m listed. ap (λ s. let q : Queued = record { gid = gid_numbered added m; paused = not (stands_ready s) } in q)
     (others_stay standings n standing numbers counts their fresh m listed))
 
 pub stopped_same : (added : List Added) (standings : List (Option Status)) (n : ℕ) (standing : Option Status) (numbers : List ℕ) → 0 < n
@@ -127,7 +127,7 @@ pub stopped_same : (added : List Added) (standings : List (Option Status)) (n : 
     → map (stopped_download added (set standings (n - 1) standing)) numbers ≡ map (stopped_download added standings) numbers
 stopped_same added standings n standing numbers counts their fresh =
     map_same (stopped_download added (set standings (n - 1) standing)) (stopped_download added standings) numbers
-    (λ m listed. ap (λ s. let d : Stopped = record { gid = gid_at added m; ending = ending_by_standing s } in d)
+    (λ m listed. ap (λ s. let d : Stopped = record { gid = gid_numbered added m; ending = ending_by_standing s } in d)
     (others_stay standings n standing numbers counts their fresh m listed))
 
 pub ready_same : (standings : List (Option Status)) (n : ℕ) (standing : Option Status) (numbers : List ℕ) → 0 < n

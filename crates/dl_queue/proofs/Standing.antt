@@ -14,14 +14,14 @@ use Rattle.dl_queue.specs.declared.kinds.Stopped.{Stopped}
 use Rattle.dl_queue.specs.Endings.{ended_status, ending_by_status, ending_by_standing}
 use Rattle.dl_queue.specs.Places.{is_gid, is_queued, is_stopped, active_place, queued_place, stopped_place, queued_at, stopped_at, queued_status, status_of}
 use Rattle.dl_queue.specs.Calls.{added_place, was_added}
-use Rattle.dl_queue.specs.Held.{number_in, gid_at, standing_at, stands_active, stands_queued, stands_ready, stands_stopped, queued_download, stopped_download, QueueParts, lists_of, AreParts, AreNumbersOf}
+use Rattle.dl_queue.specs.Held.{number_in, gid_numbered, standing_at, stands_active, stands_queued, stands_ready, stands_stopped, queued_download, stopped_download, QueueParts, lists_of, AreParts, AreNumbersOf}
 use Rattle.dl_queue.proofs.Numbers.{first_listed, rest_listed, neither, either_left, either_right}
 
 -- the gid of a number
 pub record IsNumber (added : List Added) (gid : Gid) (number : ℕ) : Type 0 where
   pub counts : 0 < number
   pub within : number ≤ length added
-  pub gid_is : gid_at added number ≡ gid
+  pub gid_is : gid_numbered added number ≡ gid
 
 pub same_gid : (a b : Gid) → a.0 ≡ b.0 → a ≡ b
 same_gid a b same = ap (λ (k : ℕ). let g : Gid = record { 0 = k } in g) same
@@ -61,15 +61,15 @@ number_is added gid number is = number_tested (was_added added gid) added gid nu
 
 -- two numbers are one where their gids are
 pub same_number : (added : List Added)
-    → ((number : ℕ) → 0 < number → number ≤ length added → added_place (gid_at added number) added + 1 ≡ number)
+    → ((number : ℕ) → 0 < number → number ≤ length added → added_place (gid_numbered added number) added + 1 ≡ number)
     → (m n : ℕ) → 0 < m → m ≤ length added → 0 < n → n ≤ length added
-    → ((gid_at added m).0 == (gid_at added n).0) ≡ (n == m)
+    → ((gid_numbered added m).0 == (gid_numbered added n).0) ≡ (n == m)
 same_number added apart m n m_counts m_within n_counts n_within = tested (n == m) refl where
-  tested : (b : Bool) → (n == m) ≡ b → ((gid_at added m).0 == (gid_at added n).0) ≡ b
+  tested : (b : Bool) → (n == m) ≡ b → ((gid_numbered added m).0 == (gid_numbered added n).0) ≡ b
   tested true test =
-      eq-eqb (gid_at added m).0 (gid_at added n).0 (ap (λ k. (gid_at added k).0) (sym (eqb-true n m test)))
-  tested false test = ne_eqb (gid_at added m).0 (gid_at added n).0 (λ same.
-      let one = ap (λ (g : Gid). added_place g added) (same_gid (gid_at added m) (gid_at added n) same) in
+      eq-eqb (gid_numbered added m).0 (gid_numbered added n).0 (ap (λ k. (gid_numbered added k).0) (sym (eqb-true n m test)))
+  tested false test = ne_eqb (gid_numbered added m).0 (gid_numbered added n).0 (λ same.
+      let one = ap (λ (g : Gid). added_place g added) (same_gid (gid_numbered added m) (gid_numbered added n) same) in
       eqb-false n m test (omega (arith, one, apart m m_counts m_within, apart n n_counts n_within)))
 
 -- places in a list of what numbers stand for
@@ -153,16 +153,16 @@ stopped_numbers parts are = are_numbers stands_stopped parts.standings parts.sto
 -- the gids of listed numbers are apart
 pub tells_number : (parts : QueueParts) → AreParts parts → (gid : Gid) (n : ℕ) → IsNumber parts.added gid n → (numbers : List ℕ)
     → AreNumbersOf parts.standings numbers → (m : ℕ) → lists_number numbers m ≡ true
-    → ((gid_at parts.added m).0 == gid.0) ≡ (n == m)
+    → ((gid_numbered parts.added m).0 == gid.0) ≡ (n == m)
 tells_number parts are gid n its numbers their m listed =
     let it = of_added parts are numbers their m listed in
-    ap (λ (g : Gid). (gid_at parts.added m).0 == g.0) (sym its.gid_is)
+    ap (λ (g : Gid). (gid_numbered parts.added m).0 == g.0) (sym its.gid_is)
     ∙ same_number parts.added are.apart m n it.0 it.1 its.counts its.within
 
 pub active_place_is : (parts : QueueParts) → AreParts parts → (gid : Gid) (n : ℕ) → IsNumber parts.added gid n
-    → active_place gid (map (gid_at parts.added) parts.active) ≡ number_place parts.active n
+    → active_place gid (map (gid_numbered parts.added) parts.active) ≡ number_place parts.active n
 active_place_is parts are gid n its =
-    place_of_map (is_gid gid) (gid_at parts.added) n parts.active
+    place_of_map (is_gid gid) (gid_numbered parts.added) n parts.active
     (tells_number parts are gid n its parts.active (active_numbers parts are))
 
 pub queued_place_is : (parts : QueueParts) → AreParts parts → (gid : Gid) (n : ℕ) → IsNumber parts.added gid n
@@ -223,7 +223,7 @@ status_is limit parts are gid n its =
     picked s (nat_lt (active_place gid lists.active) (length lists.active)) (nat_lt (queued_place gid lists.waiting) (length lists.waiting))
     (nat_lt (stopped_place gid lists.stopped) (length lists.stopped)) q e
     (ap (λ k. nat_lt k (length lists.active)) (active_place_is parts are gid n its)
-    ∙ place_tells (gid_at parts.added) parts.active n ∙ are.active_are n its.counts)
+    ∙ place_tells (gid_numbered parts.added) parts.active n ∙ are.active_are n its.counts)
     (ap (λ k. nat_lt k (length lists.waiting)) w_place ∙ place_tells queued parts.waiting n ∙ are.waiting_are n its.counts)
     (ap (λ k. nat_lt k (length lists.stopped)) t_place ∙ place_tells stopped parts.stopped n ∙ are.stopped_are n its.counts)
     (λ stands. ap (λ (d : Queued). d.paused) (ap (λ k. queued_at gid lists.waiting k) w_place
@@ -233,13 +233,13 @@ status_is limit parts are gid n its =
 
 -- a download that wasn't added stands nowhere
 nowhere : (added : List Added) (gid : Gid) (numbers : List ℕ)
-    → ((number : ℕ) → 0 < number → number ≤ length added → added_place (gid_at added number) added + 1 ≡ number)
+    → ((number : ℕ) → 0 < number → number ≤ length added → added_place (gid_numbered added number) added + 1 ≡ number)
     → AreNumbersOf added numbers → was_added added gid ≡ false → (m : ℕ) → lists_number numbers m ≡ true
-    → ((gid_at added m).0 == gid.0) ≡ false
-nowhere added gid numbers apart their fresh m listed = ne_eqb (gid_at added m).0 gid.0 (λ same.
+    → ((gid_numbered added m).0 == gid.0) ≡ false
+nowhere added gid numbers apart their fresh m listed = ne_eqb (gid_numbered added m).0 gid.0 (λ same.
     let it = their m listed in
     let one = apart m it.0 it.1 in
-    let place = ap (λ (g : Gid). added_place g added) (same_gid (gid_at added m) gid same) in
+    let place = ap (λ (g : Gid). added_place g added) (same_gid (gid_numbered added m) gid same) in
     let past = ltb-false (added_place gid added) (length added) fresh in
     omega (arith, one, place, past, it.1))
 
@@ -262,7 +262,7 @@ no_status limit parts are gid is =
     (nat_lt (queued_place gid lists.waiting) (length lists.waiting))
     (nat_lt (stopped_place gid lists.stopped) (length lists.stopped))
     (queued_at gid lists.waiting (queued_place gid lists.waiting)) (stopped_at gid lists.stopped (stopped_place gid lists.stopped))
-    (none_stands (is_gid gid) (gid_at parts.added) parts.active
+    (none_stands (is_gid gid) (gid_numbered parts.added) parts.active
     (nowhere parts.added gid parts.active are.apart (of_added parts are parts.active (active_numbers parts are)) fresh))
     (none_stands (is_queued gid) (queued_download parts.added parts.standings) parts.waiting
     (nowhere parts.added gid parts.waiting are.apart (of_added parts are parts.waiting (waiting_numbers parts are)) fresh))

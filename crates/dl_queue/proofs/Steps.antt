@@ -18,7 +18,7 @@ use Rattle.dl_queue.specs.Lists.{QueueLists}
 use Rattle.dl_queue.specs.Endings.{ending_by_standing, ended_status}
 use Rattle.dl_queue.specs.Places.{active_place, queued_place, stopped_place, status_of}
 use Rattle.dl_queue.specs.Calls.{with_pause}
-use Rattle.dl_queue.specs.Held.{gid_at, standing_at, stands_active, stands_queued, stands_ready, stands_stopped, queued_download, stopped_download, QueueParts, lists_of, AreParts, AreNumbersOf}
+use Rattle.dl_queue.specs.Held.{gid_numbered, standing_at, stands_active, stands_queued, stands_ready, stands_stopped, queued_download, stopped_download, QueueParts, lists_of, AreParts, AreNumbersOf}
 use Rattle.dl_queue.proofs.Numbers.{first_listed, rest_listed, neither, either_left, either_right, marked_there}
 use Rattle.dl_queue.proofs.Standing.{IsNumber, active_numbers, waiting_numbers, stopped_numbers, active_place_is, queued_place_is, stopped_place_is, status_is}
 use Rattle.dl_queue.proofs.Moves.{map_same, filter_same, map_removed, map_inserted, stays, other_number, others_stay, are_kept, are_less, are_more, queued_same, stopped_same, ready_same}
@@ -88,8 +88,8 @@ left_active limit parts gid n active at status is apart listed =
     record {
       parts_are = new;
       lists_are = same_lists limit parts.added _ _ _ _ _ _
-          (ap (map (gid_at parts.added)) is ∙ map_removed (gid_at parts.added) parts.active (number_place parts.active n)
-          ∙ ap (remove (map (gid_at parts.added) parts.active)) (sym (active_place_is parts are gid n at.its)))
+          (ap (map (gid_numbered parts.added)) is ∙ map_removed (gid_numbered parts.added) parts.active (number_place parts.active n)
+          ∙ ap (remove (map (gid_numbered parts.added) parts.active)) (sym (active_place_is parts are gid n at.its)))
           (queued_same parts.added parts.standings n None parts.waiting counts (waiting_numbers parts are) not_waiting)
           (stopped_same parts.added parts.standings n None parts.stopped counts (stopped_numbers parts are) not_stopped);
       status = stands_now limit parts record parts { active = active; standings = set parts.standings (n - 1) None } gid n None at new refl refl;
@@ -245,8 +245,8 @@ came_active limit parts gid n active at status is apart listed =
     record {
       parts_are = new;
       lists_are = same_lists limit parts.added _ _ _ _ _ _
-          (ap (map (gid_at parts.added)) is ∙ map-append (gid_at parts.added) parts.active (n ∷ [])
-          ∙ ap (λ g. map (gid_at parts.added) parts.active ++ g ∷ []) at.its.gid_is)
+          (ap (map (gid_numbered parts.added)) is ∙ map-append (gid_numbered parts.added) parts.active (n ∷ [])
+          ∙ ap (λ g. map (gid_numbered parts.added) parts.active ++ g ∷ []) at.its.gid_is)
           (queued_same parts.added parts.standings n (Some Active) parts.waiting counts (waiting_numbers parts are) not_waiting)
           (stopped_same parts.added parts.standings n (Some Active) parts.stopped counts (stopped_numbers parts are) not_stopped);
       status = stands_now limit parts record parts { active = active; standings = set parts.standings (n - 1) (Some Active) }
@@ -457,7 +457,7 @@ paused_there limit parts gid n ready at status is =
       parts_are = new;
       lists_are = same_lists limit parts.added _ _ _ _ _ _ refl
           (map_set f g parts.waiting n are.waiting_apart.1 there
-          (λ m here other. ap (λ s. let q : Queued = record { gid = gid_at parts.added m; paused = not (stands_ready s) } in q) (others m here other))
+          (λ m here other. ap (λ s. let q : Queued = record { gid = gid_numbered parts.added m; paused = not (stands_ready s) } in q) (others m here other))
           ∙ ap (λ k. set (map g parts.waiting) k (f n)) (sym (queued_place_is parts are gid n at.its))
           ∙ ap (λ d. set (map g parts.waiting) (queued_place gid (map g parts.waiting)) d) paused_n)
           (stopped_same parts.added parts.standings n standing parts.stopped counts (stopped_numbers parts are) not_stopped);

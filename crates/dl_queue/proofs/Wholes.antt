@@ -21,7 +21,7 @@ use Rattle.dl_queue.specs.declared.named.Named.{Named}
 use Rattle.dl_queue.specs.Lists.{QueueLists}
 use Rattle.dl_queue.specs.Places.{is_ready, active_place, queued_place, stopped_place, status_of}
 use Rattle.dl_queue.specs.Calls.{names_gid, count_named, added_place, was_added}
-use Rattle.dl_queue.specs.Held.{number_in, gid_at, standing_at, stands_active, stands_queued, stands_ready, stands_stopped, queued_download, stopped_download, QueueParts, lists_of, AreParts, AreNumbersOf}
+use Rattle.dl_queue.specs.Held.{number_in, gid_numbered, standing_at, stands_active, stands_queued, stands_ready, stands_stopped, queued_download, stopped_download, QueueParts, lists_of, AreParts, AreNumbersOf}
 use Rattle.dl_queue.specs.Named.{AreNamed, IsListedNamed, AreNamedIn, IsNamedIn}
 use Rattle.dl_queue.specs.NextUp.{MovesUp, StandsLast}
 use Rattle.dl_queue.proofs.Numbers.{first_listed, rest_listed, neither, either_left, either_right}
@@ -80,7 +80,7 @@ count_of_map p f (y ∷ numbers) =
     ∙ sym (sum_by-cons (λ m. cond (p (f m)) 1 0) y numbers)
 
 number_of_its_gid : (parts : QueueParts) → AreParts parts → (numbers : List ℕ) → AreNumbersOf parts.standings numbers → (n : ℕ)
-    → lists_number numbers n ≡ true → IsNumber parts.added (gid_at parts.added n) n
+    → lists_number numbers n ≡ true → IsNumber parts.added (gid_numbered parts.added n) n
 number_of_its_gid parts are numbers their n listed =
     let it = of_added parts are numbers their n listed in
     record { counts = it.0; within = it.1; gid_is = refl }
@@ -97,7 +97,7 @@ named_stands limit parts are key test numbers none their listed n its =
     let number = number_of_its_gid parts are numbers their n its.listed in
     record {
       named = its.named;
-      status = subst (λ (s : Option Status). IsSome s) (sym (status_is limit parts are (gid_at parts.added n) n number))
+      status = subst (λ (s : Option Status). IsSome s) (sym (status_is limit parts are (gid_numbered parts.added n) n number))
           (some_standing test none (standing_at parts.standings n) (sym (listed n number.counts) ∙ its.listed));
       counts = number.counts;
       within = number.within;
@@ -128,7 +128,7 @@ one_of None None P Q R first second one other = tt
 pub named_count : (added : List Added) (key : GidKey) (numbers : List ℕ) (found : Named) → AreNamed added key numbers found
     → found.count ≤ length numbers
 named_count added key numbers found its =
-    let most = count_by-le-length (λ m. names_gid key (gid_at added m)) numbers in omega (arith, its.count, most)
+    let most = count_by-le-length (λ m. names_gid key (gid_numbered added m)) numbers in omega (arith, its.count, most)
 
 pub all_in_queue : (limit : ℕ) (parts : QueueParts) → AreParts parts → (key : GidKey) (active queued stopped unfinished found : Named)
     → AreNamed parts.added key parts.active active → AreNamed parts.added key parts.waiting queued
@@ -155,7 +155,7 @@ all_in_queue limit parts are key active queued stopped unfinished found first se
         first.count,
         second.count,
         third.count,
-        count_of_map (names_gid key) (gid_at parts.added) parts.active,
+        count_of_map (names_gid key) (gid_numbered parts.added) parts.active,
         count_of_map (λ (d : Queued). names_gid key d.gid) (queued_download parts.added parts.standings) parts.waiting,
         count_of_map (λ (d : Stopped). names_gid key d.gid) (stopped_download parts.added parts.standings) parts.stopped,
       );
@@ -240,7 +240,7 @@ added_of : (added : List Added) (gid : Gid) (n : ℕ) → IsNumber added gid n �
 added_of added gid n its place = lt-ltb (added_place gid added) (length added) (omega (arith, place, its.within))
 
 pub moves_up : (limit : ℕ) (parts : QueueParts) → AreParts parts → (n : ℕ) → slice_get parts.ready 0 ≡ Some n
-    → MovesUp (lists_of limit parts) (gid_at parts.added n)
+    → MovesUp (lists_of limit parts) (gid_numbered parts.added n)
 moves_up limit parts are n is =
     let p = λ (m : ℕ). stands_ready (standing_at parts.standings m) in
     let first = ap (λ l. slice_get l 0) (sym are.ready_are) ∙ is in
@@ -249,12 +249,12 @@ moves_up limit parts are n is =
     (λ m. not_not (stands_ready (standing_at parts.standings m))) first in
     let listed = first_listed_in p parts.waiting n first in
     let number = number_of_its_gid parts are parts.waiting (waiting_numbers parts are) n listed in
-    let its_place = queued_place_is parts are (gid_at parts.added n) n number in
+    let its_place = queued_place_is parts are (gid_numbered parts.added n) n number in
     let tells = ltb-true (number_place parts.waiting n) (length (map (queued_download parts.added parts.standings) parts.waiting))
     (place_tells (queued_download parts.added parts.standings) parts.waiting n ∙ listed) in
     record {
-      known = added_of parts.added (gid_at parts.added n) n number (are.apart n number.counts number.within);
-      stands = status_is limit parts are (gid_at parts.added n) n number ∙ waits (standing_at parts.standings n) passes;
+      known = added_of parts.added (gid_numbered parts.added n) n number (are.apart n number.counts number.within);
+      stands = status_is limit parts are (gid_numbered parts.added n) n number ∙ waits (standing_at parts.standings n) passes;
       place = its_place ∙ sym place;
       within = omega (arith, place, tells);
     } where
@@ -308,11 +308,11 @@ last_apart (y ∷ z ∷ numbers) n apart is =
     ∙ ap (λ l. y ∷ l) (last_apart (z ∷ numbers) n apart.1 last)
 
 pub stands_last : (limit : ℕ) (parts : QueueParts) → AreParts parts → (n : ℕ)
-    → slice_get parts.active (length parts.active - 1) ≡ Some n → StandsLast (lists_of limit parts) (gid_at parts.added n)
+    → slice_get parts.active (length parts.active - 1) ≡ Some n → StandsLast (lists_of limit parts) (gid_numbered parts.added n)
 stands_last limit parts are n is =
     let listed = got_listed parts.active (length parts.active - 1) n is in
     let number = number_of_its_gid parts are parts.active (active_numbers parts are) n listed in
-    let gid = gid_at parts.added in
+    let gid = gid_numbered parts.added in
     record {
       known = added_of parts.added (gid n) n number (are.apart n number.counts number.within);
       stands = status_is limit parts are (gid n) n number

@@ -19,8 +19,8 @@ use Rattle.dl_queue.specs.Calls.{added_place, was_added}
 abbrev pub number_in : List Added → Gid → Option ℕ
 number_in added gid = if was_added added gid then Some (added_place gid added + 1) else None
 
-abbrev pub gid_at : List Added → ℕ → Gid
-gid_at added number = slice_index_or (map (λ download. download.gid) added) (number - 1) record { 0 = 0 }
+abbrev pub gid_numbered : List Added → ℕ → Gid
+gid_numbered added number = slice_index_or (map (λ download. download.gid) added) (number - 1) record { 0 = 0 }
 
 -- where a download stands, or None where it is in no list
 abbrev pub standing_at : List (Option Status) → ℕ → Option Status
@@ -48,11 +48,11 @@ stands_stopped standing = false
 -- the downloads of lists of numbers
 abbrev pub queued_download : List Added → List (Option Status) → ℕ → Queued
 queued_download added standings number =
-    record { gid = gid_at added number; paused = not (stands_ready (standing_at standings number)) }
+    record { gid = gid_numbered added number; paused = not (stands_ready (standing_at standings number)) }
 
 abbrev pub stopped_download : List Added → List (Option Status) → ℕ → Stopped
 stopped_download added standings number =
-    record { gid = gid_at added number; ending = ending_by_standing (standing_at standings number) }
+    record { gid = gid_numbered added number; ending = ending_by_standing (standing_at standings number) }
 
 -- each number is of an element of the list, counted from 1
 abbrev pub AreNumbersOf : {X : Type 0} → List X → List ℕ → Type 0
@@ -72,7 +72,7 @@ pub record QueueParts : Type 0 where
 abbrev pub lists_of : ℕ → QueueParts → QueueLists
 lists_of limit parts = record {
   limit = limit;
-  active = map (gid_at parts.added) parts.active;
+  active = map (gid_numbered parts.added) parts.active;
   waiting = map (queued_download parts.added parts.standings) parts.waiting;
   stopped = map (stopped_download parts.added parts.standings) parts.stopped;
   added = parts.added;
@@ -85,7 +85,7 @@ pub record AreParts (parts : QueueParts) : Type 0 where
   pub waiting_apart : NoneTwice (0 ∷ parts.waiting)
   pub stopped_apart : NoneTwice (0 ∷ parts.stopped)
   pub apart : (number : ℕ) → 0 < number → number ≤ length parts.added
-      → added_place (gid_at parts.added number) parts.added + 1 ≡ number
+      → added_place (gid_numbered parts.added number) parts.added + 1 ≡ number
   pub active_are : (number : ℕ) → 0 < number
       → lists_number parts.active number ≡ stands_active (standing_at parts.standings number)
   pub waiting_are : (number : ℕ) → 0 < number
@@ -103,7 +103,7 @@ pub record IsWider (old new : NumberOrder) : Type 0 where
   pub order : new.order ≡ old.order
   pub bound : old.bound ≤ new.bound
 
-pub record AreHeld (parts : QueueParts) (numbers : BTreeMap ℕ ℕ) (active waiting ready stopped : ℕ) : Type 0 where
+pub record HoldsLists (parts : QueueParts) (numbers : BTreeMap ℕ ℕ) (active waiting ready stopped : ℕ) : Type 0 where
   pub parts_are : AreParts parts
   pub numbers_are : (gid : Gid) → get nat_cmp numbers gid.0 ≡ number_in parts.added gid
   pub active_takes : TakesAll parts.added active

@@ -73,7 +73,8 @@ impl Queue {
     fn let_wait(&mut self, gid: Gid)
         requires known { was_added self.old.added gid ≡ true }
         requires stands { status_of self.old gid ≡ Some Paused }
-        ensures { self.new ≡ moved_up (record self.old { waiting = with_pause false gid self.old.waiting }) }
+        ensures { self.new
+            ≡ moved_up (record self.old { waiting = with_pause false gid self.old.waiting }) }
     {
         let place = self.place(gid);
         self.leave_waiting(gid);
@@ -210,7 +211,8 @@ impl Queue {
         requires known { was_added self.old.added gid ≡ true }
         requires stands { stands_queued (status_of self.old gid) ≡ true }
         ensures place { result ≡ target_of self.old.waiting gid position how }
-        ensures state { self.new ≡ moved_up (effect self.old (QueueCall.ChangePosition gid position how)) }
+        ensures state { self.new
+            ≡ moved_up (effect self.old (QueueCall.ChangePosition gid position how)) }
     {
         let target = self.target_place(gid, position, how);
         let paused = self.is_paused(gid);

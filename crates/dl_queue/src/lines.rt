@@ -1,7 +1,7 @@
 // Loops over lists of numbers, and what is kept of a number.
 ghost use Rattle.std.specs.Prelude.{◌≡◌, ◌≤◌, ◌<◌, ◌∷◌, ℕ, [], true, if◌then◌else◌, Option, find, length, remove, unwrap_or};
 ghost use Rattle.number_list.specs.Order.{NumberOrder, lists_number, number_place, NoneTwice};
-ghost use Rattle.dl_queue.specs.Held.{gid_at, standing_at, stands_ready, AreNumbersOf};
+ghost use Rattle.dl_queue.specs.Held.{gid_numbered, standing_at, stands_ready, AreNumbersOf};
 
 use crate::Added;
 use dl_kinds::{Gid, Status};
@@ -11,7 +11,7 @@ use number_list::{NumberList, Numbers};
 pub fn gid_of(added: &[Added], number: usize) -> Gid
     requires counts { 0 < number }
     requires within { number ≤ length added.now }
-    ensures { result ≡ gid_at added.now number }
+    ensures { result ≡ gid_numbered added.now number }
 {
     added[number - 1].gid
 }
@@ -64,7 +64,9 @@ pub fn remove_if(list: &mut NumberList, number: usize, listed: bool)
 pub fn mark_all(standings: &mut Vec<Option<Status>>, numbers: Numbers<'_>, standing: Option<Status>)
     requires { AreNumbersOf standings.old.items numbers }
     ensures marked { (number : ℕ) → 0 < number → standing_at standings.new.items number
-        ≡ (if lists_number numbers.entry number then standing else standing_at standings.old.items number) }
+        ≡ (if lists_number numbers.entry number
+        then standing
+        else standing_at standings.old.items number) }
     ensures len { length standings.new.items ≡ length standings.old.items }
 {
     for number in numbers {

@@ -1,7 +1,7 @@
 // The downloads of a list, one by one.
 ghost use Rattle.std.specs.Prelude.{◌≡◌, map};
 ghost use Rattle.std.specs.Iterator.{YieldsFirst, item_count};
-ghost use Rattle.dl_queue.specs.Held.{gid_at, queued_download, stopped_download, AreNumbersOf};
+ghost use Rattle.dl_queue.specs.Held.{gid_numbered, queued_download, stopped_download, AreNumbersOf};
 
 use crate::kinds::ending_by_standing;
 use crate::lines::{gid_of, is_ready, standing_of};
@@ -20,11 +20,11 @@ pub struct ActiveGids<'a> {
 impl<'a> Model for ActiveGids<'a> {
     ghost use Rattle.std.specs.Prelude.{List, map};
     ghost use Rattle.dl_kinds.specs.declared.gid.Gid.{Gid as DownloadGid};
-    ghost use Rattle.dl_queue.specs.Held.{gid_at, AreNumbersOf};
+    ghost use Rattle.dl_queue.specs.Held.{gid_numbered, AreNumbersOf};
 
     ghost Value = { List DownloadGid };
 
-    ghost view = { λ s. map (gid_at s.added.now) s.numbers };
+    ghost view = { λ s. map (gid_numbered s.added.now) s.numbers };
 
     ghost invariant = { λ s. AreNumbersOf s.added.now s.numbers };
 }
@@ -32,7 +32,7 @@ impl<'a> Model for ActiveGids<'a> {
 impl<'a> ActiveGids<'a> {
     pub(crate) fn of(added: &'a [Added], numbers: Numbers<'a>) -> Self
         requires { AreNumbersOf added.now numbers }
-        ensures { result ≡ map (gid_at added.now) numbers.entry }
+        ensures { result ≡ map (gid_numbered added.now) numbers.entry }
     {
         ActiveGids { added, numbers }
     }

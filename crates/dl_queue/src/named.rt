@@ -2,7 +2,7 @@
 ghost use Rattle.std.specs.Prelude.{◌≡◌, ◌+◌, ◌*◌, ◌≤◌, ◌<◌, Option, None, Some, length, if◌then◌else◌};
 ghost use Rattle.std.specs.Option.{option_or};
 ghost use Rattle.dl_queue.specs.Calls.{names_gid};
-ghost use Rattle.dl_queue.specs.Held.{gid_at, AreNumbersOf};
+ghost use Rattle.dl_queue.specs.Held.{gid_numbered, AreNumbersOf};
 ghost use Rattle.dl_queue.specs.Named.{AreNamed};
 
 use crate::lines::gid_of;

@@ -7,7 +7,7 @@ ghost use Rattle.dl_queue.specs.Places.{status_of, active_place, queued_place, s
 ghost use Rattle.dl_queue.specs.Calls.{adding_place, was_added, with_pause, as_paused, options_in};
 ghost use Rattle.dl_queue.specs.Named.{AreNamedIn};
 ghost use Rattle.dl_queue.specs.NextUp.{IsNextUp, IsLastActive};
-ghost use Rattle.dl_queue.specs.Held.{number_in, gid_at, stands_queued, stands_stopped};
+ghost use Rattle.dl_queue.specs.Held.{number_in, gid_numbered, stands_queued, stands_stopped};
 
 use crate::kinds::status_by_ending;
 use crate::lines::{fill, first_ready, gid_of, is_ready, mark_all, remove_if, standing_of};
@@ -43,7 +43,7 @@ impl Model for Queue {
 
     ghost Value = { QueueLists };
 
-    ghost use Rattle.dl_queue.specs.Held.{lists_of, AreHeld};
+    ghost use Rattle.dl_queue.specs.Held.{lists_of, HoldsLists};
 
     ghost view = { λ q. lists_of q.limit record {
       added = q.added.items;
@@ -54,7 +54,7 @@ impl Model for Queue {
       stopped = q.stopped.order;
     } };
 
-    ghost invariant = { λ q. AreHeld record {
+    ghost invariant = { λ q. HoldsLists record {
       added = q.added.items;
       standings = q.standings.items;
       active = q.active.order;
@@ -68,7 +68,8 @@ impl Model for Queue {
 impl Queue {
     /// An empty queue, in which so many downloads may be active.
     pub fn new(alloc: Global, limit: u16) -> Self
-        ensures { result ≡ record { limit = limit; active = []; waiting = []; stopped = []; added = [] } }
+        ensures { result
+            ≡ record { limit = limit; active = []; waiting = []; stopped = []; added = [] } }
     {
         Queue {
             limit,
@@ -221,7 +222,8 @@ impl Queue {
     pub(crate) fn is_paused(&self, gid: Gid) -> bool
         requires known { was_added self.now.added gid ≡ true }
         requires stands { stands_queued (status_of self.now gid) ≡ true }
-        ensures value { result ≡ (queued_at gid self.now.waiting (queued_place gid self.now.waiting)).paused }
+        ensures value { result
+            ≡ (queued_at gid self.now.waiting (queued_place gid self.now.waiting)).paused }
         ensures within { queued_place gid self.now.waiting < length self.now.waiting }
     {
         let number = self.number_of(gid);
@@ -247,7 +249,7 @@ impl Queue {
     pub(crate) fn gid(&self, number: usize) -> Gid
         requires counts { 0 < number }
         requires within { number ≤ length self.now.added }
-        ensures { result ≡ gid_at self.now.added number }
+        ensures { result ≡ gid_numbered self.now.added number }
     {
         gid_of(&self.added, number)
     }
@@ -263,7 +265,9 @@ impl Queue {
     pub(crate) fn leave_active(&mut self, gid: Gid)
         requires known { was_added self.old.added gid ≡ true }
         requires stands { status_of self.old gid ≡ Some Active }
-        ensures lists { self.new ≡ record self.old { active = remove self.old.active (active_place gid self.old.active) } }
+        ensures lists { self.new ≡ record self.old {
+          active = remove self.old.active (active_place gid self.old.active);
+        } }
         ensures gone { status_of self.new gid ≡ None }
     {
         let number = self.number_of(gid);
@@ -276,7 +280,9 @@ impl Queue {
     pub(crate) fn leave_waiting(&mut self, gid: Gid)
         requires known { was_added self.old.added gid ≡ true }
         requires stands { stands_queued (status_of self.old gid) ≡ true }
-        ensures lists { self.new ≡ record self.old { waiting = remove self.old.waiting (queued_place gid self.old.waiting) } }
+        ensures lists { self.new ≡ record self.old {
+          waiting = remove self.old.waiting (queued_place gid self.old.waiting);
+        } }
         ensures gone { status_of self.new gid ≡ None }
     {
         let number = self.number_of(gid);
@@ -291,7 +297,9 @@ impl Queue {
     pub(crate) fn leave_stopped(&mut self, gid: Gid)
         requires known { was_added self.old.added gid ≡ true }
         requires stands { stands_stopped (status_of self.old gid) ≡ true }
-        ensures lists { self.new ≡ record self.old { stopped = remove self.old.stopped (stopped_place gid self.old.stopped) } }
+        ensures lists { self.new ≡ record self.old {
+          stopped = remove self.old.stopped (stopped_place gid self.old.stopped);
+        } }
         ensures gone { status_of self.new gid ≡ None }
     {
         let number = self.number_of(gid);

@@ -41,7 +41,8 @@ pub fn give_number(
 ) -> Result<(), AllocError>
     ensures ok { OnOk result ((other : ℕ) → get nat_cmp numbers.new other
         ≡ (if gid.0 == other then Some number else get nat_cmp numbers.old other)) }
-    ensures err { OnErr result ((other : ℕ) → get nat_cmp numbers.new other ≡ get nat_cmp numbers.old other) }
+    ensures err { OnErr result ((other : ℕ)
+        → get nat_cmp numbers.new other ≡ get nat_cmp numbers.old other) }
 {
     numbers.insert(gid.0, number)?;
     Ok(())

@@ -145,7 +145,7 @@ WaitsNoLonger handed start past now wait c =
     (offer : Offer) → IsOffer handed start past now c.gid offer → (affords c.bytes offer ≡ false) × (wait ≤ c.wait)
 
 -- some have, and none is afforded: the least wait of these
-pub record IsHeld (handed : List Handed) (start : RunStart) (past : List Event) (now : ℕ) (credits : List Credit)
+pub record IsHeldUp (handed : List Handed) (start : RunStart) (past : List Event) (now : ℕ) (credits : List Credit)
     (wait : ℕ) : Type 0 where
   pub before : List Credit
   pub credit : Credit

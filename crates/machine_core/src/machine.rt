@@ -80,7 +80,8 @@ impl Machine {
     /// A run in which nothing happened. `gids` is what the gids of downloads are made from, `doors` how many doors the
     /// console has.
     pub fn new(alloc: Global, gids: u64, global: Options, doors: u16) -> Result<Self, AllocError>
-        ensures start { IfOk result (λ m. m.start ≡ record { gids = gids; global = global; doors = doors }) }
+        ensures start { IfOk result (λ m.
+            m.start ≡ record { gids = gids; global = global; doors = doors }) }
         ensures past { IfOk result (λ m. m.past ≡ []) }
         ensures downloads { IfOk result (λ m. m.mark_spares ≡ []) }
     {
@@ -355,7 +356,8 @@ impl Machine {
     /// What a download has of its payload, once it is opened.
     pub fn table(&self, gid: Gid) -> Option<&Table>
         ensures some { IfSome result (λ table. table.now ≡ (account_of_gid self.now gid).progress) }
-        ensures opened { IfSome result (λ _. is_opened (own_of self.now.start self.now.past gid) ≡ true) }
+        ensures opened { IfSome result (λ _.
+            is_opened (own_of self.now.start self.now.past gid) ≡ true) }
         ensures none { is_added_in self.now gid ≡ true
             → IfNone result (is_opened (own_of self.now.start self.now.past gid) ≡ false) }
     {
@@ -370,7 +372,8 @@ impl Machine {
     /// The options of a download, as they are now.
     pub fn options(&self, gid: Gid) -> Option<&Options>
         ensures { option_copied result
-            ≡ option_map (options_now self.now.start self.now.past) (download_in self.now.start self.now.past gid) }
+            ≡ option_map (options_now self.now.start self.now.past)
+            (download_in self.now.start self.now.past gid) }
     {
         let place = self.place(gid)?;
         Some(&self.entries[place].options)

@@ -8,7 +8,7 @@ use Rattle.std.specs.List.{IsDistinct, AllByRecursion}
 use Rattle.std.proofs.lemmas.Map.Steps.{length-le_from_distinct_below}
 use Rattle.std.proofs.lemmas.List.{get_or_default}
 use Rattle.number_list.specs.Order.{NumberOrder, lists_number, number_place, is_listed_or_end, NoneTwice}
-use Rattle.number_list.specs.Links.{IsPath, AreLinked, walk}
+use Rattle.number_list.specs.Links.{IsLinkedPath, AreLinked, walk}
 use Rattle.number_list.proofs.Paths.{neither, either_right, either_left, differs, path_front, path_back, path_join, last_listed, keeps_next, keeps_previous, led_to, walked, walk_len}
 use Rattle.number_list.proofs.Cuts.{cut, place_behind, place_there, place_nowhere, inserted_between, removed_between, listed_in_both, none_in_front, none_in_back, none_in_both, none_less, none_more, listed_more, listed_less}
 
@@ -24,8 +24,8 @@ in_bound next previous bound numbers linked x y listed some = tested (x == 0) re
 pub path_less : (next previous front : List ℕ) (x : ℕ) (back : List ℕ) (a b p n : ℕ)
     → p ≡ get_or previous x 0 → n ≡ get_or next x 0 → NoneTwice (a ∷ front ++ x ∷ back)
     → lists_number (front ++ x ∷ back) b ≡ false → p < length next → n < length previous
-    → IsPath next previous a (front ++ x ∷ back) b
-    → IsPath (set next p n) (set previous n p) a (front ++ back) b
+    → IsLinkedPath next previous a (front ++ x ∷ back) b
+    → IsLinkedPath (set next p n) (set previous n p) a (front ++ back) b
 path_less next previous front x [] a b p n before behind apart end p_in n_in path =
     let first = path_front next previous front x [] a b path in
     let second = path_back next previous front x [] a b path in
@@ -33,8 +33,8 @@ path_less next previous front x [] a b p n before behind apart end p_in n_in pat
     let fresh : lists_number front n ≡ false = ap (lists_number front) is_b
     ∙ (neither (lists_number front b) (lists_number (x ∷ []) b) (sym (listed_in_both front (x ∷ []) b) ∙ end)).0 in
     let led = led_to next previous front a x n p before (none_in_front (a ∷ front) (x ∷ []) apart) fresh p_in n_in first in
-    subst (λ (numbers : List ℕ). IsPath (set next p n) (set previous n p) a numbers b) (sym (append-nil front))
-    (subst (λ (k : ℕ). IsPath (set next p n) (set previous n p) a front k) is_b led)
+    subst (λ (numbers : List ℕ). IsLinkedPath (set next p n) (set previous n p) a numbers b) (sym (append-nil front))
+    (subst (λ (k : ℕ). IsLinkedPath (set next p n) (set previous n p) a front k) is_b led)
 path_less next previous front x (y ∷ back) a b p n before behind apart end p_in n_in path =
     let first = path_front next previous front x (y ∷ back) a b path in
     let second = path_back next previous front x (y ∷ back) a b path in
@@ -56,7 +56,7 @@ path_less next previous front x (y ∷ back) a b p n before behind apart end p_i
     let n_behind : lists_number back n ≡ false = ap (lists_number back) is_y ∙ both.1.0 in
     let rest = keeps_previous (set next p n) previous back y b n p n_behind not_n
     (keeps_next next previous back y b p n (neither (p == x) (lists_number (y ∷ back) p) p_behind).1 second.2) in
-    let led_y = subst (λ (k : ℕ). IsPath (set next p n) (set previous n p) a front k) is_y led in
+    let led_y = subst (λ (k : ℕ). IsLinkedPath (set next p n) (set previous n p) a front k) is_y led in
     path_join (set next p n) (set previous n p) front y back a b led_y rest where
       not_behind : (q : ℕ) → lists_number (a ∷ front) q ≡ true → lists_number (x ∷ y ∷ back) q ≡ false
       not_behind q listed = tested (lists_number (x ∷ y ∷ back) q) refl where
@@ -83,7 +83,7 @@ pub record Behind (next : List ℕ) (numbers : List ℕ) (x : ℕ) : Type 0 wher
   pub listed : is_listed_or_end numbers (get_or next x 0) ≡ true
 
 behind_cut : (next previous front : List ℕ) (x : ℕ) (back : List ℕ) → lists_number front x ≡ false
-    → NoneTwice (0 ∷ front ++ x ∷ back) → IsPath next previous 0 (front ++ x ∷ back) 0 → Behind next (front ++ x ∷ back) x
+    → NoneTwice (0 ∷ front ++ x ∷ back) → IsLinkedPath next previous 0 (front ++ x ∷ back) 0 → Behind next (front ++ x ∷ back) x
 behind_cut next previous front x [] before apart path =
     let second = path_back next previous front x [] 0 0 path in
     let numbers = front ++ x ∷ [] in
@@ -118,7 +118,7 @@ behind next previous bound numbers x linked listed =
     subst (λ (l : List ℕ). Behind next l x) (sym its.is)
     (behind_cut next previous its.front x its.back its.before
     (subst (λ (l : List ℕ). NoneTwice (0 ∷ l)) its.is linked.apart)
-    (subst (λ (l : List ℕ). IsPath next previous 0 l 0) its.is linked.path))
+    (subst (λ (l : List ℕ). IsLinkedPath next previous 0 l 0) its.is linked.path))
 
 less_cut : (next previous : List ℕ) (bound : ℕ) (front : List ℕ) (x : ℕ) (back : List ℕ)
     → AreLinked next previous bound (front ++ x ∷ back) → lists_number front x ≡ false
@@ -171,8 +171,8 @@ linked_less next previous bound numbers x linked listed =
 -- a path to a number, and on to the one that was put before it
 path_put : (next previous front : List ℕ) (a t p x : ℕ) → p ≡ get_or previous t 0 → NoneTwice (a ∷ front)
     → lists_number (a ∷ front) x ≡ false → lists_number front t ≡ false → t ≢ x → p < length next → x < length next
-    → x < length previous → t < length previous → IsPath next previous a front t
-    → IsPath (set (set next p x) x t) (set (set previous x p) t x) a (front ++ x ∷ []) t
+    → x < length previous → t < length previous → IsLinkedPath next previous a front t
+    → IsLinkedPath (set (set next p x) x t) (set (set previous x p) t x) a (front ++ x ∷ []) t
 path_put next previous front a t p x before apart fresh not_t other p_in x_in x_in_previous t_in path =
     let led = led_to next previous front a t x p before apart (neither (x == a) (lists_number front x) fresh).1
     p_in x_in_previous path in
@@ -186,8 +186,8 @@ path_put next previous front a t p x before apart fresh not_t other p_in x_in x_
 
 -- .. and the path behind it
 path_kept : (next previous back : List ℕ) (t b p x : ℕ) → lists_number (t ∷ back) p ≡ false → lists_number (t ∷ back) x ≡ false
-    → lists_number back t ≡ false → b ≢ x → b ≢ t → IsPath next previous t back b
-    → IsPath (set (set next p x) x t) (set (set previous x p) t x) t back b
+    → lists_number back t ≡ false → b ≢ x → b ≢ t → IsLinkedPath next previous t back b
+    → IsLinkedPath (set (set next p x) x t) (set (set previous x p) t x) t back b
 path_kept next previous back t b p x not_p not_x not_t b_x b_t path =
     let first = keeps_next next previous back t b p x not_p path in
     let second = keeps_next (set next p x) previous back t b x t not_x first in
@@ -227,7 +227,7 @@ pub record LinkedMore (next previous : List ℕ) (bound : ℕ) (numbers : List �
 more_parts : (next previous : List ℕ) (bound : ℕ) (front back : List ℕ) (t x : ℕ) → AreLinked next previous bound (front ++ back)
     → number_place (front ++ back) t ≡ length front → get_or previous t 0 < bound → t < bound → x < bound → 0 < x
     → lists_number (front ++ back) x ≡ false
-    → IsPath (set (set next (get_or previous t 0) x) x t) (set (set previous x (get_or previous t 0)) t x) 0 (front ++ x ∷ back) 0
+    → IsLinkedPath (set (set next (get_or previous t 0) x) x t) (set (set previous x (get_or previous t 0)) t x) 0 (front ++ x ∷ back) 0
     → LinkedMore next previous bound (front ++ back) t x
 more_parts next previous bound front back t x linked place p_in t_in x_in counts fresh path =
     let numbers = front ++ back in
@@ -300,7 +300,7 @@ more_cut next previous bound front t back x linked before x_in counts fresh =
     let whole = path_join next_now previous_now (front ++ x ∷ []) t back 0 0 path rest in
     more_parts next previous bound front (t ∷ back) t x linked
     (omega (arith, place_behind front (t ∷ back) t before, place_there back t)) p_in t_in x_in counts fresh
-    (subst (λ (l : List ℕ). IsPath next_now previous_now 0 l 0) (append_assoc front (x ∷ []) (t ∷ back)) whole) where
+    (subst (λ (l : List ℕ). IsLinkedPath next_now previous_now 0 l 0) (append_assoc front (x ∷ []) (t ∷ back)) whole) where
       in_front : (a b c : Bool) → (a || b) ≡ true → (a || (b || c)) ≡ true
       in_front true b c is = refl
       in_front false true c is = refl
@@ -433,7 +433,7 @@ behind_is next previous bound count x n linked listed is =
 -- links that are longer
 pub same_path : (old_next old_previous next previous numbers : List ℕ) (a b : ℕ)
     → ((k : ℕ) → get_or next k 0 ≡ get_or old_next k 0) → ((k : ℕ) → get_or previous k 0 ≡ get_or old_previous k 0)
-    → IsPath old_next old_previous a numbers b → IsPath next previous a numbers b
+    → IsLinkedPath old_next old_previous a numbers b → IsLinkedPath next previous a numbers b
 same_path old_next old_previous next previous [] a b n p path = (n a ∙ path.0, p b ∙ path.1)
 same_path old_next old_previous next previous (x ∷ numbers) a b n p path =
     (n a ∙ path.0, p x ∙ path.1, same_path old_next old_previous next previous numbers x b n p path.2)
@@ -469,7 +469,7 @@ some_in_bound next previous bound (suc count) linked some =
     omega (arith, least)
 
 -- the last number of a list of some
-last_got : (next previous : List ℕ) (a x : ℕ) (numbers : List ℕ) (b : ℕ) → IsPath next previous a (x ∷ numbers) b
+last_got : (next previous : List ℕ) (a x : ℕ) (numbers : List ℕ) (b : ℕ) → IsLinkedPath next previous a (x ∷ numbers) b
     → slice_get (x ∷ numbers) (length numbers) ≡ Some (get_or previous b 0)
 last_got next previous a x [] b path = ap (λ (k : ℕ). Some k) (sym path.2.1)
 last_got next previous a x (y ∷ numbers) b path = last_got next previous x y numbers b path.2

@@ -3,7 +3,7 @@ use Rattle.std.proofs.Common.{◌≡◌, ◌≢◌, ◌<◌, ◌==◌, ◌||◌,
 use Rattle.std.proofs.Math.ListN.{set}
 use Rattle.std.proofs.lemmas.Bool.{eqb-false}
 use Rattle.number_list.specs.Order.{lists_number, NoneTwice}
-use Rattle.number_list.specs.Links.{IsPath, walk}
+use Rattle.number_list.specs.Links.{IsLinkedPath, walk}
 
 pub neither : (a b : Bool) → (a || b) ≡ false → (a ≡ false) × (b ≡ false)
 neither true b is = cc
@@ -23,24 +23,24 @@ differs numbers x y listed fresh same =
     true≢false (sym listed ∙ ap (lists_number numbers) same ∙ fresh)
 
 pub path_front : (next previous front : List ℕ) (x : ℕ) (back : List ℕ) (a b : ℕ)
-    → IsPath next previous a (front ++ x ∷ back) b → IsPath next previous a front x
+    → IsLinkedPath next previous a (front ++ x ∷ back) b → IsLinkedPath next previous a front x
 path_front next previous [] x back a b path = (path.0, path.1)
 path_front next previous (y ∷ front) x back a b path =
     (path.0, path.1, path_front next previous front x back y b path.2)
 
 pub path_back : (next previous front : List ℕ) (x : ℕ) (back : List ℕ) (a b : ℕ)
-    → IsPath next previous a (front ++ x ∷ back) b → IsPath next previous x back b
+    → IsLinkedPath next previous a (front ++ x ∷ back) b → IsLinkedPath next previous x back b
 path_back next previous [] x back a b path = path.2
 path_back next previous (y ∷ front) x back a b path = path_back next previous front x back y b path.2
 
 pub path_join : (next previous front : List ℕ) (x : ℕ) (back : List ℕ) (a b : ℕ)
-    → IsPath next previous a front x → IsPath next previous x back b → IsPath next previous a (front ++ x ∷ back) b
+    → IsLinkedPath next previous a front x → IsLinkedPath next previous x back b → IsLinkedPath next previous a (front ++ x ∷ back) b
 path_join next previous [] x back a b first second = (first.0, first.1, second)
 path_join next previous (y ∷ front) x back a b first second =
     (first.0, first.1, path_join next previous front x back y b first.2 second)
 
 -- the number before the last of a path is one of it
-pub last_listed : (next previous numbers : List ℕ) (a b : ℕ) → IsPath next previous a numbers b
+pub last_listed : (next previous numbers : List ℕ) (a b : ℕ) → IsLinkedPath next previous a numbers b
     → lists_number (a ∷ numbers) (get_or previous b 0) ≡ true
 last_listed next previous [] a b path =
     either_left (get_or previous b 0 == a) false (eq-eqb (get_or previous b 0) a path.1)
@@ -50,7 +50,7 @@ last_listed next previous (x ∷ numbers) a b path =
 
 -- a link behind a number that isn't of the path
 pub keeps_next : (next previous numbers : List ℕ) (a b p v : ℕ) → lists_number (a ∷ numbers) p ≡ false
-    → IsPath next previous a numbers b → IsPath (set next p v) previous a numbers b
+    → IsLinkedPath next previous a numbers b → IsLinkedPath (set next p v) previous a numbers b
 keeps_next next previous [] a b p v other path =
     let not_a : a ≢ p = λ same. eqb-false p a (neither (p == a) false other).0 (sym same) in
     (get_or-set_other next p a v 0 not_a ∙ path.0, path.1)
@@ -61,7 +61,7 @@ keeps_next next previous (x ∷ numbers) a b p v other path =
 
 -- a link before a number that isn't of the path
 pub keeps_previous : (next previous numbers : List ℕ) (a b p v : ℕ) → lists_number numbers p ≡ false → b ≢ p
-    → IsPath next previous a numbers b → IsPath next (set previous p v) a numbers b
+    → IsLinkedPath next previous a numbers b → IsLinkedPath next (set previous p v) a numbers b
 keeps_previous next previous [] a b p v other not_b path = (path.0, get_or-set_other previous p b v 0 not_b ∙ path.1)
 keeps_previous next previous (x ∷ numbers) a b p v other not_b path =
     let both = neither (p == x) (lists_number numbers p) other in
@@ -71,7 +71,7 @@ keeps_previous next previous (x ∷ numbers) a b p v other not_b path =
 -- a path that is led to another end
 pub led_to : (next previous numbers : List ℕ) (a b c p : ℕ) → p ≡ get_or previous b 0 → NoneTwice (a ∷ numbers)
     → lists_number numbers c ≡ false → p < length next → c < length previous
-    → IsPath next previous a numbers b → IsPath (set next p c) (set previous c p) a numbers c
+    → IsLinkedPath next previous a numbers b → IsLinkedPath (set next p c) (set previous c p) a numbers c
 led_to next previous [] a b c p is apart fresh p_in c_in path =
     let at_a : a ≡ p = sym path.1 ∙ sym is in (
       subst (λ (k : ℕ). get_or (set next p c) k 0 ≡ c) (sym at_a) (get_or-set_same next p c 0 p_in),
@@ -89,7 +89,7 @@ led_to next previous (x ∷ numbers) a b c p is apart fresh p_in c_in path =
     )
 
 -- a walk reads a path
-pub walked : (next previous numbers : List ℕ) (a b : ℕ) → IsPath next previous a numbers b
+pub walked : (next previous numbers : List ℕ) (a b : ℕ) → IsLinkedPath next previous a numbers b
     → walk (length numbers) next a ≡ numbers
 walked next previous [] a b path = refl
 walked next previous (x ∷ numbers) a b path =

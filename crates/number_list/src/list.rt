@@ -58,7 +58,8 @@ impl NumberList {
     /// Raises the bound, where it is lower. No other call takes memory.
     pub fn reserve(&mut self, bound: usize) -> Result<(), AllocError>
         ensures order { self.new.order ≡ self.old.order }
-        ensures bound { self.new.bound ≡ (if is_ok result then max self.old.bound bound else self.old.bound) }
+        ensures bound { self.new.bound
+            ≡ (if is_ok result then max self.old.bound bound else self.old.bound) }
     {
         if bound <= self.bound {
             return Ok(());
@@ -101,7 +102,8 @@ impl NumberList {
     /// The number behind one, or 0 for the last.
     pub(crate) fn behind(&self, number: usize) -> usize
         requires { lists_number self.now.order number ≡ true }
-        ensures place { number_place self.now.order result ≡ number_place self.now.order number + 1 }
+        ensures place { number_place self.now.order result
+            ≡ number_place self.now.order number + 1 }
         ensures listed { is_listed_or_end self.now.order result ≡ true }
     {
         self.next[number]
@@ -243,7 +245,8 @@ impl NumberList {
 }
 
 fn grow(links: &mut Vec<usize>, len: usize) -> Result<(), AllocError>
-    ensures kept { (number : ℕ) → slice_index links.new.items number ≡ slice_index links.old.items number }
+    ensures kept { (number : ℕ)
+        → slice_index links.new.items number ≡ slice_index links.old.items number }
     ensures longer { vec_len links.old ≤ vec_len links.new }
     ensures ok { OnOk result (len ≤ vec_len links.new) }
 {

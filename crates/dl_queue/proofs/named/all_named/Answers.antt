@@ -1,7 +1,7 @@
 use Rattle.std.proofs.Common.{◌≡◌, ◌∙◌, ◌+◌, ◌∷◌, ℕ, Bool, List, true, false, length, sym, ap, arith, rules}
 use Rattle.number_list.specs.Order.{lists_number}
 use Rattle.dl_queue.specs.Calls.{names_gid}
-use Rattle.dl_queue.specs.Held.{gid_at}
+use Rattle.dl_queue.specs.Held.{gid_numbered}
 use Rattle.dl_queue.proofs.Numbers.{first_are, rest_are, rest_listed, first_listed, counted_more}
 use Rattle.dl_queue.proofs.named.all_named.Goals as goal
 use Rattle.dl_queue.proofs.named.all_named.Goals.{In-Some}
@@ -26,9 +26,9 @@ pub loop-number-preserved-then-is_named : goal.loop-number-preserved-then-is_nam
 loop-number-preserved-then-is_named c =
     let here = (goal.at.loop-number-preserved-then-is_named c).In-Some in
     let steps = c.in-Some.ensures.steps in
-    let passes : names_gid c.args.key (gid_at c.args.added.now c.in-Some.number) ≡ true =
+    let passes : names_gid c.args.key (gid_numbered c.args.added.now c.in-Some.number) ≡ true =
     ap (names_gid c.args.key) (sym c.gid_of.ensures) ∙ sym c.is_named.ensures ∙ c.if-is_named.true in
-    let more = counted_more (λ number. names_gid c.args.key (gid_at c.args.added.now number)) c.loop-number.number-iterator
+    let more = counted_more (λ number. names_gid c.args.key (gid_numbered c.args.added.now number)) c.loop-number.number-iterator
     c.in-Some.number c.next.new.self true steps passes in
     record {
       can = tt;
@@ -50,9 +50,9 @@ pub loop-number-preserved : goal.loop-number-preserved
 loop-number-preserved c =
     let here = (goal.at.loop-number-preserved c).In-Some in
     let steps = c.in-Some.ensures.steps in
-    let passes : names_gid c.args.key (gid_at c.args.added.now c.in-Some.number) ≡ false =
+    let passes : names_gid c.args.key (gid_numbered c.args.added.now c.in-Some.number) ≡ false =
     ap (names_gid c.args.key) (sym c.gid_of.ensures) ∙ sym c.is_named.ensures ∙ c.if-is_named.false in
-    let more = counted_more (λ number. names_gid c.args.key (gid_at c.args.added.now number)) c.loop-number.number-iterator
+    let more = counted_more (λ number. names_gid c.args.key (gid_numbered c.args.added.now number)) c.loop-number.number-iterator
     c.in-Some.number c.next.new.self false steps passes in
     record {
       can = tt;

@@ -1,7 +1,7 @@
 use Rattle.std.proofs.Common.{◌≡◌, ◌+◌, ◌<◌, ◌≤◌, ℕ, true, IsSome, IfSome, count_by, length}
 use Rattle.number_list.specs.Order.{lists_number}
 use Rattle.dl_queue.specs.Calls.{names_gid}
-use Rattle.dl_queue.specs.Held.{gid_at, AreNumbersOf}
+use Rattle.dl_queue.specs.Held.{gid_numbered, AreNumbersOf}
 use Rattle.dl_queue.specs.Named.{IsListedNamed}
 use Rattle.dl_queue.proofs.named.all_named.Given as goal
 
@@ -13,8 +13,8 @@ invariant-loop-number l = record {
   are : AreNumbersOf l.added l.number-iterator;
   among : (number : ℕ) → lists_number l.number-iterator number ≡ true → lists_number l.initial.number-iterator number ≡ true;
   few : l.count + length l.number-iterator ≤ length l.initial.number-iterator;
-  count : l.count + count_by (λ number. names_gid l.key (gid_at l.added number)) l.number-iterator
-      ≡ count_by (λ number. names_gid l.key (gid_at l.added number)) l.initial.number-iterator;
+  count : l.count + count_by (λ number. names_gid l.key (gid_numbered l.added number)) l.number-iterator
+      ≡ count_by (λ number. names_gid l.key (gid_numbered l.added number)) l.initial.number-iterator;
   some : 0 < l.count → IsSome l.one;
   counted : IsSome l.one → 0 < l.count;
   one : IfSome l.one (IsListedNamed l.added l.key l.initial.number-iterator);

@@ -8,7 +8,7 @@ use Rattle.dl_queue.specs.declared.kinds.TheConstants.{MAX_DOWNLOADS}
 use Rattle.dl_queue.specs.Lists.{QueueLists}
 use Rattle.dl_queue.specs.Places.{queued_place, status_of}
 use Rattle.dl_queue.specs.Calls.{options_in}
-use Rattle.dl_queue.specs.Held.{number_in, gid_at, lists_of, standing_at, stands_queued, queued_download}
+use Rattle.dl_queue.specs.Held.{number_in, gid_numbered, lists_of, standing_at, stands_queued, queued_download}
 use Rattle.dl_queue.specs.Named.{AreNamed, AreNamedIn}
 use Rattle.dl_queue.specs.NextUp.{IsLastActive, StandsLast}
 use Rattle.dl_queue.proofs.Inside.{parts_of, placed, seen_so}
@@ -20,13 +20,13 @@ pub returns-in_err-number : goal.returns-in_err-number
 returns-in_err-number c =
     subst (λ (o : Option Gid). IsLastActive c.args.self.now o) (sym c.from_residual.ensures)
     (subst (λ (v : QueueLists). IsLastActive v None) c.self.view_is
-    (none_active (gid_at c.self.inside.added.items) c.self.inside.active.order (sym c.in_err-number.ensures.value)))
+    (none_active (gid_numbered c.self.inside.added.items) c.self.inside.active.order (sym c.in_err-number.ensures.value)))
 
 pub returns : goal.returns
 returns c =
     subst (λ (g : Gid). StandsLast c.args.self.now g)
-    (sym (c.gid_of.ensures ∙ ap (λ (l : List Added). gid_at l c.in_ok-number.number) c.deref.ensures.value))
-    (subst (λ (v : QueueLists). StandsLast v (gid_at c.self.inside.added.items c.in_ok-number.number)) c.self.view_is
+    (sym (c.gid_of.ensures ∙ ap (λ (l : List Added). gid_numbered l c.in_ok-number.number) c.deref.ensures.value))
+    (subst (λ (v : QueueLists). StandsLast v (gid_numbered c.self.inside.added.items c.in_ok-number.number)) c.self.view_is
     (stands_last c.self.inside.limit (parts_of c.self.inside) c.self.invariant.parts_are c.in_ok-number.number (sym c.in_ok-number.ensures.value)))
 
 pub gid_of-requires-clause-counts : goal.gid_of-requires-clause-counts

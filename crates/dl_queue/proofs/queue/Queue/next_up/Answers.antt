@@ -8,7 +8,7 @@ use Rattle.dl_queue.specs.declared.kinds.TheConstants.{MAX_DOWNLOADS}
 use Rattle.dl_queue.specs.Lists.{QueueLists}
 use Rattle.dl_queue.specs.Places.{queued_place, status_of}
 use Rattle.dl_queue.specs.Calls.{options_in}
-use Rattle.dl_queue.specs.Held.{number_in, gid_at, lists_of, standing_at, stands_queued, queued_download}
+use Rattle.dl_queue.specs.Held.{number_in, gid_numbered, lists_of, standing_at, stands_queued, queued_download}
 use Rattle.dl_queue.specs.Named.{AreNamed, AreNamedIn}
 use Rattle.dl_queue.specs.NextUp.{IsNextUp, MovesUp}
 use Rattle.dl_queue.proofs.Inside.{parts_of, placed, seen_so}
@@ -34,6 +34,6 @@ gid_of-requires-clause-within c =
 pub returns : goal.returns
 returns c =
     subst (λ (g : Gid). MovesUp c.args.self.now g)
-    (sym (c.gid_of.ensures ∙ ap (λ (l : List Added). gid_at l c.in_ok-number.number) c.deref.ensures.value))
-    (subst (λ (v : QueueLists). MovesUp v (gid_at c.self.inside.added.items c.in_ok-number.number)) c.self.view_is
+    (sym (c.gid_of.ensures ∙ ap (λ (l : List Added). gid_numbered l c.in_ok-number.number) c.deref.ensures.value))
+    (subst (λ (v : QueueLists). MovesUp v (gid_numbered c.self.inside.added.items c.in_ok-number.number)) c.self.view_is
     (moves_up c.self.inside.limit (parts_of c.self.inside) c.self.invariant.parts_are c.in_ok-number.number (sym c.in_ok-number.ensures.value)))

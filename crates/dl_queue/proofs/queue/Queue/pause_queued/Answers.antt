@@ -9,7 +9,7 @@ use Rattle.dl_queue.specs.declared.kinds.TheConstants.{MAX_DOWNLOADS}
 use Rattle.dl_queue.specs.Lists.{QueueLists}
 use Rattle.dl_queue.specs.Places.{queued_place, status_of}
 use Rattle.dl_queue.specs.Calls.{options_in, as_paused}
-use Rattle.dl_queue.specs.Held.{number_in, gid_at, AreParts, lists_of, standing_at, stands_queued, queued_download}
+use Rattle.dl_queue.specs.Held.{number_in, gid_numbered, AreParts, lists_of, standing_at, stands_queued, queued_download}
 use Rattle.dl_queue.specs.Named.{AreNamed, AreNamedIn}
 use Rattle.dl_queue.specs.NextUp.{IsNextUp, MovesUp}
 use Rattle.dl_queue.proofs.Inside.{parts_of, placed, seen_so}
