@@ -11,3 +11,4 @@ pub mod WorkedRuns
 pub mod Journals
 pub mod MachineViews
 pub mod MachineParts
+pub mod Reads

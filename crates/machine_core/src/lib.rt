@@ -10,6 +10,7 @@ mod halts;
 mod journal;
 mod laws;
 mod machine;
+mod rests;
 
 pub use calls::Call;
 pub use ends::End;
