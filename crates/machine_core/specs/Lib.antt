@@ -12,3 +12,4 @@ pub mod Journals
 pub mod MachineViews
 pub mod MachineParts
 pub mod Reads
+pub mod TurnRooms

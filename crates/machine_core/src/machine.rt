@@ -1,5 +1,5 @@
 // The state of a run.
-ghost use Rattle.std.specs.Prelude.{◌≡◌, ◌≤◌, ◌↔◌, [], false, length, reverse, IfNone, IfOk, IfSome, MatchBool, None, option_copied, slice_get, true};
+ghost use Rattle.std.specs.Prelude.{◌≡◌, ◌≤◌, ◌↔◌, [], false, length, reverse, IfNone, IfOk, IfSome, MatchBool, None, OnOk, option_copied, slice_get, true};
 ghost use Rattle.std.specs.Option.{option_map};
 ghost use Rattle.dl_history.specs.PayloadParts.{is_opened};
 ghost use Rattle.machine_core.specs.Choices.{options_now};
@@ -9,12 +9,15 @@ ghost use Rattle.machine_core.specs.OwnParts.{own_of};
 ghost use Rattle.machine_core.specs.MachineViews.{Appends, HasMarkRoomAt, IsFindingOf, IsLandingOf, IsLossOfClaim, IsNext, IsPlaceOf, IsSizingBy, StandsNowhere, StandsSomewhere, StandsUnder, IsFirstOpen, account_of_gid, is_added_in, UsesMarkRoomAt, UsesMarkRoomOf, UsesRoom, mark_spare_in};
 ghost use Rattle.machine_core.specs.Reads.{HasNoDeadMark, HasPiece, IsAdding, IsAllSaved, IsDeadPiece, IsOpenedGid, IsPieceUnlisted, downloads_in, is_finished_in};
 ghost use Rattle.machine_core.specs.RunLegal.{IsLegal, MayFollow, doors_left, download_in};
+ghost use Rattle.machine_core.specs.TurnRooms.{HasTurnMarkRoom, IsRoomierRun};
 ghost use Rattle.machine_core.specs.declared.events.Event.TheVariants as event;
+ghost use Rattle.machine_core.specs.declared.journal.TheConstants.{MAX_BEFORE_TURN, TURN_EVENTS};
 
 use crate::entries::Entry;
 use crate::halts::halt_all;
 use crate::rests::is_at_rest;
-use crate::{End, Event, Journal};
+use crate::spares::reserve_marks;
+use crate::{End, Event, Journal, MAX_BEFORE_TURN, TURN_EVENTS};
 use dl_history::{accounts_match_events, histories_are_sound, unopened_accounts_are_alike};
 use dl_kinds::{Claim, Gid, Mark, Moment, Run, Status, plan_laws};
 use dl_queue::{ActiveGids, Queue};
@@ -328,6 +331,23 @@ impl Machine {
     {
         self.left += 1;
         self.journal.add(Event::Left);
+    }
+
+    /// Makes room for the events of a turn, and for as many marks of each active download. Want of memory also comes where
+    /// the run has had too many events for one more turn.
+    pub fn reserve_turn(&mut self) -> Result<(), AllocError>
+        ensures room { OnOk result (TURN_EVENTS ≤ self.new.spare) }
+        ensures mark_room { OnOk result (HasTurnMarkRoom self.new) }
+        ensures few { OnOk result (length self.old.past ≤ MAX_BEFORE_TURN) }
+        ensures same { IsRoomierRun self.old self.new }
+    {
+        if self.journal.len() > MAX_BEFORE_TURN {
+            return Err(AllocError);
+        }
+        // The doors and the stop have room of their own.
+        self.journal
+            .reserve(TURN_EVENTS as usize + self.doors as usize + 1)?;
+        reserve_marks(&self.queue, &mut self.entries)
     }
 
     // ---- reads
