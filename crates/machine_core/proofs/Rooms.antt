@@ -158,18 +158,22 @@ other_home v new id gid claim stands uses other twin there =
 
 -- ---- options
 
-pub options_here : (s : MachineState) (v : MachineView) (gid : Gid) (at : ℕ) (x : Entry) → Seen s v → Here s gid at x
-    → Some x.options ≡ option_map (options_now v.start v.past) (download_in v.start v.past gid)
-options_here s v gid at x seen h =
+-- the download at the place of a gid is the one that was added under it
+pub added_here : (s : MachineState) (v : MachineView) (gid : Gid) (at : ℕ) (x : Entry) → Seen s v
+    → (h : Here s gid at x) → download_in s.start (reverse s.events) gid ≡ Some h.download
+added_here s v gid at x seen h =
     let ds = (replay_of s.start (reverse s.events)).downloads in
     let d = h.download in
     let has : Contains ds d =
     (at, slice_get_within ds at d h.is.added, get_or_from_slice_get ds at d d h.is.added) in
-    let first : find (is_download gid) ds ≡ Some d =
     find_one (is_download gid) ds d has (eq-eqb d.gid.0 gid.0 (ap (λ (g : Gid). g.0) h.is.gid_is))
-    (λ y here passes. one_download ds gid at d y seen.keeps.apart h.is.added h.is.gid_is here passes) in
-    let kept = seen.keeps.downloads.each at d x h.is.added h.is.there in
+    (λ y here passes. one_download ds gid at d y seen.keeps.apart h.is.added h.is.gid_is here passes)
+
+pub options_here : (s : MachineState) (v : MachineView) (gid : Gid) (at : ℕ) (x : Entry) → Seen s v → Here s gid at x
+    → Some x.options ≡ option_map (options_now v.start v.past) (download_in v.start v.past gid)
+options_here s v gid at x seen h =
+    let kept = seen.keeps.downloads.each at h.download x h.is.added h.is.there in
     subst (λ (w : MachineView). Some x.options ≡ option_map (options_now w.start w.past) (download_in w.start w.past gid))
     seen.view_is
     (ap (λ (o : OptionValues). Some o) kept.options_are
-    ∙ sym (ap (option_map (options_now s.start (reverse s.events))) first))
+    ∙ sym (ap (option_map (options_now s.start (reverse s.events))) (added_here s v gid at x seen h)))

@@ -11,3 +11,5 @@ pub mod WorkedRuns
 pub mod Journals
 pub mod MachineViews
 pub mod MachineParts
+pub mod Reads
+pub mod TurnRooms

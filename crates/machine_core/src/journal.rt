@@ -8,6 +8,12 @@ use std::alloc::{AllocError, Global};
 /// The most events of a run.
 pub const MAX_EVENTS: usize = 4_294_967_295;
 
+/// The most events of a turn.
+pub const TURN_EVENTS: u32 = 256;
+
+/// No turn begins once more events than this came.
+pub const MAX_BEFORE_TURN: u32 = 4_294_800_000;
+
 /// What happened in a run, in the order in which it happened.
 #[derive(Debug, Drop)]
 pub struct Journal {

@@ -10,11 +10,13 @@ mod halts;
 mod journal;
 mod laws;
 mod machine;
+mod rests;
+mod spares;
 
 pub use calls::Call;
 pub use ends::End;
 pub use events::Event;
-pub use journal::{Journal, MAX_EVENTS};
+pub use journal::{Journal, MAX_BEFORE_TURN, MAX_EVENTS, TURN_EVENTS};
 pub use laws::{
     downloads_are_legal, downloads_stay, known_downloads_are_idle, worked_runs_are_told,
 };

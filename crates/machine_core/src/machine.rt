@@ -1,5 +1,5 @@
 // The state of a run.
-ghost use Rattle.std.specs.Prelude.{◌≡◌, ◌≤◌, [], false, reverse, IfNone, IfOk, IfSome, MatchBool, None, option_copied, slice_get, true};
+ghost use Rattle.std.specs.Prelude.{◌≡◌, ◌≤◌, ◌↔◌, [], false, length, reverse, IfNone, IfOk, IfSome, MatchBool, None, OnOk, option_copied, slice_get, true};
 ghost use Rattle.std.specs.Option.{option_map};
 ghost use Rattle.dl_history.specs.PayloadParts.{is_opened};
 ghost use Rattle.machine_core.specs.Choices.{options_now};
@@ -7,15 +7,21 @@ ghost use Rattle.dl_queue.specs.Places.{status_of};
 ghost use Rattle.machine_core.specs.Replays.{queue_in};
 ghost use Rattle.machine_core.specs.OwnParts.{own_of};
 ghost use Rattle.machine_core.specs.MachineViews.{Appends, HasMarkRoomAt, IsFindingOf, IsLandingOf, IsLossOfClaim, IsNext, IsPlaceOf, IsSizingBy, StandsNowhere, StandsSomewhere, StandsUnder, IsFirstOpen, account_of_gid, is_added_in, UsesMarkRoomAt, UsesMarkRoomOf, UsesRoom, mark_spare_in};
+ghost use Rattle.machine_core.specs.Reads.{HasNoDeadMark, HasPiece, IsAdding, IsAllSaved, IsDeadPiece, IsOpenedGid, IsPieceUnlisted, downloads_in, is_finished_in};
 ghost use Rattle.machine_core.specs.RunLegal.{IsLegal, MayFollow, doors_left, download_in};
+ghost use Rattle.machine_core.specs.TurnRooms.{HasTurnMarkRoom, IsRoomierRun};
 ghost use Rattle.machine_core.specs.declared.events.Event.TheVariants as event;
+ghost use Rattle.machine_core.specs.declared.journal.TheConstants.{MAX_BEFORE_TURN, TURN_EVENTS};
 
 use crate::entries::Entry;
 use crate::halts::halt_all;
-use crate::{End, Event, Journal};
+use crate::rests::is_at_rest;
+use crate::spares::reserve_marks;
+use crate::{End, Event, Journal, MAX_BEFORE_TURN, TURN_EVENTS};
 use dl_history::{accounts_match_events, histories_are_sound, unopened_accounts_are_alike};
 use dl_kinds::{Claim, Gid, Mark, Moment, Run, Status, plan_laws};
-use dl_queue::Queue;
+use dl_queue::{ActiveGids, Queue};
+use mirror_blame::counting_is_stable;
 use one_download::steps_match_events;
 use option_set::{Num, Options};
 use piece_table::Table;
@@ -327,6 +333,23 @@ impl Machine {
         self.journal.add(Event::Left);
     }
 
+    /// Makes room for the events of a turn, and for as many marks of each active download. Want of memory also comes where
+    /// the run has had too many events for one more turn.
+    pub fn reserve_turn(&mut self) -> Result<(), AllocError>
+        ensures room { OnOk result (TURN_EVENTS ≤ self.new.spare) }
+        ensures mark_room { OnOk result (HasTurnMarkRoom self.new) }
+        ensures few { OnOk result (length self.old.past ≤ MAX_BEFORE_TURN) }
+        ensures same { IsRoomierRun self.old self.new }
+    {
+        if self.journal.len() > MAX_BEFORE_TURN {
+            return Err(AllocError);
+        }
+        // The doors and the stop have room of their own.
+        self.journal
+            .reserve(TURN_EVENTS as usize + self.doors as usize + 1)?;
+        reserve_marks(&self.queue, &mut self.entries)
+    }
+
     // ---- reads
 
     /// Whether a claim stands under a number.
@@ -402,5 +425,74 @@ impl Machine {
         ensures { result ≡ doors_left self.now.start self.now.past }
     {
         self.doors.saturating_sub(self.left)
+    }
+
+    /// The active downloads, in the order in which they became active.
+    pub fn active(&self) -> ActiveGids<'_>
+        ensures { result ≡ (queue_in self.now.start self.now.past).active }
+    {
+        self.queue.active()
+    }
+
+    /// The n-th download that was added, from 0, and the place in the journal of the call that added it.
+    pub fn added(&self, n: u32) -> Option<(Gid, u32)>
+        ensures found { IfSome result (λ adding. IsAdding self.now n adding.0 adding.1) }
+        ensures none { IfNone result (length (downloads_in self.now) ≤ n) }
+    {
+        let entry = self.entries.get(n as usize)?;
+        let _ = self.journal.len();
+        Some((entry.gid, entry.called as u32))
+    }
+
+    /// Whether the last save of a download that is opened, or its opening where there is none, lists a block of a piece.
+    pub fn lists(&self, gid: Gid, piece: u32) -> bool
+        requires opened { IsOpenedGid self.now gid }
+        requires piece { HasPiece self.now gid piece }
+        ensures { (result ≡ false) ↔ IsPieceUnlisted self.now gid piece }
+    {
+        plan_laws();
+        histories_are_sound();
+        accounts_match_events();
+        steps_match_events();
+        let entries = &self.entries;
+        let place = self.place(gid).unwrap();
+        entries[place].state.lists(piece)
+    }
+
+    /// Whether a save of a download that is opened would list other pieces or blocks than the last one does.
+    pub fn unsaved(&self, gid: Gid) -> bool
+        requires opened { IsOpenedGid self.now gid }
+        ensures { (result ≡ false) ↔ IsAllSaved self.now gid }
+    {
+        plan_laws();
+        histories_are_sound();
+        accounts_match_events();
+        steps_match_events();
+        let entries = &self.entries;
+        let place = self.place(gid).unwrap();
+        entries[place].state.is_unsaved()
+    }
+
+    /// The last mark of a piece for which no mirror of the download has a try left.
+    pub fn dead(&self, gid: Gid, piece: u32) -> Option<Mark>
+        ensures found { IfSome result (IsDeadPiece self.now gid piece) }
+        ensures none { IfNone result (HasNoDeadMark self.now gid piece) }
+    {
+        counting_is_stable();
+        let place = self.place(gid)?;
+        let marks = self.entries[place].state.marks();
+        if marks.dead(piece) {
+            marks.last_mark(piece)
+        } else {
+            None
+        }
+    }
+
+    /// Whether nothing is left to do: a Shutdown or the stop came, or no door stands, no download is active and each that
+    /// waits is paused.
+    pub fn finished(&self) -> bool
+        ensures { result ≡ is_finished_in self.now.start self.now.past }
+    {
+        self.shut || self.stopped || self.doors() == 0 && is_at_rest(&self.queue)
     }
 }

@@ -1,0 +1,24 @@
+// Room for the marks of downloads.
+ghost use Rattle.std.specs.Prelude.{◌≡◌, OnOk, length};
+ghost use Rattle.machine_core.specs.TurnRooms.{AreRoomier, HaveTurnRoom};
+
+use crate::TURN_EVENTS;
+use crate::entries::Entry;
+use dl_queue::Queue;
+use std::alloc::AllocError;
+
+/// Makes room for the marks of a turn of each active download. The entries stand in the order of adding.
+pub(crate) fn reserve_marks(queue: &Queue, entries: &mut Vec<Entry>) -> Result<(), AllocError>
+    requires { length entries.old.items ≡ length queue.now.added }
+    ensures same { AreRoomier entries.old.items entries.new.items }
+    ensures room { OnOk result (HaveTurnRoom queue.now entries.new.items) }
+{
+    for gid in queue.active() {
+        // Each download of the queue was added, so one without a place is none to make room for.
+        let Some(place) = queue.adding_place(gid) else {
+            return Err(AllocError);
+        };
+        entries[place].state.reserve_marks(TURN_EVENTS)?;
+    }
+    Ok(())
+}
