@@ -22,7 +22,7 @@ use Rattle.one_download.specs.DownloadViews.{IsPieceOf, is_opened_by}
 use Rattle.machine_core.specs.MachineParts.{MachineState, subject_of_event}
 use Rattle.machine_core.specs.MachineViews.{MachineView, is_added_in}
 use Rattle.machine_core.specs.OwnParts.{own_of}
-use Rattle.machine_core.specs.Reads.{HasNoDeadMark, HasPiece, IsAdding, IsAllSaved, IsDeadPiece, IsOpenedGid, IsPieceUnlisted, lengths_of_gid, own_of_gid}
+use Rattle.machine_core.specs.Reads.{HasNoDeadMark, IsPieceOfGid, IsAdding, IsAllSaved, IsDeadPiece, IsOpenedGid, IsPieceUnlisted, lengths_of_gid, own_of_gid}
 use Rattle.machine_core.specs.Replays.{replay_of}
 use Rattle.machine_core.specs.RunLegal.{IsDeadIn, download_in, marks_in, mirrors_by, tries_in}
 use Rattle.machine_core.specs.Starts.{Download}
@@ -161,7 +161,7 @@ opened_placed s v gid None seen opened none =
     (subst (λ (w : MachineView). IsOpenedGid w gid) (sym seen.view_is) opened)))
 opened_placed s v gid (Some n) seen opened none = refl
 
-pub has_piece : (v : MachineView) (gid : Gid) (k : Account) (piece : ℕ) → IsSeenOpened v gid k → HasPiece v gid piece
+pub has_piece : (v : MachineView) (gid : Gid) (k : Account) (piece : ℕ) → IsSeenOpened v gid k → IsPieceOfGid v gid piece
     → IsPieceOf k.progress piece
 has_piece v gid k piece is has = rw (is.total, is.piece_len) has
 

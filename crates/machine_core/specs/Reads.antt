@@ -40,8 +40,8 @@ abbrev pub IsOpenedGid : MachineView → Gid → Type 0
 IsOpenedGid m gid = is_opened (own_of_gid m gid) ≡ true
 
 -- its payload has such a piece
-abbrev pub HasPiece : MachineView → Gid → ℕ → Type 0
-HasPiece m gid piece = piece < pieces_of (lengths_of_gid m gid).total (lengths_of_gid m gid).piece_len
+abbrev pub IsPieceOfGid : MachineView → Gid → ℕ → Type 0
+IsPieceOfGid m gid piece = piece < pieces_of (lengths_of_gid m gid).total (lengths_of_gid m gid).piece_len
 
 -- the last save, or the opening where there is none, lists no block of the piece
 abbrev pub IsPieceUnlisted : MachineView → Gid → ℕ → Type 0

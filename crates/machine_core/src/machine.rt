@@ -7,7 +7,7 @@ ghost use Rattle.dl_queue.specs.Places.{status_of};
 ghost use Rattle.machine_core.specs.Replays.{queue_in};
 ghost use Rattle.machine_core.specs.OwnParts.{own_of};
 ghost use Rattle.machine_core.specs.MachineViews.{Appends, HasMarkRoomAt, IsFindingOf, IsLandingOf, IsLossOfClaim, IsNext, IsPlaceOf, IsSizingBy, StandsNowhere, StandsSomewhere, StandsUnder, IsFirstOpen, account_of_gid, is_added_in, UsesMarkRoomAt, UsesMarkRoomOf, UsesRoom, mark_spare_in};
-ghost use Rattle.machine_core.specs.Reads.{HasNoDeadMark, HasPiece, IsAdding, IsAllSaved, IsDeadPiece, IsOpenedGid, IsPieceUnlisted, downloads_in, is_finished_in};
+ghost use Rattle.machine_core.specs.Reads.{HasNoDeadMark, IsPieceOfGid, IsAdding, IsAllSaved, IsDeadPiece, IsOpenedGid, IsPieceUnlisted, downloads_in, is_finished_in};
 ghost use Rattle.machine_core.specs.RunLegal.{IsLegal, MayFollow, doors_left, download_in};
 ghost use Rattle.machine_core.specs.TurnRooms.{HasTurnMarkRoom, IsRoomierRun};
 ghost use Rattle.machine_core.specs.declared.events.Event.TheVariants as event;
@@ -447,7 +447,7 @@ impl Machine {
     /// Whether the last save of a download that is opened, or its opening where there is none, lists a block of a piece.
     pub fn lists(&self, gid: Gid, piece: u32) -> bool
         requires opened { IsOpenedGid self.now gid }
-        requires piece { HasPiece self.now gid piece }
+        requires piece { IsPieceOfGid self.now gid piece }
         ensures { (result ≡ false) ↔ IsPieceUnlisted self.now gid piece }
     {
         plan_laws();
