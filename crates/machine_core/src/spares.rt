@@ -14,7 +14,7 @@ pub(crate) fn reserve_marks(queue: &Queue, entries: &mut Vec<Entry>) -> Result<(
     ensures room { OnOk result (HaveTurnRoom queue.now entries.new.items) }
 {
     for gid in queue.active() {
-        // Each download of the queue was added, so one without a place is none to make room for.
+        // Never refused here: an active download was added, and so has a place.
         let Some(place) = queue.adding_place(gid) else {
             return Err(AllocError);
         };
