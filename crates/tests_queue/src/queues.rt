@@ -11,6 +11,23 @@ const B: Gid = Gid(11);
 
 const C: Gid = Gid(12);
 
+// The active downloads, in order.
+fn active_gids(alloc: Global, queue: &Queue) -> Result<Vec<Gid>, Fail> {
+    let mut gids = Vec::new(alloc);
+    for gid in queue.active() {
+        gids.push(gid)?;
+    }
+    Ok(gids)
+}
+
+// The waiting download at a place.
+fn waiting_gid(queue: &Queue, place: usize) -> Option<Gid> {
+    match queue.waiting().nth(place) {
+        Some(download) => Some(download.gid),
+        None => None,
+    }
+}
+
 #[test]
 fn one_download_at_a_time(rt: HostRuntime) -> Result<(), Fail> {
     let alloc = rt.alloc();
@@ -22,27 +39,18 @@ fn one_download_at_a_time(rt: HostRuntime) -> Result<(), Fail> {
         queue.add(A, Options::new(alloc)?, false, None),
         Err(QueueErr::SameGid)
     );
-    assert!(rt; queue.active().eq([A]));
+    assert_eq!(rt; active_gids(alloc, &queue)?.as_slice(), [A].as_slice());
     assert_eq!(rt; queue.pause(A), Ok(()));
-    assert!(rt; queue.active().eq([B]));
-    assert_eq!(rt;
-        queue.waiting().nth(0).map(|download| download.gid),
-        Some(A)
-    );
-    assert_eq!(rt;
-        queue.waiting().nth(1).map(|download| download.gid),
-        Some(C)
-    );
+    assert_eq!(rt; active_gids(alloc, &queue)?.as_slice(), [B].as_slice());
+    assert_eq!(rt; waiting_gid(&queue, 0), Some(A));
+    assert_eq!(rt; waiting_gid(&queue, 1), Some(C));
     assert_eq!(rt; queue.pause(A), Err(QueueErr::WrongStatus(Status::Paused)));
     assert_eq!(rt; queue.unpause(A), Ok(()));
     assert_eq!(rt; queue.change_position(A, 1, How::Cur), Ok(1));
-    assert_eq!(rt;
-        queue.waiting().nth(0).map(|download| download.gid),
-        Some(C)
-    );
+    assert_eq!(rt; waiting_gid(&queue, 0), Some(C));
     assert_eq!(rt; queue.change_position(A, -9, How::End), Ok(0));
     assert_eq!(rt; queue.stop(B, Status::Complete), Ok(()));
-    assert!(rt; queue.active().eq([A]));
+    assert_eq!(rt; active_gids(alloc, &queue)?.as_slice(), [A].as_slice());
     assert_eq!(rt; queue.status(B), Ok(Status::Complete));
     assert_eq!(rt; queue.forget(B), Ok(()));
     assert_eq!(rt; queue.status(B), Err(QueueErr::NotFound));
@@ -50,7 +58,7 @@ fn one_download_at_a_time(rt: HostRuntime) -> Result<(), Fail> {
     assert_eq!(rt; queue.active_len(), 0);
     queue.set_limit(2);
     queue.unpause_all();
-    assert!(rt; queue.active().eq([A, C]));
+    assert_eq!(rt; active_gids(alloc, &queue)?.as_slice(), [A, C].as_slice());
     assert_eq!(rt; queue.remove(C), Ok(()));
     queue.purge();
     assert_eq!(rt; queue.stopped_len(), 0);
