@@ -67,6 +67,7 @@ halts_on own l v d x y k h =
       marks = h.rest.marks ∙ k.marks;
       mirrors = h.rest.set_up.mirrors ∙ k.mirrors;
       max_tries = h.rest.set_up.max_tries ∙ k.max_tries;
+      hosts = k.hosts;
       wanted = λ opened. h.rest.set_up.wanted ∙ k.wanted opened;
       known = k.known;
     })
@@ -137,6 +138,7 @@ sizes_on alike own l l' v id total d x s legal un k account rest =
       marks = rest.marks ∙ k.marks;
       mirrors = rest.set_up.mirrors ∙ k.mirrors;
       max_tries = rest.set_up.max_tries ∙ k.max_tries;
+      hosts = k.hosts;
       wanted = λ opened. absurd (let o = opened in cc);
       known = k.known;
     }

@@ -87,6 +87,7 @@ goes_on law own l v o d x s plain k f =
       marks = f.marks ∙ (rw (k.max_tries, k.marks) (law (tries_in d) own o));
       mirrors = f.set_up.mirrors ∙ k.mirrors;
       max_tries = f.set_up.max_tries ∙ k.max_tries;
+      hosts = k.hosts;
       wanted = λ h. f.set_up.wanted ∙ k.wanted (closed_own o own plain.closed h);
       known = subst (λ (cs : List Claim). All (λ (c : Claim). c.mirror < mirrors_by d.subject) cs)
           (sym (plain.granted own)) k.known;

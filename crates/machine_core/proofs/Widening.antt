@@ -166,6 +166,7 @@ keeps_entry s d x y past r k =
       marks = ap (λ (v : DownloadView). v.marks) same ∙ k.marks;
       mirrors = ap (λ (v : DownloadView). v.mirrors) same ∙ k.mirrors;
       max_tries = ap (λ (v : DownloadView). v.max_tries) same ∙ k.max_tries;
+      hosts = k.hosts;
       wanted = λ opened. ap (λ (v : DownloadView). v.wanted) same ∙ k.wanted opened;
       known = k.known;
     })

@@ -7,13 +7,14 @@ use Rattle.dl_kinds.specs.declared.gid.Gid.{Gid}
 use Rattle.dl_queue.specs.Lists.{QueueLists}
 use Rattle.dl_queue.specs.declared.kinds.Added.{Added}
 use Rattle.mirror_blame.specs.Marks.{counted}
+use Rattle.mirror_hosts.specs.Hosts.{host_numbers}
 use Rattle.one_download.specs.DownloadViews.{DownloadView, StaysUnmarked}
 use Rattle.option_set.specs.Values.{OptionValues}
 use Rattle.dl_history.specs.Accounts.{account_of, after_halt}
 use Rattle.dl_history.specs.OwnEvents.{OwnEvent}
 use Rattle.dl_history.specs.PayloadParts.{is_opened, blames_in}
 use Rattle.dl_history.specs.StandingClaims.{granted_claims}
-use Rattle.machine_core.specs.Choices.{options_now}
+use Rattle.machine_core.specs.Choices.{mirror_urls, options_now}
 use Rattle.machine_core.specs.OwnParts.{PayloadLengths, own_of}
 use Rattle.machine_core.specs.Replays.{Replay, replay_of}
 use Rattle.machine_core.specs.RunLegal.{IsLegal, download_in, is_left, is_stop, known_lengths, mirrors_by, tries_in}
@@ -46,6 +47,7 @@ pub record KeepsDownload (own : List OwnEvent) (lengths : PayloadLengths) (optio
   pub marks : entry.state.marks ≡ counted (tries_in download) (blames_in own)
   pub mirrors : entry.state.mirrors ≡ mirrors_by download.subject
   pub max_tries : entry.state.max_tries ≡ tries_in download
+  pub hosts : entry.hosts.items ≡ host_numbers (mirror_urls download.subject)
   pub wanted : is_opened own ≡ true → entry.state.wanted ≡ wanted_pieces download lengths
   pub known : All (λ claim. claim.mirror < mirrors_by download.subject) (granted_claims own)
 

@@ -11,5 +11,7 @@ pub(crate) struct Entry {
     pub(crate) called: usize,
     // Its options as they are now.
     pub(crate) options: Options,
+    // The number of each mirror's host.
+    pub(crate) hosts: Vec<u16>,
     pub(crate) state: OneDownload,
 }
