@@ -1,3 +1,4 @@
+pub mod Charges
 pub mod Laws
 pub mod Leads
 pub mod Serving
