@@ -40,8 +40,7 @@ cost None = 0
 cost (Some bad) = 1
 
 -- the stream gave the reply of what stands there, or a bad one in its place, or a front of it; all of it, where the end was told
-pub record GaveReply (among : ℕ → Bool) (at after : Content) (asked : Asked) (stream : Stream) (file : MemFile) : Type 0 where
-  pub manner : Manner
+pub record GaveReply (among : ℕ → Bool) (at after : Content) (asked : Asked) (stream : Stream) (manner : Manner) (file : MemFile) : Type 0 where
   pub bad : Option Bad
   pub due : List ℕ
   pub whole : text_under bad (reply_by manner (Some file) asked.first asked.last) ≡ stream.received ++ due
@@ -96,8 +95,8 @@ module _ (alike : RequestsAreAlike) (answered : RequestsAreAnswered) (among : �
 
   -- a request for what stands at a URL had its reply, or the next bad answer in its place
   pub gave_reply : (url : List ℕ) (asked : Asked) (stream : Stream) (file : MemFile) (at after : Content) (due : List ℕ) → asked.first ≤ asked.last → asked.last < 2 ^ 64
-      → at.mirrors ≡ old.mirrors → StandsAt old url file → ((number : ℕ) → NamesMirror old url number → among number ≡ true)
-      → IsExchange url asked stream → Gave at stream due after → GaveReply among at after asked stream file
+      → at.mirrors ≡ old.mirrors → (stands : StandsAt old url file) → ((number : ℕ) → NamesMirror old url number → among number ≡ true)
+      → IsExchange url asked stream → Gave at stream due after → GaveReply among at after asked stream stands.mirror.manner file
   gave_reply url asked stream file at after due ordered bounded mirrors stands is_among exchange gave = elim gave [
     | inl nothing ↦ absurd (none-sent stream.sent _ nothing.none_sent exchange.sent_is)
     | inr one ↦
@@ -114,7 +113,6 @@ module _ (alike : RequestsAreAlike) (answered : RequestsAreAnswered) (among : �
         (record { newest = stream; older = []; streams_are = refl; host_is = exchange.host_is; port_is = exchange.port_is; nothing_due = refl; sent_is = request; ordered = ordered; bounded = bounded })
         (one.reply, one.answers, refl) in
         record {
-          manner = manner;
           bad = bad;
           due = due;
           whole =

@@ -38,7 +38,7 @@ due-head : (ended : Bool) → IsLostOrDue (head_due ended)
 due-head true = lost (losses.Short 0)
 due-head false = record { none = refl; turn = inl refl }
 
-either : (test : Bool) (a b : Verdict) (P : Verdict → Type 0) → P a → P b → P (cond test a b)
+pub either : (test : Bool) (a b : Verdict) (P : Verdict → Type 0) → P a → P b → P (cond test a b)
 either true a b P p q = p
 either false a b P p q = q
 

@@ -7,6 +7,7 @@ pub mod Gained
 pub mod Leading
 pub mod Paid
 pub mod Plans
+pub mod Probing
 pub mod Replies
 pub mod Served
 pub mod Turns

@@ -99,11 +99,11 @@ pub next_leads : (content : Content) (left : ℕ) (url bytes : List ℕ) (on : L
 next_leads content left url bytes on number leads =
     subst (λ n. LeadsThrough content n url number) (sym on.one) (inr (on.next, on.redirects, leads))
 
-usable-at : (content : Content) (url : List ℕ) (file : MemFile) → StandsAt content url file → IsUsable url
-usable-at content url file stands = (stands.named.0, stands.named.1, stands.named.2)
+pub usable_at : (content : Content) (url : List ℕ) (file : MemFile) → StandsAt content url file → IsUsable url
+usable_at content url file stands = (stands.named.0, stands.named.1, stands.named.2)
 
 pub usable : (content : Content) (left : ℕ) (url bytes : List ℕ) → Leads content left url bytes → IsUsable url
 usable content left url bytes leads = elim (leads_on content left url bytes leads) [
-  | inl stands ↦ usable-at content url _ stands
-  | inr on ↦ usable-at content url _ on.redirects.stands
+  | inl stands ↦ usable_at content url _ stands
+  | inr on ↦ usable_at content url _ on.redirects.stands
 ]

@@ -187,7 +187,7 @@ module _ (laws : Laws) (among : ℕ → Bool) (old at after : Content) (url : Li
     | inl nothing ↦ nothing-came (wanted bytes asked) (Given asked.last) nothing.1
     | inr asking ↦
         let had = gave_reply laws.alike laws.answered among old url asked stream (Bytes bytes) at after due ordered bounded mirrors stands is_among asking.0 gave in
-        record { spent = cost had.bad; paid = had.paid; outcome = by-bad bytes inside asking.1 had.manner had.bad had.due had.whole had.last }
+        record { spent = cost had.bad; paid = had.paid; outcome = by-bad bytes inside asking.1 stands.mirror.manner had.bad had.due had.whole had.last }
   ]
 
   -- where it has moved

@@ -2,3 +2,4 @@ pub mod Charges
 pub mod Laws
 pub mod Leads
 pub mod Serving
+pub mod Sizes

@@ -1,6 +1,7 @@
 // What comes by streams that gave the answers of mirrors in memory.
 ghost use Rattle.memory_serving_laws.specs.Charges.{BadAnswersPay, OneIsNeverBoth};
 ghost use Rattle.memory_serving_laws.specs.Leads.{LeadsOnce, VisibleLocationsLead};
+ghost use Rattle.memory_serving_laws.specs.Sizes.{BadAnswersPayProbes, ServedSizeIsTold};
 ghost use Rattle.memory_serving_laws.specs.Laws.{ServedComes, CleanMirrorsUseNone, GoodMirrorsStay, GoodMirrorsServe};
 
 use memory_reply_laws::{bad_replies_are_read, replies_are_read, requests_are_answered};
@@ -27,6 +28,19 @@ pub fn served_comes()
     ensures one { OneIsNeverBoth }
 {
     bad_answers_pay();
+}
+
+/// What a probe tells is the length of what is served, or a bad answer of the mirrors that its URL leads through was used.
+pub fn served_sizes_are_told()
+    ensures pay { BadAnswersPayProbes }
+    ensures told { ServedSizeIsTold }
+{
+    answers_fill_what_is_asked();
+    bad_replies_are_read();
+    final_heads_are_one_and_stay();
+    replies_are_read();
+    requests_are_answered();
+    streams_have_one_answer();
 }
 
 /// Mirrors without bad answers use none, and stay as they are.
