@@ -3,5 +3,7 @@ pub mod Bodies
 pub mod Fronts
 pub mod Numbers
 pub mod Parts
+pub mod Spoiled
+pub mod Statuses
 pub mod Whole
 pub mod Written

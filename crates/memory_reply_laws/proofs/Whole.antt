@@ -100,12 +100,12 @@ stream_is_read bytes asked total known =
 
 -- ---- nothing there
 
-abbrev none_field : List ℕ × List ℕ
+abbrev pub none_field : List ℕ × List ℕ
 none_field = (codes "Content-Length", codes "0")
 
-none-written : IsWritten none_field
+pub none_written : IsWritten none_field
 unfolding is_token_byte
-none-written = record {
+none_written = record {
   name = (omega arith, AllPass-from_list_all is_token_byte (codes "Content-Length") refl);
   value = record { bytes = values_pass (codes "0") refl; front = refl; back = refl };
 }
@@ -119,7 +119,7 @@ not_found-written = record {
   three = refl;
   digits_are = AllPass-from_list_all is_ascii_digit (codes "404") refl;
   reason_is = values_pass (codes "Not Found") refl;
-  fields_are = All-cons IsWritten none_field [] none-written (All-nil IsWritten);
+  fields_are = All-cons IsWritten none_field [] none_written (All-nil IsWritten);
   few = omega arith;
   short = omega arith;
 }
@@ -177,7 +177,7 @@ moved-written location is = record {
   three = refl;
   digits_are = AllPass-from_list_all is_ascii_digit (codes "302") refl;
   reason_is = values_pass (codes "Found") refl;
-  fields_are = All-cons IsWritten (location_field location) (none_field ∷ []) (location-written location is) (All-cons IsWritten none_field [] none-written (All-nil IsWritten));
+  fields_are = All-cons IsWritten (location_field location) (none_field ∷ []) (location-written location is) (All-cons IsWritten none_field [] none_written (All-nil IsWritten));
   few = omega arith;
   short = let short = is.short in omega (arith, ap length (moved-text location));
 }
@@ -227,7 +227,7 @@ empty-written =
       three = refl;
       digits_are = AllPass-from_list_all is_ascii_digit (codes "416") refl;
       reason_is = values_pass (codes "Range Not Satisfiable") refl;
-      fields_are = All-cons IsWritten (codes "Content-Range", empty_text) (none_field ∷ []) range (All-cons IsWritten none_field [] none-written (All-nil IsWritten));
+      fields_are = All-cons IsWritten (codes "Content-Range", empty_text) (none_field ∷ []) range (All-cons IsWritten none_field [] none_written (All-nil IsWritten));
       few = omega arith;
       short =
           omega (

@@ -1,3 +1,4 @@
 pub mod Answers
+pub mod BadReplies
 pub mod Reading
 pub mod Replies

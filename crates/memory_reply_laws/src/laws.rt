@@ -1,5 +1,6 @@
 // How the replies of mirrors in memory are read, and what they are given for.
 ghost use Rattle.memory_reply_laws.specs.Answers.{RequestsAreAlike, RequestsAreAnswered, NoneIsNext};
+ghost use Rattle.memory_reply_laws.specs.BadReplies.{FlippedIsTrue, BareIsNotFlipped, CutIsFront, StatusIsRead, OtherStatusIsNoHead, StatusIsReadOrNone, NothingIsUnfinished};
 ghost use Rattle.memory_reply_laws.specs.Replies.{PartIsRead, ChunkedPartIsRead, WholeIsRead, StreamIsRead, MovedIsRead, NotFoundIsRead, EmptyIsRead, ToldContentIsPlain, FrontsAreRead, HeadFrontsAreRead};
 
 use body_frames::{chunks_are_read, pieces_join};
@@ -27,6 +28,20 @@ pub fn fronts_are_read()
 {
     heads_are_one_and_stay();
     pieces_join();
+}
+
+/// How the bad answers are read: what a turned byte and a cut body make of a reply, and how a status alone is read.
+pub fn bad_replies_are_read()
+    ensures flipped { FlippedIsTrue }
+    ensures bare { BareIsNotFlipped }
+    ensures cut { CutIsFront }
+    ensures status { StatusIsRead }
+    ensures other_status { OtherStatusIsNoHead }
+    ensures any_status { StatusIsReadOrNone }
+    ensures nothing { NothingIsUnfinished }
+{
+    heads_are_one_and_stay();
+    numbers_and_ranges_are_read();
 }
 
 /// What is due after a request on a stream that had nothing more to give.

@@ -5,7 +5,7 @@ use Rattle.std.specs.Prelude.{Option, Some, None}
 use Rattle.link_source.specs.Endpoint.{endpoint_of, host_value}
 use Rattle.memory_serving_laws.specs.Leads.{StandsAt}
 use Rattle.link_source.specs.Mirrors.{Content, HasReply, bad_at, mirror_at, number_at, reply_by}
-use Rattle.link_source.specs.Replies.{text_of, text_under}
+use Rattle.link_source.specs.Replies.{text_under}
 use Rattle.link_source.specs.Requests.{Asks}
 use Rattle.link_source.specs.Streams.{Stream}
 use Rattle.link_source.specs.declared.bad_answers.Bad.{Bad}
@@ -14,9 +14,10 @@ use Rattle.link_source.specs.declared.mirrors.Manner.{Manner}
 use Rattle.link_source.specs.declared.mirrors.MemFile.{MemFile}
 use Rattle.range_http.specs.declared.asked.Asked.{Asked}
 use Rattle.memory_reply_laws.specs.Answers.{Has, RequestsAreAlike, RequestsAreAnswered}
+use Rattle.request_chain.specs.Answered.{Gave}
 use Rattle.request_chain.specs.Exchanges.{IsExchange, LeadsTo, request_for}
 use Rattle.memory_serving_laws.specs.Serving.{NamesMirror, used_among}
-use Rattle.memory_serving_laws.proofs.Counting.{GaveClean, counts, next_number, one_used}
+use Rattle.memory_serving_laws.proofs.Counting.{counts, next_number, one_used, reply_counts}
 
 -- a URL leads to one endpoint
 one-endpoint : (url : List ℕ) (a b : Endpoint) → LeadsTo url a → LeadsTo url b → a ≡ b
@@ -33,12 +34,18 @@ none-sent : (sent : List (ℕ × List ℕ)) (first : ℕ × List ℕ) → sent �
 none-sent sent first none one =
     cc (none, one)
 
--- the stream gave the reply of what stands there, or a front of it; all of it, where the end was told
-pub record GaveReply (asked : Asked) (stream : Stream) (file : MemFile) : Type 0 where
-  pub manner : Manner
+-- how many bad answers there are
+abbrev pub cost : Option Bad → ℕ
+cost None = 0
+cost (Some bad) = 1
+
+-- the stream gave the reply of what stands there, or a bad one in its place, or a front of it; all of it, where the end was told
+pub record GaveReply (among : ℕ → Bool) (at after : Content) (asked : Asked) (stream : Stream) (manner : Manner) (file : MemFile) : Type 0 where
+  pub bad : Option Bad
   pub due : List ℕ
-  pub whole : text_of (reply_by manner (Some file) asked.first asked.last) ≡ stream.received ++ due
+  pub whole : text_under bad (reply_by manner (Some file) asked.first asked.last) ≡ stream.received ++ due
   pub last : stream.ended ≡ true → due ≡ []
+  pub paid : used_among among at + cost bad ≤ used_among among after
 
 module _ (alike : RequestsAreAlike) (answered : RequestsAreAnswered) (among : ℕ → Bool) (old : Content) where
   -- the mirror of the endpoint, at the time of the request
@@ -67,15 +74,15 @@ module _ (alike : RequestsAreAlike) (answered : RequestsAreAnswered) (among : �
       let Q : ℕ → Type 0 = λ p. Asks stream.host p endpoint.target asked.first asked.last request in
       subst Q (sym port) (subst P (sym host) here)
 
-  -- no bad answer is next where none of these mirrors' was used
-  none_there : (url : List ℕ) (asked : Asked) (stream : Stream) (at after : Content) (endpoint : Endpoint) (request reply : List ℕ) (next : Option Bad)
+  -- a bad answer that is next there is one of these mirrors', and used
+  paid_there : (url : List ℕ) (asked : Asked) (stream : Stream) (at after : Content) (endpoint : Endpoint) (request reply : List ℕ) (next : Option Bad)
       → HasReply at stream.host stream.port request reply after → Asks stream.host stream.port endpoint.target asked.first asked.last request
-      → stream.host ≡ endpoint.host → stream.port ≡ endpoint.port → at.mirrors ≡ old.mirrors → used_among among after ≡ used_among among at
+      → stream.host ≡ endpoint.host → stream.port ≡ endpoint.port → at.mirrors ≡ old.mirrors
       → LeadsTo url endpoint → ((number : ℕ) → NamesMirror old url number → among number ≡ true)
-      → bad_at at stream.host stream.port ≡ next → bad_at at endpoint.host endpoint.port ≡ None
-  none_there url asked stream at after endpoint request reply None has asks host port mirrors unused leads is_among is =
-      ap (λ h. bad_at at h endpoint.port) (sym host) ∙ ap (bad_at at stream.host) (sym port) ∙ is
-  none_there url asked stream at after endpoint request reply (Some bad) has asks host port mirrors unused leads is_among is =
+      → bad_at at stream.host stream.port ≡ next → used_among among at + cost next ≤ used_among among after
+  paid_there url asked stream at after endpoint request reply None has asks host port mirrors leads is_among is =
+      omega (arith, (reply_counts among at stream.host stream.port request reply after has).0)
+  paid_there url asked stream at after endpoint request reply (Some bad) has asks host port mirrors leads is_among is =
       let used = one_used among at after bad (has.used endpoint.target asked.first asked.last bad asks is) in
       let next = next_number at stream.host stream.port bad is in
       let at_old : number_at old.mirrors endpoint.host endpoint.port ≡ Some next.number =
@@ -84,31 +91,33 @@ module _ (alike : RequestsAreAlike) (answered : RequestsAreAnswered) (among : �
       let counted : among bad.mirror ≡ true =
       ap among next.own ∙ is_among next.number (record { endpoint = endpoint; named = leads; number_is = at_old }) in
       let one : counts among bad ≡ 1 = cond-true (among bad.mirror) 1 0 counted in
-      absurd (omega (arith, used, one, unused))
+      omega (arith, used, one)
 
-  -- a request for what stands at a URL had its reply, where no bad answer of its mirror was used
-  pub gave_reply : (url : List ℕ) (asked : Asked) (stream : Stream) (file : MemFile) → asked.first ≤ asked.last → asked.last < 2 ^ 64
-      → StandsAt old url file → ((number : ℕ) → NamesMirror old url number → among number ≡ true)
-      → IsExchange url asked stream → GaveClean among old stream → GaveReply asked stream file
-  gave_reply url asked stream file ordered bounded stands is_among exchange clean = elim clean.gave [
+  -- a request for what stands at a URL had its reply, or the next bad answer in its place
+  pub gave_reply : (url : List ℕ) (asked : Asked) (stream : Stream) (file : MemFile) (at after : Content) (due : List ℕ) → asked.first ≤ asked.last → asked.last < 2 ^ 64
+      → at.mirrors ≡ old.mirrors → (stands : StandsAt old url file) → ((number : ℕ) → NamesMirror old url number → among number ≡ true)
+      → IsExchange url asked stream → Gave at stream due after → GaveReply among at after asked stream stands.mirror.manner file
+  gave_reply url asked stream file at after due ordered bounded mirrors stands is_among exchange gave = elim gave [
     | inl nothing ↦ absurd (none-sent stream.sent _ nothing.none_sent exchange.sent_is)
-    | inr gave ↦
+    | inr one ↦
         let endpoint = exchange.endpoint in
         let manner = stands.mirror.manner in
-        let request : gave.request ≡ request_for asked endpoint = one-first stream.sent (0, gave.request) (0, request_for asked endpoint) gave.sent_is exchange.sent_is in
-        let asks = asks_there asked stream endpoint gave.request ordered bounded exchange.host_is exchange.port_is request in
-        let none = none_there url asked stream clean.at clean.after endpoint gave.request gave.reply _ gave.answers asks exchange.host_is exchange.port_is
-        clean.mirrors_are clean.unused exchange.leads is_among refl in
-        let has = has_there clean.at url endpoint file clean.mirrors_are stands exchange.leads in
-        let reply : gave.reply ≡ text_under (bad_at clean.at endpoint.host endpoint.port) (reply_by manner (Some file) asked.first asked.last) =
-        answered (stream ∷ []) [] gave.reply gave.request endpoint.host endpoint.target endpoint.port asked clean.at clean.after manner (Some file) has
+        let request : one.request ≡ request_for asked endpoint = one-first stream.sent (0, one.request) (0, request_for asked endpoint) one.sent_is exchange.sent_is in
+        let asks = asks_there asked stream endpoint one.request ordered bounded exchange.host_is exchange.port_is request in
+        let bad = bad_at at stream.host stream.port in
+        let has = has_there at url endpoint file mirrors stands exchange.leads in
+        let same : bad_at at endpoint.host endpoint.port ≡ bad =
+        ap (λ h. bad_at at h endpoint.port) (sym exchange.host_is) ∙ ap (bad_at at stream.host) (sym exchange.port_is) in
+        let reply : one.reply ≡ text_under (bad_at at endpoint.host endpoint.port) (reply_by manner (Some file) asked.first asked.last) =
+        answered (stream ∷ []) [] one.reply one.request endpoint.host endpoint.target endpoint.port asked at after manner (Some file) has
         (record { newest = stream; older = []; streams_are = refl; host_is = exchange.host_is; port_is = exchange.port_is; nothing_due = refl; sent_is = request; ordered = ordered; bounded = bounded })
-        (gave.reply, gave.answers, refl) in
+        (one.reply, one.answers, refl) in
         record {
-          manner = manner;
-          due = clean.due;
+          bad = bad;
+          due = due;
           whole =
-              sym (reply ∙ ap (λ bad. text_under bad (reply_by manner (Some file) asked.first asked.last)) none) ∙ sym gave.whole;
-          last = gave.last;
+              sym (reply ∙ ap (λ b. text_under b (reply_by manner (Some file) asked.first asked.last)) same) ∙ sym one.whole;
+          last = one.last;
+          paid = paid_there url asked stream at after endpoint one.request one.reply bad one.answers asks exchange.host_is exchange.port_is mirrors exchange.leads is_among refl;
         }
   ]

@@ -1,16 +1,17 @@
 -- Bad answers that are used, counted.
-use Rattle.std.proofs.Common.{◌≡◌, ◌≢◌, ◌⊎◌, ◌==◌, ◌<◌, ◌≤◌, ◌+◌, ◌∙◌, ℕ, Bool, true, false, cond, List, [], ◌∷◌, ◌++◌, Option, Some, None, inl, inr, refl, ap, sym, subst, arith}
-use Rattle.std.proofs.lemmas.Bool.{cond-true, cond-false, eqb-true, cases_Bool, true≢false}
-use Rattle.std.proofs.lemmas.List.Elements.{All-nil, All-cons, All-head, All-tail}
+use Rattle.std.proofs.Common.{◌≡◌, ◌==◌, ◌≤◌, ◌+◌, ◌∙◌, ℕ, Bool, true, false, cond, List, [], ◌∷◌, ◌++◌, Option, Some, None, inl, inr, refl, ap, sym, subst, arith}
+use Rattle.std.proofs.lemmas.Bool.{cond-true, cond-false, eqb-true, cases_Bool}
+use Rattle.std.proofs.lemmas.List.Elements.{All-cons, All-head, All-tail}
 use Rattle.std.proofs.lemmas.List.Sums.{sum_by-append}
 use Rattle.std.proofs.lemmas.Option.{none-some}
 use Rattle.std.specs.Prelude.{All, option_and_then, count_by}
 use Rattle.link_source.specs.BadAnswers.{IsUsed, next_bad}
 use Rattle.link_source.specs.Link.{LinkState}
-use Rattle.link_source.specs.Mirrors.{Content, HasReply, UsesBadAnswer, bad_at, number_at}
+use Rattle.link_source.specs.Mirrors.{Content, HasReply, bad_at, number_at}
 use Rattle.link_source.specs.Streams.{Stream}
 use Rattle.link_source.specs.declared.bad_answers.Bad.{Bad}
 use Rattle.request_chain.specs.Answered.{Gave, GaveAll, IsAnswered}
+use Rattle.memory_serving_laws.proofs.Gained.{GaveEach}
 use Rattle.memory_serving_laws.specs.Serving.{used_among}
 
 -- ---- the next bad answer
@@ -50,47 +51,26 @@ module _ (among : ℕ → Bool) where
       ap (count_by (λ (b : Bad). among b.mirror)) used.added ∙ sum_by-append counts old.used (bad ∷ []) ∙ omega arith
 
   -- a reply uses one at most
-  reply_counts : (old : Content) (host : List ℕ) (port : ℕ) (bytes reply : List ℕ) (new : Content) → HasReply old host port bytes reply new
+  pub reply_counts : (old : Content) (host : List ℕ) (port : ℕ) (bytes reply : List ℕ) (new : Content) → HasReply old host port bytes reply new
       → (used_among among old ≤ used_among among new) × (new.mirrors ≡ old.mirrors)
   reply_counts old host port bytes reply new has = elim has.effect [
     | inl same ↦ (omega (arith, ap (used_among among) same), ap (λ (c : Content). c.mirrors) same)
     | inr uses ↦ (omega (arith, one_used old new uses.bad uses.used), uses.mirrors_stay)
   ]
 
-  gave_counts : (old : Content) (stream : Stream) (due : List ℕ) (new : Content) → Gave old stream due new
+  pub gave_counts : (old : Content) (stream : Stream) (due : List ℕ) (new : Content) → Gave old stream due new
       → (used_among among old ≤ used_among among new) × (new.mirrors ≡ old.mirrors)
   gave_counts old stream due new gave = elim gave [
     | inl none ↦ (omega (arith, ap (used_among among) none.same), ap (λ (c : Content). c.mirrors) none.same)
     | inr one ↦ reply_counts old stream.host stream.port one.request one.reply new one.answers
   ]
 
-  all_counts : (old : Content) (streams : List Stream) (new : Content) → GaveAll old streams new
-      → (used_among among old ≤ used_among among new) × (new.mirrors ≡ old.mirrors)
-  all_counts old [] new same = (omega (arith, ap (used_among among) same), ap (λ (c : Content). c.mirrors) same)
-  all_counts old (stream ∷ older) new (between, due, past, gave) =
-      let first = all_counts old older between past in
-      let last = gave_counts between stream due new gave in
-      (omega (arith, first.0, last.0), last.1 ∙ first.1)
-
-  -- the stream gave so at some time, and used none of these mirrors' bad answers
-  pub record GaveClean (old : Content) (stream : Stream) : Type 0 where
-    pub at : Content
-    pub after : Content
-    pub due : List ℕ
-    pub mirrors_are : at.mirrors ≡ old.mirrors
-    pub gave : Gave at stream due after
-    pub unused : used_among among after ≡ used_among among at
-
-  -- where none was used in all, none was in each
-  all_clean : (old : Content) (streams : List Stream) (new : Content) → GaveAll old streams new → used_among among new ≤ used_among among old
-      → All (GaveClean old) streams
-  all_clean old [] new same few = All-nil (GaveClean old)
-  all_clean old (stream ∷ older) new (between, due, past, gave) few =
-      let first = all_counts old older between past in
-      let last = gave_counts between stream due new gave in
-      All-cons (GaveClean old) stream older
-      (record { at = between; after = new; due = due; mirrors_are = first.1; gave = gave; unused = omega (arith, first.0, last.0, few) })
-      (all_clean old older between past (omega (arith, last.0, few)))
+  -- the streams used no fewer, and the mirrors hold what they held
+  pub each_counts : (old : Content) (streams : List Stream) (new : Content) → GaveEach old streams new → used_among among old ≤ used_among among new
+  each_counts old [] new same = omega (arith, ap (used_among among) same)
+  each_counts old (stream ∷ later) new (between, due, gave, gave_later) =
+      let rest = each_counts between later new gave_later in
+      omega (arith, (gave_counts old stream due between gave).0, rest)
 
   -- the streams that a link gained, the newest first
   pub record OnTop (old : Content) (before : List Stream) (link : LinkState) : Type 0 where
@@ -103,10 +83,6 @@ module _ (among : ℕ → Bool) where
     | inl none ↦ record { top = []; on_top = none.0; gave = none.1 }
     | inr top ↦ record { top = top.newest ∷ top.older; on_top = top.on_top; gave = (top.between, link.due, top.past, top.gave) }
   ]
-
-  pub clean_top : (old : Content) (before : List Stream) (link : LinkState) (top : OnTop old before link) → used_among among link.content ≤ used_among among old
-      → All (GaveClean old) top.top
-  clean_top old before link top few = all_clean old top.top link.content top.gave few
 
 -- ---- mirrors without bad answers
 

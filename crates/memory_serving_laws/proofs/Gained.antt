@@ -1,38 +1,51 @@
--- The streams that a link gained.
-use Rattle.std.proofs.Common.{◌≡◌, List, [], ◌∷◌, ◌++◌, append_assoc, sym, subst, ◌∙◌}
+-- The streams that a link gained, in their order.
+use Rattle.std.proofs.Common.{◌≡◌, ℕ, List, [], ◌∷◌, ◌++◌, append_assoc, refl, sym, subst, ◌∙◌}
 use Rattle.std.proofs.lemmas.List.{append_cancel_right}
-use Rattle.std.proofs.lemmas.List.Elements.{All-nil, All-cons, All-head, All-tail}
-use Rattle.std.specs.Prelude.{All}
+use Rattle.link_source.specs.Mirrors.{Content}
 use Rattle.link_source.specs.Streams.{Stream}
+use Rattle.request_chain.specs.Answered.{Gave, GaveAll}
 use Rattle.request_chain.specs.Chains.{Gains}
 
-module _ (P : Stream → Type 0) where
-  -- the last one, and those before it
-  all-push : (front : List Stream) (stream : Stream) → All P (front ++ stream ∷ []) → All P front × P stream
-  all-push [] stream all = (All-nil P, All-head P stream [] all)
-  all-push (first ∷ front) stream all =
-      let rest = all-push front stream (All-tail P first (front ++ stream ∷ []) all) in
-      (All-cons P first front (All-head P first (front ++ stream ∷ []) all) rest.0, rest.1)
+-- the streams, the oldest first, gave so one after the other
+abbrev pub GaveEach : Content → List Stream → Content → Type 0
+GaveEach old [] new = new ≡ old
+GaveEach old (stream ∷ later) new = (between : Content) × (due : List ℕ) × Gave old stream due between × GaveEach between later new
 
-  -- they stand on top, the newest first, and what holds of all there holds of each
-  record OnTop (before now gained : List Stream) : Type 0 where
-    top : List Stream
-    now_is : now ≡ top ++ before
-    all : All P top → All P gained
+-- those on top gave behind the others
+record GaveOnTop (old : Content) (top others : List Stream) (new : Content) : Type 0 where
+  between : Content
+  past : GaveAll old others between
+  gave : GaveAll between top new
 
-  on-top : (before now gained : List Stream) → Gains before now gained → OnTop before now gained
-  on-top before now [] is = record { top = []; now_is = is; all = λ a. a }
-  on-top before now (stream ∷ gained) gains =
-      let later = on-top (stream ∷ before) now gained gains in
-      record {
-        top = later.top ++ stream ∷ [];
-        now_is = later.now_is ∙ sym (append_assoc later.top (stream ∷ []) before);
-        all = λ a.
-            let both = all-push later.top stream a in
-            All-cons P stream gained both.1 (later.all both.0);
-      }
+on-top : (old : Content) (top others : List Stream) (new : Content) → GaveAll old (top ++ others) new → GaveOnTop old top others new
+on-top old [] others new gave = record { between = new; past = gave; gave = refl }
+on-top old (stream ∷ top) others new (between, due, past, gave) =
+    let earlier = on-top old top others between past in
+    record { between = earlier.between; past = earlier.past; gave = (between, due, earlier.gave, gave) }
 
-  pub gains_all : (before now gained top : List Stream) → Gains before now gained → now ≡ top ++ before → All P top → All P gained
-  gains_all before now gained top gains is all =
-      let stands = on-top before now gained gains in
-      stands.all (subst (All P) (append_cancel_right top stands.top before (sym is ∙ stands.now_is)) all)
+-- what stands on top of those before
+record StandsOn (before now : List Stream) : Type 0 where
+  top : List Stream
+  now_is : now ≡ top ++ before
+
+stands-on : (before now gained : List Stream) → Gains before now gained → StandsOn before now
+stands-on before now [] is = record { top = []; now_is = is }
+stands-on before now (stream ∷ gained) gains =
+    let later = stands-on (stream ∷ before) now gained gains in
+    record { top = later.top ++ stream ∷ []; now_is = later.now_is ∙ sym (append_assoc later.top (stream ∷ []) before) }
+
+pub gave_each : (old new : Content) (before now gained top : List Stream) → Gains before now gained → now ≡ top ++ before → GaveAll old top new → GaveEach old gained new
+gave_each old new before now [] top is on_top gave =
+    let none : top ≡ [] = append_cancel_right top [] before (sym on_top ∙ is) in
+    subst (λ t. GaveAll old t new) none gave
+gave_each old new before now (stream ∷ gained) top gains on_top gave =
+    let later = stands-on (stream ∷ before) now gained gains in
+    let is : top ≡ later.top ++ stream ∷ [] =
+    append_cancel_right top (later.top ++ stream ∷ []) before (sym on_top ∙ later.now_is ∙ sym (append_assoc later.top (stream ∷ []) before)) in
+    let split = on-top old later.top (stream ∷ []) new (subst (λ t. GaveAll old t new) is gave) in
+    let first = split.past in (
+      split.between,
+      first.1,
+      subst (λ c. Gave c stream first.1 split.between) first.2 first.3,
+      gave_each split.between new (stream ∷ before) now gained later.top gains later.now_is split.gave,
+    )

@@ -1,22 +1,18 @@
 -- A URL leads to one resource.
-use Rattle.std.proofs.Common.{◌≡◌, ℕ, zero, suc, List, Some, inl, inr, refl, ap, sym, subst, ◌∙◌}
-use Rattle.std.specs.Prelude.{codes}
+use Rattle.std.proofs.Common.{◌≡◌, ℕ, zero, suc, List, inl, inr, refl, ap, sym, subst, ◌∙◌}
 use Rattle.link_source.specs.Endpoint.{endpoint_of}
 use Rattle.link_source.specs.Mirrors.{Content}
 use Rattle.link_source.specs.Replies.{bare_reply, moved, text_of}
 use Rattle.link_source.specs.declared.mirrors.MemFile.{MemFile}
 use Rattle.link_source.specs.declared.mirrors.MemFile.TheVariants.{Bytes, Moved}
-use Rattle.memory_reply_laws.specs.Reading.{IsReadable}
 use Rattle.memory_reply_laws.specs.Replies.{MovedIsRead}
-use Rattle.range_http.specs.Fields.{values_of, sole}
+use Rattle.range_http.specs.Fields.{sole}
 use Rattle.range_http.specs.Verdict.{verdict_of}
-use Rattle.range_http.specs.declared.asked.Asked.{Asked}
 use Rattle.range_http.specs.declared.head.Head.{Head}
 use Rattle.range_http.specs.declared.verdict.Verdict.TheVariants.{Moved as HasMoved}
 use Rattle.reply_reader.specs.HeadLaws.{HasOneFinalHead}
 use Rattle.reply_reader.specs.Heads.{HasFinalHead}
 use Rattle.request_chain.specs.Probes.{probe_asked}
-use Rattle.request_chain.specs.Redirects.{moved_to}
 use Rattle.memory_serving_laws.specs.Leads.{StandsAt, Redirects, Leads, LeadsOnce, VisibleLocationsLead}
 use Rattle.memory_serving_laws.proofs.Replies.{has_final_head}
 

@@ -1,9 +1,13 @@
 pub mod Asking
+pub mod Bare
 pub mod Counting
+pub mod Differing
 pub mod Fronts
 pub mod Gained
 pub mod Leading
+pub mod Paid
 pub mod Plans
+pub mod Probing
 pub mod Replies
 pub mod Served
 pub mod Turns

@@ -102,8 +102,8 @@ abbrev pub wanted : List ℕ → Asked → List ℕ
 wanted bytes asked = part_at bytes asked.first (size_to asked asked.last)
 
 module _ (bytes : List ℕ) (asked : Asked) (inside : IsInside bytes asked) where
-  wanted-length : length (wanted bytes asked) ≡ size_to asked asked.last
-  wanted-length = omega (arith, inside.ordered, inside.ends, length-take (size_to asked asked.last) (drop asked.first bytes), length-drop asked.first bytes)
+  pub wanted_length : length (wanted bytes asked) ≡ size_to asked asked.last
+  wanted_length = omega (arith, inside.ordered, inside.ends, length-take (size_to asked asked.last) (drop asked.first bytes), length-drop asked.first bytes)
 
   takes-part : (last : ℕ) (total : Option ℕ) (framing : Framing) → last ≡ asked.last
       → Takes asked (Part last total framing) framing (part_at bytes asked.first (last + 1 - asked.first)) (wanted bytes asked)
@@ -114,7 +114,7 @@ module _ (bytes : List ℕ) (asked : Asked) (inside : IsInside bytes asked) wher
     taken =
         take_all (size_to asked last) (part_at bytes asked.first (size_to asked last)) (omega (arith, length-take (size_to asked last) (drop asked.first bytes)))
         ∙ ap (λ l. part_at bytes asked.first (size_to asked l)) is;
-    all = wanted-length ∙ ap (size_to asked) (sym is);
+    all = wanted_length ∙ ap (size_to asked) (sym is);
   }
 
   takes-whole : (total : Option ℕ) (framing : Framing) → Takes asked (Whole total framing) framing bytes (wanted bytes asked)
@@ -123,7 +123,7 @@ module _ (bytes : List ℕ) (asked : Asked) (inside : IsInside bytes asked) wher
     framed = refl;
     answers = λ head stream. refl;
     taken = refl;
-    all = wanted-length;
+    all = wanted_length;
   }
 
   known : IsKnownAs (length bytes) asked.total

@@ -1,179 +1,93 @@
--- What is served comes.
-use Rattle.std.proofs.Common.{◌≡◌, ◌⊎◌, inl, inr, ℕ, ◌+◌, ◌<◌, ◌≤◌, ◌^◌, Bool, true, List, [], ◌∷◌, ◌++◌, append-nil, append_assoc, refl, ap, sym, subst, ◌∙◌, arith}
-use Rattle.std.proofs.lemmas.Bool.{cases_lt, cond-false, le-ltb, lt-leb}
+-- What is served comes, where no bad answer was used; and what one bad answer makes of it.
+use Rattle.std.proofs.Common.{◌≡◌, ◌⊎◌, ◌==◌, inl, inr, ℕ, ◌+◌, ◌<◌, ◌≤◌, Bool, true, List, [], ◌∷◌, ◌++◌, length, length-append, drop, map, refl, ap, sym, subst, ◌∙◌, arith}
+use Rattle.std.proofs.lemmas.Bool.{cases_Bool, cases_lt, cond-false, eqb-true}
+use Rattle.std.proofs.lemmas.List.{length-map, map-append}
 use Rattle.std.proofs.lemmas.List.Elements.{All-nil, All-cons, All-head, All-tail}
-use Rattle.std.specs.Prelude.{All, Some, nat_lt, nat_le}
-use Rattle.dl_words.specs.Lists.{part_at}
-use Rattle.memory_serving_laws.specs.Leads.{StandsAt}
+use Rattle.std.specs.Prelude.{All, Some}
+use Rattle.link_source.specs.Link.{LinkState}
 use Rattle.link_source.specs.Mirrors.{Content}
 use Rattle.link_source.specs.Streams.{Stream}
-use Rattle.link_source.specs.declared.mirrors.MemFile.TheVariants.{Bytes}
-use Rattle.range_http.specs.declared.asked.Asked.{Asked}
-use Rattle.reply_reader.specs.Answers.{Due, Away, Answer, size_to}
-use Rattle.request_chain.specs.Exchanges.{Replies}
-use Rattle.request_chain.specs.Fetched.{FetchedBy}
-use Rattle.request_chain.specs.Plans.{FetchEnding, Done, Open, Lost, NextAsk, Ask, Over, plan_of, asked_of, rest_behind, plan_behind, plan_at, next_plan}
-use Rattle.request_chain.specs.Redirects.{redirect_limit}
-use Rattle.memory_serving_laws.specs.Laws.{IsRightSoFar, ServedComes, GoodMirrorsStay, GoodMirrorsServe}
-use Rattle.memory_serving_laws.specs.Serving.{LeadsAmong, NamesMirror, used_among}
-use Rattle.memory_serving_laws.proofs.Counting.{GaveClean, OnTop, top_of, clean_top}
-use Rattle.memory_serving_laws.proofs.Gained.{gains_all}
-use Rattle.memory_serving_laws.proofs.Plans.{IsServed, Comes, plan_comes, LeadsOn, leads_on, names_leads, next_leads, usable}
-use Rattle.memory_serving_laws.proofs.Replies.{IsInside, wanted}
-use Rattle.memory_serving_laws.proofs.Turns.{Laws, resource_turn, moved_turn}
+use Rattle.request_chain.specs.Fetched.{Fetched}
+use Rattle.request_chain.specs.Plans.{FetchEnding, Done, Open, Lost}
+use Rattle.memory_serving_laws.specs.Charges.{AreKnownOf, BadAnswersPay, DiffersOnce, IsPaidFor, LosesOnly, OneIsNeverBoth, differing, next_known}
+use Rattle.memory_serving_laws.specs.Laws.{AreGiven, GainedAnswers, IsRightSoFar, ServedComes, GoodMirrorsStay, GoodMirrorsServe}
+use Rattle.memory_serving_laws.specs.Serving.{GivesAll, LeadsAmong, used_among}
 use Rattle.span_map.specs.declared.jobs.JobPart.{JobPart}
 
--- the bytes of the answer, and then those that come by the plan behind it
-record GoesOn (content : Content) (among : ℕ → Bool) (plan : NextAsk) (got bytes : List ℕ) : Type 0 where
-  later : List ℕ
-  comes : Comes content among plan later
-  bytes_are : bytes ≡ got ++ later
+-- the bytes that mirrors give are known
+given-known : (content : Content) (among : ℕ → Bool) (parts : List JobPart) (bytes : List ℕ) → GivesAll content parts bytes → All (LeadsAmong content among) parts
+    → AreKnownOf content among parts (map Some bytes)
+given-known content among [] bytes none leads = ap (map Some) none
+given-known content among (part ∷ parts) bytes (front, rest, serves, is, gives) leads = (
+  map Some front,
+  map Some rest,
+  inl (front, serves, All-head (LeadsAmong content among) part parts leads, refl),
+  ap (map Some) is ∙ map-append Some front rest,
+  given-known content among parts rest gives (All-tail (LeadsAmong content among) part parts leads),
+)
 
--- more is due of bytes, whose first ones came
-record WaitsFor (answer : Answer) (bytes : List ℕ) : Type 0 where
-  due : answer.turn ≡ Due
-  behind : List ℕ
-  front : bytes ≡ answer.got ++ behind
+-- where none of the bytes differs, they are the first ones
+front-of : (came bytes : List ℕ) → length came ≤ length bytes → differing came (map Some bytes) ≤ 0 → (behind : List ℕ) × (bytes ≡ came ++ behind)
+front-of [] bytes few none = (bytes, refl)
+front-of (byte ∷ came) [] few none = absurd (omega (arith, few))
+front-of (byte ∷ came) (right ∷ bytes) few none = elim (cases_Bool (byte == right)) [
+  | inl same ↦
+      let rest = front-of came bytes (omega (arith, few)) (omega (arith, none)) in
+      let is : byte ≡ right = eqb-true byte right same in
+      (rest.0, ap (λ b. b ∷ bytes) (sym is) ∙ ap (λ r. byte ∷ r) rest.1)
+  | inr other ↦ absurd (omega (arith, none, cond-false {A = ℕ} (byte == right) 0 1 other))
+]
 
--- a list that is empty has nothing at its front
-front_of_none : (front behind : List ℕ) → [] ≡ front ++ behind → front ≡ []
-front_of_none [] behind none = refl
-front_of_none (byte ∷ front) behind none = cc
+-- the next byte is known
+next-some : (came : List ℕ) (bytes : List ℕ) → length came < length bytes → next_known (drop (length came) (map Some bytes)) ≡ 1
+next-some came [] short = absurd (omega (arith, short))
+next-some [] (right ∷ bytes) short = refl
+next-some (byte ∷ came) (right ∷ bytes) short = next-some came bytes (omega (arith, short))
 
-module _ (laws : Laws) (among : ℕ → Bool) (content : Content) where
-  module _ (part : JobPart) (parts : List JobPart) (url : List ℕ) (count : ℕ) (bytes : List ℕ) (stream : Stream) (answer : Answer)
-      (served : IsServed content among part parts url count bytes) (replies : Replies url (asked_of part) stream answer) (clean : GaveClean among content stream) where
-    abbrev asked : Asked
-    asked = asked_of part
+no-more : (came behind bytes : List ℕ) → bytes ≡ came ++ behind → length came ≡ length bytes → behind ≡ []
+no-more came [] bytes is same = refl
+no-more came (b ∷ behind) bytes is same = absurd (omega (arith, same, ap length is, length-append came (b ∷ behind)))
 
-    -- more is due, or the answer's bytes are the next ones and the others come behind them
-    abbrev Next : Type 0
-    Next = WaitsFor answer bytes ⊎ GoesOn content among (next_plan part parts url count answer.turn) answer.got bytes
+module _ (pay : BadAnswersPay) where
+  paid : (old : Content) (link : LinkState) (gained : List Stream) (among : ℕ → Bool) (parts : List JobPart) (bytes came : List ℕ) (ending : FetchEnding)
+      → GainedAnswers old link gained → AreGiven old parts bytes → All (LeadsAmong old among) parts → Fetched parts gained came ending []
+      → IsPaidFor (map Some bytes) came ending (used_among among old) (used_among among link.content)
+  paid old link gained among parts bytes came ending has given leads fetched =
+      pay old link gained among parts (map Some bytes) came ending has given.sound given.bounded (given-known old among parts bytes given.gives leads) fetched
 
-    inside : IsInside served.resource asked
-    inside = record {
-      bounded = omega (arith, served.size, served.small);
-      ordered = omega (arith, served.is_part.some);
-      ends = omega (arith, served.size, served.is_part.some, served.is_part.within);
-      total_is = ap Some (sym served.size);
-    }
+  right : (bytes came : List ℕ) (ending : FetchEnding) (was : ℕ) → IsPaidFor (map Some bytes) came ending was was → IsRightSoFar bytes came ending
+  right bytes came Done was is =
+      let all = is.all refl in
+      let front = front-of came bytes (omega (arith, is.few, length-map bytes Some)) (omega (arith, is.paid)) in
+      record { behind = front.0; front = front.1; on = inr (refl, no-more came front.0 bytes front.1 (all ∙ length-map bytes Some)) }
+  right bytes came Open was is =
+      let front = front-of came bytes (omega (arith, is.few, length-map bytes Some)) (omega (arith, is.paid)) in
+      record { behind = front.0; front = front.1; on = inl refl }
+  right bytes came (Lost loss) was is =
+      absurd (omega (arith, is.paid, next-some came bytes (omega (arith, is.short loss refl, length-map bytes Some))))
 
-    bounded : asked.last < 2 ^ 64
-    bounded = omega (arith, inside.bounded, inside.ends)
-
-    named : (number : ℕ) → NamesMirror content url number → among number ≡ true
-    named number names = served.through number (names_leads content served.left url number names)
-
-    -- all of the part came, and the others are asked for
-    plan-is : plan_behind part parts asked.last ≡ plan_of parts
-    plan-is = cond-false (nat_lt asked.last asked.last) (plan_of (rest_behind part asked.last ∷ parts)) (plan_of parts) (le-ltb asked.last asked.last (omega arith))
-
-    all-wanted : wanted served.resource asked ≡ part_at served.resource part.at part.len
-    all-wanted =
-        let size : size_to asked asked.last ≡ part.len = omega (arith, served.is_part.some) in
-        ap (part_at served.resource part.at) size
-
-    -- the resource stands at the URL
-    next-here : StandsAt content url (Bytes served.resource) → Next
-    next-here stands = elim (resource_turn laws among content url asked stream answer inside.ordered bounded replies named clean served.resource stands inside) [
-      | inl waits ↦ inl (record {
-        due = waits.due;
-        behind = waits.behind ++ served.rest;
-        front = served.bytes_are ∙ ap (λ b. b ++ served.rest) (sym all-wanted ∙ waits.front) ∙ append_assoc answer.got waits.behind served.rest;
-      })
-      | inr is ↦ inr (record {
-        later = served.rest;
-        comes =
-            subst (λ plan. Comes content among plan served.rest) (sym (ap (λ (a : Answer). next_plan part parts url count a.turn) is ∙ plan-is))
-            (plan_comes content among parts served.rest served.parts_are served.smalls served.parts_among served.rests);
-        bytes_are = served.bytes_are ∙ ap (λ b. b ++ served.rest) (sym (ap (λ (a : Answer). a.got) is ∙ all-wanted));
-      })
-    ]
-
-    -- the part is asked for at the next place
-    served-there : (on : LeadsOn content served.left url served.resource) → IsServed content among part parts on.next (count + 1) bytes
-    served-there on = record {
-      left = on.more;
-      counts = omega (arith, served.counts, on.one);
-      resource = served.resource;
-      leads = on.leads;
-      size = served.size;
-      is_part = served.is_part;
-      small = served.small;
-      rest = served.rest;
-      bytes_are = served.bytes_are;
-      parts_are = served.parts_are;
-      smalls = served.smalls;
-      rests = served.rests;
-      through = λ number leads. served.through number (next_leads content served.left url served.resource on number leads);
-      parts_among = served.parts_among;
-    }
-
-    plan-there : (on : LeadsOn content served.left url served.resource)
-        → next_plan part parts url count (Away on.redirects.head.status on.redirects.text) ≡ Ask part parts on.next (count + 1) on.redirects.head.status
-    plan-there on =
-        cond-false (nat_le redirect_limit count) _ _ (lt-leb redirect_limit count (omega (arith, served.counts, on.one)))
-        ∙ ap (plan_at part parts (count + 1) on.redirects.head.status) on.redirects.next_is
-
-    -- it has moved from there
-    next-there : LeadsOn content served.left url served.resource → Next
-    next-there on =
-        elim (moved_turn laws among content url asked stream answer inside.ordered bounded replies named clean on.next on.redirects) [
-          | inl waits ↦ inl (record {
-            due = waits.due;
-            behind = bytes;
-            front = ap (λ b. b ++ bytes) (sym (front_of_none answer.got waits.behind waits.front));
-          })
-          | inr is ↦ inr (record {
-            later = bytes;
-            comes =
-                subst (λ plan. Comes content among plan bytes) (sym (ap (λ (a : Answer). next_plan part parts url count a.turn) is ∙ plan-there on)) (served-there on);
-            bytes_are = ap (λ (a : Answer). a.got ++ bytes) (sym is);
-          })
-        ]
-
-    next : Next
-    next = elim (leads_on content served.left url served.resource served.leads) [
-      | inl stands ↦ next-here stands
-      | inr on ↦ next-there on
-    ]
-
-  -- by each plan, stream by stream
-  comes : (plan : NextAsk) (streams : List Stream) (bytes came : List ℕ) (ending : FetchEnding) (rest : List Stream)
-      → Comes content among plan bytes → All (GaveClean among content) streams → FetchedBy plan streams came ending rest → IsRightSoFar bytes came ending
-  comes (Over Done) streams bytes came ending rest none clean (nothing, done, same) =
-      record { behind = []; front = none ∙ ap (λ b. b ++ []) (sym nothing); on = inr (done, refl) }
-  comes (Over Open) streams bytes came ending rest more clean (nothing, open_now, none, same) =
-      record { behind = bytes; front = ap (λ b. b ++ bytes) (sym nothing); on = inl open_now }
-  comes (Over (Lost loss)) streams bytes came ending rest never clean fetched = absurd never
-  comes (Ask part parts url count status) [] bytes came ending rest served clean (nothing, stands, same) = elim stands [
-    | inl waits ↦ record { behind = bytes; front = ap (λ b. b ++ bytes) (sym nothing); on = inl waits.1 }
-    | inr lost ↦ absurd (lost.0 (usable content served.left url served.resource served.leads))
-  ]
-  comes (Ask part parts url count status) (stream ∷ streams) bytes came ending rest served clean (answer, more, replies, is, fetched) =
-      elim (next part parts url count bytes stream answer served replies (All-head (GaveClean among content) stream streams clean)) [
-        | inl waits ↦
-            let over = subst (λ turn. FetchedBy (next_plan part parts url count turn) streams more ending rest) waits.due fetched in
-            let all : came ≡ answer.got = is ∙ ap (λ m. answer.got ++ m) over.0 ∙ append-nil answer.got in
-            record { behind = waits.behind; front = waits.front ∙ ap (λ b. b ++ waits.behind) (sym all); on = inl over.1 }
-        | inr on ↦
-            let later = comes (next_plan part parts url count answer.turn) streams on.later more ending rest on.comes (All-tail (GaveClean among content) stream streams clean) fetched in
-            record {
-              behind = later.behind;
-              front = on.bytes_are ∙ ap (λ b. answer.got ++ b) later.front ∙ sym (append_assoc answer.got more later.behind) ∙ ap (λ b. b ++ later.behind) (sym is);
-              on = later.on;
-            }
+  pub served_comes : ServedComes
+  served_comes old link gained among parts bytes came ending has given leads fetched =
+      let is = paid old link gained among parts bytes came ending has given leads fetched in
+      elim (cases_lt (used_among among old) (used_among among link.content)) [
+        | inl used ↦ inr used
+        | inr unused ↦
+            let same : used_among among link.content ≡ used_among among old = omega (arith, unused, is.paid) in
+            inl (right bytes came ending (used_among among old) (subst (λ now. IsPaidFor (map Some bytes) came ending (used_among among old) now) same is))
       ]
 
-pub served_comes : Laws → ServedComes
-served_comes laws old link gained among parts bytes came ending has given leads fetched =
-    let top = top_of among old has.before link has.answered in
-    elim (cases_lt (used_among among old) (used_among among link.content)) [
-      | inl used ↦ inr used
-      | inr unused ↦
-          let clean = gains_all (GaveClean among old) has.before link.streams gained top.top has.gains top.on_top (clean_top among old has.before link top unused) in
-          inl (comes laws among old (plan_of parts) gained bytes came ending [] (plan_comes old among parts bytes given.sound given.bounded leads given.gives) clean fetched)
-    ]
+  never-both : (bytes came : List ℕ) (ending : FetchEnding) (was now : ℕ) → IsPaidFor (map Some bytes) came ending was now → now ≡ was + 1
+      → LosesOnly bytes came ending ⊎ DiffersOnce bytes came ending
+  never-both bytes came Done was now is one = inr (record { on = λ loss e. cc; once = omega (arith, is.paid, one) })
+  never-both bytes came Open was now is one = inr (record { on = λ loss e. cc; once = omega (arith, is.paid, one) })
+  never-both bytes came (Lost loss) was now is one =
+      let short : length came < length bytes = omega (arith, is.short loss refl, length-map bytes Some) in
+      let front = front-of came bytes (omega (arith, short)) (omega (arith, is.paid, one, next-some came bytes short)) in
+      inl (record { loss = loss; lost = refl; behind = front.0; front = front.1 })
+
+  pub one_is_never_both : OneIsNeverBoth
+  one_is_never_both old link gained among parts bytes came ending has given leads fetched one =
+      never-both bytes came ending _ _ (paid old link gained among parts bytes came ending has given leads fetched) one
 
 all_among : (old : Content) (parts : List JobPart) → All (LeadsAmong old (λ number. true)) parts
 all_among old [] = All-nil (LeadsAmong old (λ number. true))

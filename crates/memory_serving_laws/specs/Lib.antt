@@ -1,3 +1,5 @@
+pub mod Charges
 pub mod Laws
 pub mod Leads
 pub mod Serving
+pub mod Sizes

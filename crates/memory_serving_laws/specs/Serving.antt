@@ -35,10 +35,13 @@ LeadsThrough content zero url number = NamesMirror content url number
 LeadsThrough content (suc more) url number =
     NamesMirror content url number ⊎ ((next : List ℕ) × Redirects content url next × LeadsThrough content more next number)
 
--- each mirror that the part's URL leads through is one of these
+-- each mirror that the URL leads through is one of these
+abbrev pub UrlLeadsAmong : Content → (ℕ → Bool) → List ℕ → Type 0
+UrlLeadsAmong content among url = (number : ℕ) → LeadsThrough content redirect_limit url number → among number ≡ true
+
+-- so of the URL of a part
 abbrev pub LeadsAmong : Content → (ℕ → Bool) → JobPart → Type 0
-LeadsAmong content among part =
-    (number : ℕ) → LeadsThrough content redirect_limit part.url number → among number ≡ true
+LeadsAmong content among part = UrlLeadsAmong content among part.url
 
 -- how many bad answers of these mirrors were used
 abbrev pub used_among : (ℕ → Bool) → Content → ℕ

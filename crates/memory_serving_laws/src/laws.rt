@@ -1,17 +1,46 @@
 // What comes by streams that gave the answers of mirrors in memory.
+ghost use Rattle.memory_serving_laws.specs.Charges.{BadAnswersPay, OneIsNeverBoth};
 ghost use Rattle.memory_serving_laws.specs.Leads.{LeadsOnce, VisibleLocationsLead};
+ghost use Rattle.memory_serving_laws.specs.Sizes.{BadAnswersPayProbes, ServedSizeIsTold};
 ghost use Rattle.memory_serving_laws.specs.Laws.{ServedComes, CleanMirrorsUseNone, GoodMirrorsStay, GoodMirrorsServe};
 
-use memory_reply_laws::{replies_are_read, requests_are_answered};
-use reply_reader::{final_heads_are_one_and_stay, streams_have_one_answer};
+use memory_reply_laws::{bad_replies_are_read, replies_are_read, requests_are_answered};
+use reply_reader::{
+    answers_fill_what_is_asked, final_heads_are_one_and_stay, streams_have_one_answer,
+};
 
-/// What is served comes, or a bad answer of the mirrors that its URLs lead through was used.
-pub fn served_comes()
-    ensures { ServedComes }
+/// Each byte that differs from what the mirrors have, and each loss, used a bad answer of its own.
+pub fn bad_answers_pay()
+    ensures { BadAnswersPay }
 {
-    streams_have_one_answer();
+    answers_fill_what_is_asked();
+    bad_replies_are_read();
+    final_heads_are_one_and_stay();
     replies_are_read();
     requests_are_answered();
+    streams_have_one_answer();
+}
+
+/// What is served comes, or a bad answer of the mirrors that its URLs lead through was used. One such answer makes one
+/// byte differ at most, or the rest is lost, and never both.
+pub fn served_comes()
+    ensures comes { ServedComes }
+    ensures one { OneIsNeverBoth }
+{
+    bad_answers_pay();
+}
+
+/// What a probe tells is the length of what is served, or a bad answer of the mirrors that its URL leads through was used.
+pub fn served_sizes_are_told()
+    ensures pay { BadAnswersPayProbes }
+    ensures told { ServedSizeIsTold }
+{
+    answers_fill_what_is_asked();
+    bad_replies_are_read();
+    final_heads_are_one_and_stay();
+    replies_are_read();
+    requests_are_answered();
+    streams_have_one_answer();
 }
 
 /// Mirrors without bad answers use none, and stay as they are.

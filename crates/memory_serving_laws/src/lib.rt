@@ -4,4 +4,7 @@
 
 mod laws;
 
-pub use laws::{clean_mirrors_stay, good_mirrors_serve, served_comes, urls_lead_once};
+pub use laws::{
+    bad_answers_pay, clean_mirrors_stay, good_mirrors_serve, served_comes, served_sizes_are_told,
+    urls_lead_once,
+};
