@@ -15,10 +15,10 @@ use Rattle.dl_history.specs.OwnEvents.{OwnEvent, Opens, Grants, Lands, Halts}
 use Rattle.dl_history.specs.StandingClaims.{standing_claims}
 use Rattle.dl_history.specs.PayloadParts.{is_landed_in}
 use Rattle.mirror_hosts.specs.Hosts.{numbers_of_hosts}
+use Rattle.file_choice.specs.Selected.{holds_selected, is_selected}
 use Rattle.machine_core.specs.OwnParts.{own_of}
 use Rattle.machine_core.specs.Replays.{queue_in}
 use Rattle.machine_core.specs.Starts.{RunStart}
-use Rattle.machine_core.specs.Wanted.{holds_selected, is_selected}
 use Rattle.machine_core.specs.declared.calls.Call.TheVariants.{AddUri, Pause, Unpause, ChangePosition, Shutdown}
 use Rattle.machine_core.specs.declared.events.Event.{Event}
 use Rattle.machine_core.specs.declared.events.Event.TheVariants.{Called, Opened, Claimed, Landed, Stopped}
@@ -117,7 +117,7 @@ two_files =
 
 abbrev pub selects : Option (List ℕ) → List Bool
 selects text =
-    map (λ piece. holds_selected (record { total = 32768; piece_len = 16384 }) (is_selected text 2) piece 1 0
+    map (λ piece. holds_selected 32768 16384 (is_selected text 2) piece 1 0
     two_files)
     (range_with_len 0 2)
 

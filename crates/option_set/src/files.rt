@@ -26,8 +26,8 @@ fn halves(member: &str) -> (&str, &str)
     }
 }
 
-// The files that a member names.
-fn range(member: &str) -> Option<FileRange>
+/// The files that a member of a list names, if it names some.
+pub fn file_range(member: &str) -> Option<FileRange>
     ensures { MatchOption result
         ((first : ℕ) → (last : ℕ) → NamesFiles member.now first last → ⊥)
         (λ range. NamesFiles member.now range.first range.last) }
@@ -47,7 +47,7 @@ fn range(member: &str) -> Option<FileRange>
 fn is_member(member: &str) -> bool
     ensures { IsTrue result ↔ IsMember member.now }
 {
-    range(member).is_some()
+    file_range(member).is_some()
 }
 
 /// Whether the text names files as `select-file` does.

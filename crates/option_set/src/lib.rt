@@ -10,7 +10,7 @@ mod setting;
 mod settings;
 mod table;
 
-pub use files::{FileRange, MAX_FILES};
+pub use files::{FileRange, MAX_FILES, file_range};
 pub use kinds::{Change, Num, Opt, Rule, Scope, Spelling, Word, WordUse};
 pub use laws::names_are_apart;
 pub use options::Options;

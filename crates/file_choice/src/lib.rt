@@ -1,0 +1,8 @@
+//! Which pieces of a payload of several files are wanted.
+#![tactic(auto)]
+
+mod pieces;
+mod selection;
+
+pub use bit_rows::NoMemory;
+pub use pieces::{all_wanted, wanted_row};
