@@ -11,7 +11,7 @@ use Rattle.reply_reader.specs.declared.loss.Loss.TheVariants.{NoMemory}
 use Rattle.request_chain.specs.Chains.{IsChain, Gains, HasBrought, TellsLoss, received_by}
 use Rattle.request_chain.specs.Fetched.{Fetched}
 use Rattle.request_chain.specs.Plans.{FetchEnding, Done, Lost}
-use Rattle.request_chain.specs.Turns.{MayGoOn}
+use Rattle.request_chain.specs.Turns.{AsksFor, MayGoOn}
 use Rattle.request_chain.specs.declared.chain.Chain.{Chain}
 use Rattle.fetch_session.specs.Blocks.{cut, ready_blocks}
 use Rattle.span_map.specs.Jobs.{IsJob, parts_len, run_start}
@@ -37,6 +37,10 @@ lost_of fetch = fetch.lost
 abbrev pub MayStep : Fetch → LinkState → Type 0
 MayStep fetch link =
     lost_of fetch ≡ None → (ready_of fetch).count < (rest_of fetch).count → MayGoOn fetch.chain link
+
+-- the next request of the fetch is for this URL
+abbrev pub AsksNext : Fetch → List ℕ → Type 0
+AsksNext fetch url = AsksFor fetch.chain url
 
 -- the second buffer may have come in, and nothing else changed
 pub record SameButSpare (old new : Fetch) : Type 0 where

@@ -1,5 +1,5 @@
 // A fetch of a run of blocks.
-ghost use Rattle.std.specs.Prelude.{◌≡◌, ◌↔◌, ◌<◌, ◌≤◌, ℕ, ◌+◌, ◌++◌, [], List, length, vec_len, vec_capacity, Some, None, Err, false, min, IsTrue, IsFalse, IsSome, IfSome, IfOk, IfErr, OnErr, MatchResult};
+ghost use Rattle.std.specs.Prelude.{◌≡◌, ◌↔◌, ◌<◌, ◌≤◌, ℕ, ◌+◌, ◌++◌, ◌∷◌, [], List, length, vec_len, vec_capacity, Some, None, Err, false, min, IsTrue, IsFalse, IsSome, IfSome, IfOk, IfErr, OnErr, MatchResult};
 ghost use Rattle.std.specs.Option.{ForSome, ForNone};
 ghost use Rattle.dl_kinds.specs.Plan.{blocks_of};
 ghost use Rattle.reply_reader.specs.Losses.{IsKnown};
@@ -48,15 +48,17 @@ pub struct Fetch {
 }
 
 impl Fetch {
+    ghost use Rattle.link_source.specs.Endpoint.{IsUsable};
     ghost use Rattle.link_source.specs.Link.{LinkState, closed};
     ghost use Rattle.link_source.specs.Streams.{Stream};
     ghost use Rattle.request_chain.specs.Chains.{Gains};
     ghost use Rattle.request_chain.specs.Answered.{KeepsAnswers};
     ghost use Rattle.request_chain.specs.Links.{CountsLinkLoss};
     ghost use Rattle.span_map.specs.declared.jobs.Job.{Job};
+    ghost use Rattle.span_map.specs.declared.jobs.JobPart.{JobPart};
     ghost use Rattle.fetch_session.specs.Blocks.{cut};
     ghost use Rattle.span_map.specs.Jobs.{IsJob, run_end, run_start};
-    ghost use Rattle.fetch_session.specs.Fetches.{fetch_plan, rest_of, ready_of, lost_of, IsFetch, MayStep, SameButSpare, FetchSteps, Fails};
+    ghost use Rattle.fetch_session.specs.Fetches.{fetch_plan, rest_of, ready_of, lost_of, IsFetch, AsksNext, MayStep, SameButSpare, FetchSteps, Fails};
 
     /// Begins the fetch of a run, with the parts of resources that are its bytes.
     pub fn begin(job: Job, room: FetchRoom) -> Fetch
@@ -67,6 +69,8 @@ impl Fetch {
         ensures none_ready { (ready_of result).count ≡ 0 }
         ensures none_lost { lost_of result ≡ None }
         ensures may { (link : LinkState) → MayStep result link }
+        ensures own { (part : JobPart) (others : List JobPart) → job.parts ≡ part ∷ others
+            → AsksNext result part.url }
         ensures first { cut job.plan job.run.first ≡ run_start job.plan job.run }
         ensures end { cut job.plan (job.run.first + job.run.count) ≡ run_end job.plan job.run }
     {
@@ -154,6 +158,9 @@ impl Fetch {
         ensures untouched { IsSome (lost_of self.old) → link.new ≡ link.old }
         ensures lost { IfErr result (λ loss. lost_of self.new ≡ Some loss) }
         ensures known { IfErr result IsKnown }
+        // A request for a URL that is no `http` URL is refused without a call of the link.
+        ensures refused { OnErr result ((url : List ℕ) → AsksNext self.old url
+            → (IsUsable url → ⊥) → link.new ≡ link.old) }
 
         // Over mirrors in memory each request had one answer: the true reply, or a bad answer that is used then.
         ensures answered { IsTrue L.tells → (job : Job) (before used : List Stream) (handed : List ℕ)
@@ -228,6 +235,8 @@ impl Fetch {
             ↔ (got.ready.count ≡ (rest_of self.new).count)) }
         ensures lost { IfErr result (λ loss. lost_of self.new ≡ Some loss) }
         ensures known { IfErr result IsKnown }
+        ensures refused { OnErr result ((url : List ℕ) → AsksNext self.old url
+            → (IsUsable url → ⊥) → link.new ≡ link.old) }
 
         ensures answered { IsTrue L.tells → (job : Job) (before used : List Stream) (handed : List ℕ)
             → IsFetch job used handed self.old → Gains before (L.state link.old).streams used

@@ -6,3 +6,4 @@ mod SliceLaws
 mod SliceLemmas
 mod VerdictLemmas
 mod FillLemmas
+mod Sizes

@@ -3,4 +3,5 @@ pub mod Fills
 pub mod HeadLaws
 pub mod Heads
 pub mod Losses
+pub mod Sizes
 pub mod Slices

@@ -168,6 +168,17 @@ impl HeadReader {
         }
     }
 
+    /// How many more bytes are asked for while the head is due, so that no more come than the longest head has.
+    pub fn most_asked(&self) -> u32
+        ensures some { 0 < result }
+        ensures few { result ≤ MAX_HEAD_BYTES }
+        ensures room { (received : List ℕ) → IsAtHead received self.now
+            → result + length self.now.bytes.items ≡ MAX_HEAD_BYTES }
+    {
+        let room = MAX_HEAD_BYTES.saturating_sub(self.bytes.len());
+        room.max(1) as u32
+    }
+
     /// Whether the final head can still come. It reads all bytes again: ask it once, where no more of the stream is read.
     pub fn is_due(&self, alloc: Global) -> Result<bool, NoMemory>
         ensures due { result ≡ Ok true → (received : List ℕ) → IsAtHead received self.now

@@ -2,6 +2,7 @@
 ghost use Rattle.reply_reader.specs.HeadLaws.{HasOneFinalHead, FinalHeadIsNotDue, FinalHeadIsThere, DueHeadMayCome, FinalHeadStays, NoFinalHeadStays, FrontIsDue, FinalHeadIsWithin, FinalHeadStoodBefore};
 ghost use Rattle.reply_reader.specs.Answers.{AnswersOnce, AnswersStay, AnswersGrow, AnswersFit};
 ghost use Rattle.reply_reader.specs.Fills.{AnswersFill};
+ghost use Rattle.reply_reader.specs.Sizes.{FinalHeadsAreShort, HeadsReadAreNotFinal, HeadsReadAreShort, NothingIsNoHead, DueSlicesAreShort};
 ghost use Rattle.reply_reader.specs.Slices.{SliceGoesOn};
 
 use body_frames::pieces_join;
@@ -41,4 +42,15 @@ pub fn answers_fill_what_is_asked()
     ensures fill { AnswersFill }
 {
     numbers_and_ranges_are_read();
+}
+
+/// How many bytes are read of a reply: of its heads, and of its content while more of it is due.
+pub fn replies_are_read_short()
+    ensures final_head { FinalHeadsAreShort }
+    ensures heads { HeadsReadAreShort }
+    ensures not_final { HeadsReadAreNotFinal }
+    ensures nothing { NothingIsNoHead }
+    ensures slices { DueSlicesAreShort }
+{
+    heads_are_one_and_stay();
 }

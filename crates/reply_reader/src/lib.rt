@@ -8,6 +8,9 @@ mod loss;
 mod slices;
 
 pub use heads::{HeadReader, HeadsRead};
-pub use laws::{answers_fill_what_is_asked, final_heads_are_one_and_stay, streams_have_one_answer};
+pub use laws::{
+    answers_fill_what_is_asked, final_heads_are_one_and_stay, replies_are_read_short,
+    streams_have_one_answer,
+};
 pub use loss::Loss;
 pub use slices::{SliceRead, SliceReader, SliceState};

@@ -5,14 +5,27 @@ use Rattle.link_source.specs.Link.{LinkState, Dials, Sends, closed}
 use Rattle.link_source.specs.Mirrors.{Content, HasReply, AddsReply}
 use Rattle.link_source.specs.Streams.{Stream, TakesDue, dialled, with_sent, with_received}
 use Rattle.span_map.specs.declared.jobs.JobPart.{JobPart}
+use Rattle.reply_reader.specs.Sizes.{NothingIsNoHead}
 use Rattle.request_chain.specs.Chains.{Gains}
 use Rattle.request_chain.specs.Answered.{Gave, GaveAll, IsAnswered, KeepsAnswers}
+use Rattle.request_chain.specs.Received.{IsReadToHead, ReceivesLittle}
 use Rattle.request_chain.specs.Stages.{IsSent, IsReading}
 use Rattle.request_chain.specs.declared.course.Course.{Course}
 use Rattle.request_chain.specs.declared.stage.Stage.{Stage}
 use Rattle.request_chain.specs.declared.stage.Stage.TheVariants.{Asking}
 use Rattle.request_chain.proofs.GainLemmas.{gains_last}
 use Rattle.request_chain.proofs.TurnLemmas.{sent_of}
+
+-- a stream in which nothing came yet
+pub fresh_little : NothingIsNoHead → (stream : Stream) → stream.received ≡ [] → IsReadToHead stream
+fresh_little nothing stream none = record {
+  front = [];
+  behind = [];
+  received_is = none;
+  buffer = omega arith;
+  headless = nothing;
+  few = omega (arith, ap length none);
+}
 
 -- ---- a request
 
@@ -40,8 +53,8 @@ module _ (before : List Stream) (link dialled_link : LinkState) (host : List ℕ
       }))
 
   -- the request was sent in the stream, and the answer is due
-  pub answered_sent : (new_link : LinkState) (request : List ℕ) → Sends request dialled_link new_link → KeepsAnswers before link new_link
-  answered_sent new_link request sends old is =
+  pub answered_sent : NothingIsNoHead → (new_link : LinkState) (request : List ℕ) → Sends request dialled_link new_link → KeepsAnswers before link new_link
+  answered_sent nothing new_link request sends old is =
       let past = answered_dialled old before link is in
       let P : List Stream → Type 0 = λ streams. AddsReply streams request dialled_link.content new_link.content dialled_link.due new_link.due in
       let adds = subst P dials.streams sends.reply in
@@ -61,6 +74,7 @@ module _ (before : List Stream) (link dialled_link : LinkState) (host : List ℕ
           answers = subst Q dials.content adds.1;
           whole = due_is;
           last = λ ended. cc;
+          little = inl (fresh_little nothing stream refl);
         });
       })
 
@@ -82,7 +96,7 @@ comes_due due came new_due count count_is takes =
     }
 
 -- a stream with what came
-abbrev on_stream : List ℕ → Stream → Stream
+abbrev pub on_stream : List ℕ → Stream → Stream
 on_stream [] stream = record stream { ended = true }
 on_stream (byte ∷ bytes) stream = record stream { received = stream.received ++ byte ∷ bytes }
 
@@ -91,8 +105,8 @@ on_newest [] newest older = refl
 on_newest (byte ∷ bytes) newest older = refl
 
 module _ (old new : Content) (stream : Stream) (due new_due : List ℕ) where
-  gave_more : (came : List ℕ) → Comes due came new_due → Gave old stream due new → Gave old (on_stream came stream) new_due new
-  gave_more [] comes gave =
+  gave_more : (came : List ℕ) → Comes due came new_due → ReceivesLittle (on_stream came stream) → Gave old stream due new → Gave old (on_stream came stream) new_due new
+  gave_more [] comes little gave =
       let none : new_due ≡ [] = sym comes.front ∙ comes.end refl in
       elim gave [
         | inl fresh ↦ inl (record { none_sent = fresh.none_sent; none_came = fresh.none_came; none_due = none; same = fresh.same })
@@ -103,9 +117,10 @@ module _ (old new : Content) (stream : Stream) (due new_due : List ℕ) where
           answers = one.answers;
           whole = ap (λ d. stream.received ++ d) (sym comes.front) ∙ one.whole;
           last = λ ended. none;
+          little = little;
         })
       ]
-  gave_more (byte ∷ bytes) comes gave = elim gave [
+  gave_more (byte ∷ bytes) comes little gave = elim gave [
     | inl fresh ↦
         let some : [] ≡ byte ∷ (bytes ++ new_due) = sym fresh.none_due ∙ comes.front in
         cc
@@ -118,14 +133,16 @@ module _ (old new : Content) (stream : Stream) (due new_due : List ℕ) where
       last = λ ended.
           let some : [] ≡ byte ∷ (bytes ++ new_due) = sym (one.last ended) ∙ comes.front in
           cc;
+      little = little;
     })
   ]
 
 -- some of what was due came in the newest stream, which wasn't there before
 pub answered_received : (before : List Stream) (link new_link : LinkState) (came : List ℕ) → (link.streams ≡ before → ⊥)
     → new_link.streams ≡ with_received came link.streams → Comes link.due came new_link.due → new_link.content ≡ link.content
+    → ((newest : Stream) (older : List Stream) → link.streams ≡ newest ∷ older → ReceivesLittle (on_stream came newest))
     → KeepsAnswers before link new_link
-answered_received before link new_link came later streams_are comes content_is old is = elim is [
+answered_received before link new_link came later streams_are comes content_is little old is = elim is [
   | inl same ↦ absurd (later same.0)
   | inr top ↦ inr (record {
     newest = on_stream came top.newest;
@@ -135,7 +152,7 @@ answered_received before link new_link came later streams_are comes content_is o
     past = top.past;
     gave =
         (let P : Content → Type 0 = λ c. Gave top.between (on_stream came top.newest) new_link.due c in
-        subst P (sym content_is) (gave_more top.between link.content top.newest link.due new_link.due came comes top.gave));
+        subst P (sym content_is) (gave_more top.between link.content top.newest link.due new_link.due came comes (little top.newest (top.older ++ before) top.on_top) top.gave));
   })
 ]
 

@@ -1,5 +1,5 @@
 -- A request that goes out, or doesn't.
-use Rattle.std.proofs.Common.{◌≡◌, ℕ, List, [], ◌∷◌, ◌++◌, length, refl, sym, ap, subst, ◌∙◌, inl, inr, arith, append-nil}
+use Rattle.std.proofs.Common.{◌≡◌, ◌^◌, ◌≤◌, ◌<◌, ℕ, List, [], ◌∷◌, ◌++◌, length, refl, sym, ap, subst, ◌∙◌, inl, inr, arith, append-nil}
 use Rattle.std.specs.Prelude.{◌⊎◌}
 use Rattle.link_source.specs.Endpoint.{IsUsable}
 use Rattle.link_source.specs.Streams.{Stream}
@@ -50,9 +50,9 @@ module _ (parts : List JobPart) (before used now new : List Stream) (plan : Next
   asking = subst (λ (p : NextAsk). CarriesOn (plan_of parts) used bytes p) asks.is leads
 
   -- the request was sent
-  pub opened_head : (course : Course) → plan ≡ plan_now course → (reader : HeadReader) → IsAtHead [] reader → (asked : Asked) → asked ≡ asked_of asks.part → (url : List ℕ) → url ≡ asks.url
+  pub opened_head : (course : Course) → plan ≡ plan_now course → (reader : HeadReader) → IsAtHead [] reader → (asked : Asked) → asked ≡ asked_of asks.part → asked.first ≤ asked.last → asked.last < 2 ^ 64 → (url : List ℕ) → url ≡ asks.url
       → (opened : IsOpened url asked now new) → IsReadingHead parts (used ++ opened.stream ∷ []) course [] bytes reader
-  opened_head course plan_is reader at asked asked_is url url_is opened =
+  opened_head course plan_is reader at asked asked_is ordered bounded url url_is opened =
       let P : List ℕ → Asked → Type 0 = λ u a. IsExchange u a opened.stream in
       let Q : List ℕ → Type 0 = λ u. IsExchange u asked opened.stream in
       let R : Asked → Type 0 = λ a. IsExchange asks.url a opened.stream in
@@ -71,6 +71,8 @@ module _ (parts : List JobPart) (before used now new : List Stream) (plan : Next
           used_is = refl;
           exchange = subst R asked_is (subst Q url_is opened.exchange);
           not_ended = opened.not_ended;
+          ordered = omega (arith, ordered, ap (λ (a : Asked). a.first) asked_is, ap (λ (a : Asked). a.last) asked_is);
+          bounded = omega (arith, bounded, ap (λ (a : Asked). a.last) asked_is);
         };
         bytes_are = refl;
         front = [];

@@ -77,10 +77,10 @@ slice_turn Over slice stream content over count = rw (over.not_come, over.right,
 
 -- what the head of a reply with these bytes begins
 pub begun_of : (asked : Asked) (head : Head) (framing : Told) (skip last : ℕ) (content : Content)
-    → IsAtStart (framing_told framing) skip (last + 1 - asked.first) last content → asked.first ≤ last → last + 1 < 2 ^ 64 → HasBytes framing
+    → IsAtStart (framing_told framing) skip (last + 1 - asked.first) last content → asked.first ≤ last → last + 1 < 2 ^ 64 → skip + (last + 1 - asked.first) ≤ asked.last + 1 → HasBytes framing
     → IsSliceOf asked head (record { framing = framing_told framing; skip = skip; len = last + 1 - asked.first }) last
     → IsBegun asked head content
-begun_of asked head framing skip last content start first bounded some sliced =
+begun_of asked head framing skip last content start first bounded within some sliced =
     let slice : Slice = record { framing = framing_told framing; skip = skip; len = last + 1 - asked.first } in
     let none = came_nothing framing skip (last + 1 - asked.first) in
     let due = start_due framing skip (last + 1 - asked.first) some (omega arith) in
@@ -88,6 +88,7 @@ begun_of asked head framing skip last content start first bounded some sliced =
       slice = slice;
       sliced = λ stream ended. sliced stream ended ∙ ap (λ place. slice_answer slice place stream ended) (sym start.last_is);
       small = omega arith;
+      within = within;
       at = start.at;
       none_came = none;
       count_is = start.none_came;
@@ -139,6 +140,7 @@ module _ (stays : FinalHeadStays) (within : FinalHeadIsWithin) where
           begins = stays is.front taken is.head is.used is.begins;
           sliced = λ s ended. is.sliced s ended ∙ ap (λ place. slice_answer is.slice place s ended) (sym same_last);
           small = is.small;
+          within = is.within;
           at = rw behind now;
           got_is = rw behind came;
           count_is = counted;

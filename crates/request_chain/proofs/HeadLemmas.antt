@@ -73,6 +73,7 @@ module _ (parts : List JobPart) (used : List Stream) (course : Course) (waiting 
           begins = read.begins;
           sliced = begun.sliced;
           small = begun.small;
+          within = begun.within;
           at = subst P (sym nothing) begun.at;
           got_is = sym (ap (came_of begun.slice) nothing ∙ begun.none_came);
           count_is = begun.count_is;

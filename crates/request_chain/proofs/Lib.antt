@@ -1,4 +1,5 @@
 mod AskLemmas
+mod Bounds
 mod CallLemmas
 mod ContentLemmas
 mod CourseLemmas
@@ -7,6 +8,7 @@ mod HeadLemmas
 mod AnsweredLemmas
 mod KnownLemmas
 mod Leading
+mod Little
 mod MovedLemmas
 mod Moving
 mod Once

@@ -17,20 +17,21 @@ use Rattle.range_http.specs.Verdict.{told_range, told_length, is_asked_part, siz
 abbrev pub HasLocation : Head → Type 0
 HasLocation head = (text : List ℕ) × (sole (values_of head (codes "location")) ≡ Some text)
 
-module _ (head : Head) where
+some_location : (head : Head) (found : Option (List ℕ)) → sole (values_of head (codes "location")) ≡ found → is_some found ≡ true → HasLocation head
+some_location head None is some = cc
+some_location head (Some text) is some = (text, is)
+
+-- what follows where the head says that it was moved
+module _ (head : Head) (X : Type 0) (has : is_moved head ≡ true → X) where
   -- a verdict that it was moved has it
   abbrev MovesRight : Verdict → Type 0
   MovesRight (Part last total framing) = ⊤
   MovesRight (Whole total framing) = ⊤
   MovesRight Empty = ⊤
   MovesRight (WrongLength told) = ⊤
-  MovesRight Moved = HasLocation head
+  MovesRight Moved = X
   MovesRight NotFound = ⊤
   MovesRight (Refused code) = ⊤
-
-  some_location : (found : Option (List ℕ)) → sole (values_of head (codes "location")) ≡ found → is_some found ≡ true → HasLocation head
-  some_location None is some = cc
-  some_location (Some text) is some = (text, is)
 
   either : (b : Bool) (x y : Verdict) → (b ≡ true → MovesRight x) → MovesRight y → MovesRight (if b then x else y)
   either true x y first second = first refl
@@ -78,10 +79,18 @@ module _ (head : Head) where
         let ranged = either (head.status == 200 || head.status == 206) (content_verdict head asked) unexpected (λ _. content) tt in
         let empty = either (is_empty head asked) Empty by_content (λ _. tt) ranged in
         let moved = either (is_moved head) Moved (if is_empty head asked then Empty else by_content)
-        (λ is. some_location (sole (values_of head (codes "location"))) refl
-        (and_parts (list_any (λ status. head.status == status) (301 ∷ 302 ∷ 303 ∷ 307 ∷ 308 ∷ [])) (is_some (sole (values_of head (codes "location")))) is).1) empty in
+        has empty in
         let served = either (head.status == 503) overloaded by_moved (λ _. tt) moved in
         either (head.status == 404) NotFound by_unauthorized (λ _. tt) (either (head.status == 401) unauthorized by_overloaded (λ _. tt) served)
 
-    pub moved_location : verdict_of head asked ≡ Moved → HasLocation head
-    moved_location is = subst MovesRight is verdict_right
+    moved_so : verdict_of head asked ≡ Moved → X
+    moved_so is = subst MovesRight is verdict_right
+
+pub moved_location : (head : Head) (asked : Asked) → verdict_of head asked ≡ Moved → HasLocation head
+moved_location head asked is = moved_so head (HasLocation head)
+    (λ moved. some_location head (sole (values_of head (codes "location"))) refl
+    (and_parts (list_any (λ status. head.status == status) (301 ∷ 302 ∷ 303 ∷ 307 ∷ 308 ∷ [])) (is_some (sole (values_of head (codes "location")))) moved).1)
+    asked is
+
+pub moved_test : (head : Head) (asked : Asked) → verdict_of head asked ≡ Moved → is_moved head ≡ true
+moved_test head asked is = moved_so head (is_moved head ≡ true) (λ moved. moved) asked is

@@ -13,7 +13,7 @@ use Rattle.request_chain.proofs.SentLemmas.{with_bytes, same_exchange}
 
 module _ (parts : List JobPart) (before used now new : List Stream) (course : Course) where
   -- the newest stream, on top of the others
-  on_top : (sent : IsSent parts used course) → Gains before now used → (rest : List Stream) × (now ≡ sent.newest ∷ rest) × Gains before rest sent.older
+  pub on_top : (sent : IsSent parts used course) → Gains before now used → (rest : List Stream) × (now ≡ sent.newest ∷ rest) × Gains before rest sent.older
   on_top sent gains =
       let P : List Stream → Type 0 = Gains before now in
       gains_last sent.older before now sent.newest (subst P sent.used_is gains)
@@ -66,6 +66,8 @@ module _ (parts : List JobPart) (before used now new : List Stream) (course : Co
     used_is = refl;
     exchange = same_exchange sent.url (asked_of sent.part) sent.newest (sent.newest.received ++ came) sent.newest.ended sent.exchange;
     not_ended = sent.not_ended;
+    ordered = sent.ordered;
+    bounded = sent.bounded;
   }
 
   -- what came waits
@@ -103,6 +105,7 @@ module _ (parts : List JobPart) (before used now new : List Stream) (course : Co
             begins = read.begins;
             sliced = read.sliced;
             small = read.small;
+            within = read.within;
             at = read.at;
             got_is = read.got_is;
             count_is = read.count_is;

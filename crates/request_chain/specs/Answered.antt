@@ -3,6 +3,7 @@ use Rattle.std.specs.Prelude.{◌≡◌, ◌⊎◌, ℕ, true, List, [], ◌∷�
 use Rattle.link_source.specs.Link.{LinkState}
 use Rattle.link_source.specs.Mirrors.{Content, HasReply}
 use Rattle.link_source.specs.Streams.{Stream}
+use Rattle.request_chain.specs.Received.{ReceivesLittle}
 
 -- nothing was sent in the stream and nothing came, and the mirrors have what they had
 pub record GaveNothing (old : Content) (stream : Stream) (due : List ℕ) (new : Content) : Type 0 where
@@ -12,7 +13,8 @@ pub record GaveNothing (old : Content) (stream : Stream) (due : List ℕ) (new :
   pub same : new ≡ old
 
 -- One request was sent in the stream, where the mirrors had the old content, and they gave one answer, with which they
--- have the new content: what came is the front of it, behind which this is due. Where the end was told, nothing is.
+-- have the new content: what came is the front of it, behind which this is due. Where the end was told, nothing is. The
+-- reply was read no further than what was asked for.
 pub record GaveAnswer (old : Content) (stream : Stream) (due : List ℕ) (new : Content) : Type 0 where
   pub request : List ℕ
   pub sent_is : stream.sent ≡ (0, request) ∷ []
@@ -20,6 +22,7 @@ pub record GaveAnswer (old : Content) (stream : Stream) (due : List ℕ) (new : 
   pub answers : HasReply old stream.host stream.port request reply new
   pub whole : stream.received ++ due ≡ reply
   pub last : stream.ended ≡ true → due ≡ []
+  pub little : ReceivesLittle stream
 
 abbrev pub Gave : Content → Stream → List ℕ → Content → Type 0
 Gave old stream due new = GaveNothing old stream due new ⊎ GaveAnswer old stream due new

@@ -1,5 +1,5 @@
 -- How far the content of a reply was read.
-use Rattle.std.specs.Prelude.{◌≡◌, ◌<◌, ◌^◌, ℕ, Bool, false, List, [], ◌++◌, length, drop, ⊤}
+use Rattle.std.specs.Prelude.{◌≡◌, ◌+◌, ◌<◌, ◌≤◌, ◌^◌, ℕ, Bool, false, List, [], ◌++◌, length, drop, ⊤}
 use Rattle.body_frames.specs.Bodies.{Framing}
 use Rattle.range_http.specs.declared.asked.Asked.{Asked}
 use Rattle.range_http.specs.declared.head.Head.{Head}
@@ -29,6 +29,7 @@ pub record IsBegun (asked : Asked) (head : Head) (content : Content) : Type 0 wh
   pub slice : Slice
   pub sliced : IsSliceOf asked head slice content.last
   pub small : slice.len < 2 ^ 64
+  pub within : slice.skip + slice.len ≤ asked.last + 1
   pub at : IsAtSlice slice [] content.reader
   pub none_came : came_of slice [] ≡ []
   pub count_is : content.got ≡ 0
@@ -44,6 +45,7 @@ pub record IsReadTo (asked : Asked) (received waiting got : List ℕ) (content :
   pub begins : HasFinalHead front head used
   pub sliced : IsSliceOf asked head slice content.last
   pub small : slice.len < 2 ^ 64
+  pub within : slice.skip + slice.len ≤ asked.last + 1
   pub at : IsAtSlice slice (drop used front) content.reader
   pub got_is : got ≡ came_of slice (drop used front)
   pub count_is : content.got ≡ length got

@@ -1,5 +1,5 @@
 -- Which request is next, as a chain keeps it.
-use Rattle.std.specs.Prelude.{ℕ, List, [], ◌∷◌, ◌++◌, drop, Option, Some, None, ⊤}
+use Rattle.std.specs.Prelude.{◌≡◌, ℕ, List, [], ◌∷◌, ◌++◌, drop, Option, Some, None, ⊤}
 use Rattle.link_source.specs.Streams.{Stream}
 use Rattle.span_map.specs.declared.jobs.JobPart.{JobPart}
 use Rattle.request_chain.specs.Fetched.{FetchedBy}
@@ -41,3 +41,8 @@ IfAsking (Over ending) P = ⊤
 abbrev pub CarriesOn : NextAsk → List Stream → List ℕ → NextAsk → Type 0
 CarriesOn plan used bytes next = (streams rest : List Stream) (more : List ℕ) (ending : FetchEnding)
     → FetchedBy next streams more ending rest → FetchedBy plan (used ++ streams) (bytes ++ more) ending rest
+
+-- the next request is for this URL
+abbrev pub AsksAt : NextAsk → List ℕ → Type 0
+AsksAt (Ask part parts at_url count status) url = at_url ≡ url
+AsksAt (Over ending) url = ⊥

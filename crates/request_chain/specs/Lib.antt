@@ -1,4 +1,5 @@
 pub mod Answered
+pub mod Bounds
 pub mod Chains
 pub mod Contents
 pub mod Courses
@@ -8,6 +9,7 @@ pub mod Links
 pub mod Plans
 pub mod Probes
 pub mod Searches
+pub mod Received
 pub mod Redirects
 pub mod Sending
 pub mod Stages

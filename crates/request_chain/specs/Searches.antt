@@ -3,15 +3,12 @@ use Rattle.std.specs.Prelude.{◌≡◌, ℕ, ◌+◌, false, List, ◌∷◌, �
 use Rattle.link_source.specs.Streams.{Stream}
 use Rattle.range_http.specs.declared.head.Head.{Head}
 use Rattle.reply_reader.specs.Heads.{HasFinalHead, IsAtHead}
+use Rattle.reply_reader.specs.Sizes.{heads_most}
 use Rattle.reply_reader.specs.declared.heads.HeadReader.{HeadReader}
 use Rattle.reply_reader.specs.declared.loss.Loss.{Loss}
 use Rattle.reply_reader.specs.declared.loss.Loss.TheVariants as losses
 use Rattle.request_chain.specs.Exchanges.{IsExchange}
 use Rattle.request_chain.specs.Probes.{Probe, Due, Lost, probe_asked, ProbeReplies, Search, ProbedBy}
-
--- so many bytes hold the most heads that a reply may have, and one more
-abbrev pub heads_limit : ℕ
-heads_limit = 589824
 
 -- the newest stream is a probe's, its heads were read up to what waits, and so many bytes may still come
 pub record Awaits (url : List ℕ) (before now : List Stream) (left : ℕ) (waiting : List ℕ) (reader : HeadReader) : Type 0 where
@@ -22,7 +19,7 @@ pub record Awaits (url : List ℕ) (before now : List Stream) (left : ℕ) (wait
   pub front : List ℕ
   pub received_is : stream.received ≡ front ++ waiting
   pub at : IsAtHead front reader
-  pub room : length stream.received + left ≡ heads_limit
+  pub room : length stream.received + left ≡ heads_most
 
 -- the final head came in it
 pub record HasHead (url : List ℕ) (before now : List Stream) (head : Head) : Type 0 where

@@ -1,6 +1,7 @@
 -- How far the newest stream of a chain was read.
-use Rattle.std.specs.Prelude.{◌≡◌, ℕ, false, List, [], ◌∷◌, ◌++◌, ⊤}
+use Rattle.std.specs.Prelude.{◌≡◌, ℕ, ◌+◌, ◌<◌, ◌≤◌, ◌^◌, false, List, [], ◌∷◌, ◌++◌, length, ⊤}
 use Rattle.link_source.specs.Streams.{Stream}
+use Rattle.range_http.specs.declared.head.TheConstants.{MAX_HEAD_BYTES}
 use Rattle.span_map.specs.declared.jobs.JobPart.{JobPart}
 use Rattle.reply_reader.specs.Answers.{Due}
 use Rattle.reply_reader.specs.Heads.{IsHeadDue, HasNoFinalHead, IsAtHead}
@@ -29,6 +30,8 @@ pub record IsSent (parts : List JobPart) (used : List Stream) (course : Course) 
   pub used_is : used ≡ older ++ newest ∷ []
   pub exchange : IsExchange url (asked_of part) newest
   pub not_ended : newest.ended ≡ false
+  pub ordered : (asked_of part).first ≤ (asked_of part).last
+  pub bounded : (asked_of part).last < 2 ^ 64
 
 -- its heads were read up to what waits
 pub record IsReadingHead (parts : List JobPart) (used : List Stream) (course : Course) (waiting bytes : List ℕ) (reader : HeadReader) : Type 0 where
@@ -68,6 +71,12 @@ abbrev pub IsNoHeadAt : Stage → Type 0
 IsNoHeadAt Asking = ⊥
 IsNoHeadAt (InHead reader) = (front : List ℕ) → IsAtHead front reader → HasNoFinalHead front
 IsNoHeadAt (InContent content) = ⊥
+
+-- so many more bytes leave a head, where one is due, within the longest one's size
+abbrev pub FitsHead : Stage → ℕ → Type 0
+FitsHead Asking most = ⊤
+FitsHead (InHead reader) most = (received : List ℕ) → IsAtHead received reader → most + length reader.bytes.items ≤ MAX_HEAD_BYTES
+FitsHead (InContent content) most = ⊤
 
 -- how many bytes came by this request
 abbrev pub got_at : Stage → ℕ

@@ -1,5 +1,6 @@
 -- The steps of a call of a chain.
 use Rattle.std.specs.Prelude.{◌≡◌, ◌≢◌, ℕ, ◌+◌, ◌*◌, true, List, ◌++◌, length}
+use Rattle.link_source.specs.Endpoint.{IsUsable}
 use Rattle.link_source.specs.Link.{LinkState}
 use Rattle.link_source.specs.Streams.{Stream}
 use Rattle.range_http.specs.declared.head.Head.{Head}
@@ -9,7 +10,7 @@ use Rattle.span_map.specs.declared.jobs.JobPart.{JobPart}
 use Rattle.reply_reader.specs.Heads.{HasFinalHead}
 use Rattle.reply_reader.specs.declared.loss.Loss.{Loss}
 use Rattle.request_chain.specs.Chains.{Gains, received_by, IsChain, TellsLoss}
-use Rattle.request_chain.specs.Courses.{plan_now, IsAsking, IfAsking}
+use Rattle.request_chain.specs.Courses.{plan_now, AsksAt, IsAsking, IfAsking}
 use Rattle.request_chain.specs.Plans.{asked_of}
 use Rattle.request_chain.specs.Stages.{IsSent, IsReading, steps_of}
 use Rattle.request_chain.specs.declared.chain.Chain.{Chain}
@@ -56,3 +57,11 @@ HasMoved course head = IfAsking (plan_now course) (λ part others url count stat
 -- where a reply is read on, the link listens
 abbrev pub MayGoOn : Chain → LinkState → Type 0
 MayGoOn chain link = chain.stage ≢ Asking → IsAsking (plan_now chain.course) → link.listens ≡ true
+
+-- nothing is open, and the next request is for this URL
+abbrev pub AsksFor : Chain → List ℕ → Type 0
+AsksFor chain url = (chain.stage ≡ Asking) × AsksAt (plan_now chain.course) url
+
+-- P, where the next request is for a URL that is no `http` URL
+abbrev pub IfUnusable : Chain → Type 0 → Type 0
+IfUnusable chain P = (url : List ℕ) → AsksFor chain url → (IsUsable url → ⊥) → P

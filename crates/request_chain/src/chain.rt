@@ -1,5 +1,5 @@
 // A chain of requests over one link.
-ghost use Rattle.std.specs.Prelude.{◌≡◌, ◌≢◌, ◌⊎◌, ◌≤◌, ◌<◌, ◌+◌, ◌-◌, ◌*◌, ◌++◌, [], List, ℕ, true, false, Ok, Err, All, IsTrue, IsFalse, OnOk, IfOk, IfErr, MatchResult, length, vec_len, vec_capacity};
+ghost use Rattle.std.specs.Prelude.{◌≡◌, ◌≢◌, ◌⊎◌, ◌≤◌, ◌<◌, ◌+◌, ◌-◌, ◌*◌, ◌++◌, ◌∷◌, [], List, ℕ, true, false, Ok, Err, All, IsTrue, IsFalse, OnOk, IfOk, IfErr, MatchResult, length, vec_len, vec_capacity};
 ghost use Rattle.dl_words.specs.Counts.{Rose};
 ghost use Rattle.link_source.specs.Link.{LinkState};
 ghost use Rattle.link_source.specs.Streams.{Stream};
@@ -15,7 +15,7 @@ ghost use Rattle.span_map.specs.Jobs.{IsJobPart};
 ghost use Rattle.request_chain.specs.Courses.{plan_now, IsAsking};
 ghost use Rattle.request_chain.specs.Plans.{Over, Done};
 ghost use Rattle.request_chain.specs.Stages.{IsReading, IsReadingHead, IsReadingContent, IsSent, steps_of};
-ghost use Rattle.request_chain.specs.Turns.{Steps, ReceivesMore, StepLoses, HeadIsRead, HasMoved, MayGoOn, weight_of};
+ghost use Rattle.request_chain.specs.Turns.{Steps, ReceivesMore, StepLoses, HeadIsRead, HasMoved, AsksFor, IfUnusable, MayGoOn, weight_of};
 
 use crate::content::{Content, begin};
 use crate::course::{Course, Moved};
@@ -27,7 +27,8 @@ use dl_kinds::Code;
 use link_source::Links;
 use range_http::Head;
 use reply_reader::{
-    HeadReader, HeadsRead, Loss, SliceState, final_heads_are_one_and_stay, streams_have_one_answer,
+    HeadReader, HeadsRead, Loss, SliceState, final_heads_are_one_and_stay, replies_are_read_short,
+    streams_have_one_answer,
 };
 use span_map::JobParts;
 use std::alloc::Global;
@@ -56,6 +57,8 @@ impl Chain {
         ensures chain { IsChain parts [] [] result }
         ensures brought { HasBrought parts [] [] [] }
         ensures may { (link : LinkState) → MayGoOn result link }
+        ensures first { (part : JobPart) (others : List JobPart) → parts ≡ part ∷ others
+            → AsksFor result part.url }
     {
         let mut room = room;
         room.inbox.clear();
@@ -87,6 +90,8 @@ impl Chain {
         ensures course { self.new.course ≡ self.old.course }
         ensures taken { self.new.taken ≡ self.old.taken }
         ensures smaller { OnOk result (weight_of self.new < weight_of self.old) }
+        ensures usable { OnOk result (IfUnusable self.old ⊥) }
+        ensures untouched { IfUnusable self.old (link.new ≡ link.old) }
         ensures listens { OnOk result (IsTrue L.tells → (L.state link.new).listens ≡ true) }
         ensures link { IfErr result (CountsLinkLoss (L.faults link.old) (L.faults link.new)) }
         ensures known { IfErr result IsKnown }
@@ -127,7 +132,9 @@ impl Chain {
             → KeepsAnswers before (L.state link.old) (L.state link.new) }
         ensures later { L.faults link.old ≤ L.faults link.new }
     {
-        match self.room.inbox.refill(link, allow - self.taken) {
+        replies_are_read_short();
+        let most = (allow - self.taken).min(self.stage.most_asked());
+        match self.room.inbox.refill(link, most) {
             Ok(0) => {
                 self.stage.check(alloc)?;
                 Err(Loss::Short {
@@ -324,6 +331,8 @@ impl Chain {
         ensures few { self.new.taken ≤ allow }
         ensures smaller { OnOk result (weight_of self.new + 3 * (allow - self.new.taken) < weight_of self.old + 3 * (allow - self.old.taken)) }
         ensures may { OnOk result (IsTrue L.tells → MayGoOn self.new (L.state link.new)) }
+        ensures usable { OnOk result (IfUnusable self.old ⊥) }
+        ensures untouched { IfUnusable self.old (link.new ≡ link.old) }
         ensures link { IfErr result (CountsLinkLoss (L.faults link.old) (L.faults link.new)) }
         ensures known { IfErr result IsKnown }
         ensures answered { IsTrue L.tells
@@ -384,6 +393,8 @@ impl Chain {
         ensures few { self.new.taken ≤ allow }
         ensures len { vec_len out.new ≤ vec_len out.old + room }
         ensures capacity { vec_capacity out.old ≤ vec_capacity out.new }
+        // A request for a URL that is no `http` URL is refused without a call of the link.
+        ensures untouched { IfUnusable self.old (link.new ≡ link.old) }
         ensures link { IfErr result (CountsLinkLoss (L.faults link.old) (L.faults link.new)) }
         ensures known { IfErr result IsKnown }
         ensures answered { IsTrue L.tells

@@ -14,7 +14,7 @@ ghost use Rattle.request_chain.specs.Sending.{loss_by, IsOpened, IsUnopened};
 use dl_kinds::{Code, IoErr};
 use link_source::{EndErr, Endpoint, Links};
 use range_http::{Asked, request};
-use reply_reader::Loss;
+use reply_reader::{Loss, replies_are_read_short};
 use std::alloc::Global;
 
 /// The loss by a link's error, which is told with the link's count.
@@ -80,6 +80,7 @@ pub(crate) fn send_request<L: Links>(
     ensures untouched { (IsUsable url.now → ⊥) → link.new ≡ link.old }
     ensures later { L.faults link.old ≤ L.faults link.new }
 {
+    replies_are_read_short();
     let endpoint = endpoint(alloc, url, status)?;
     let request = request_for(alloc, &endpoint, asked)?;
     if let Err(error) = link.dial(endpoint.host.as_str(), endpoint.port) {

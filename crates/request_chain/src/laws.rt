@@ -1,11 +1,27 @@
 // What streams tell of the parts that were asked for.
+ghost use Rattle.request_chain.specs.Bounds.{RequestsReceiveLittle};
 ghost use Rattle.request_chain.specs.Fetched.{FetchedIsOne};
 
-use reply_reader::streams_have_one_answer;
+use link_source::requests_are_read_once;
+use reply_reader::{
+    answers_fill_what_is_asked, final_heads_are_one_and_stay, replies_are_read_short,
+    streams_have_one_answer,
+};
 
 /// The same streams determine one result of the parts that were asked for.
 pub fn fetched_is_one()
     ensures { FetchedIsOne }
 {
     streams_have_one_answer();
+}
+
+/// For one request with its redirects a link gives no more than its replies may have up to the last byte that was asked
+/// for, and one buffer.
+pub fn requests_receive_little()
+    ensures { RequestsReceiveLittle }
+{
+    answers_fill_what_is_asked();
+    final_heads_are_one_and_stay();
+    replies_are_read_short();
+    requests_are_read_once();
 }

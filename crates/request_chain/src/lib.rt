@@ -14,7 +14,7 @@ mod room;
 mod stage;
 
 pub use chain::{Chain, ChainRead};
-pub use laws::fetched_is_one;
+pub use laws::{fetched_is_one, requests_receive_little};
 pub use probing::probe;
 pub use reply_reader::Loss;
 pub use room::ChainRoom;

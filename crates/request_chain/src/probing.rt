@@ -27,7 +27,9 @@ use crate::room::ChainRoom;
 use dl_kinds::{Code, Text};
 use link_source::Links;
 use range_http::{Asked, Head, Verdict, classify};
-use reply_reader::{HeadReader, HeadsRead, Loss, final_heads_are_one_and_stay};
+use reply_reader::{
+    HeadReader, HeadsRead, Loss, final_heads_are_one_and_stay, replies_are_read_short,
+};
 use std::alloc::Global;
 
 /// The most bytes of the heads of a reply, and one more.
@@ -105,13 +107,15 @@ fn receive<L: Links>(
         (HeadLost url before (L.state link.new).streams (L.faults link.new)) }
     ensures some { IfOk result (λ count. (0 < count) × (count ≤ most)) }
     ensures listens { IsTrue L.tells → (L.state link.new).listens ≡ true }
-    ensures answered { IsTrue L.tells → (before : List Stream) → (L.state link.old).streams ≢ before
+    ensures answered { IsTrue L.tells → (url : List ℕ) (others before : List Stream)
+        → Awaits url others (L.state link.old).streams most [] reader.now → length before ≤ length others
         → KeepsAnswers before (L.state link.old) (L.state link.new) }
     ensures link { IfErr result (CountsLinkLoss (L.faults link.old) (L.faults link.new)) }
     ensures known { IfErr result IsKnown }
     ensures later { L.faults link.old ≤ L.faults link.new }
 {
-    match inbox.refill(link, most) {
+    replies_are_read_short();
+    match inbox.refill(link, most.min(reader.most_asked())) {
         Ok(0) => {
             check(alloc, reader)?;
             Err(Loss::Short { got: 0 })

@@ -1,10 +1,12 @@
 // How far the newest stream of a chain was read.
-ghost use Rattle.std.specs.Prelude.{◌≡◌, ◌⊎◌, ◌↔◌, IsTrue, OnOk, IfErr};
+ghost use Rattle.std.specs.Prelude.{◌≡◌, ◌⊎◌, ◌↔◌, ◌<◌, ◌≤◌, IsTrue, OnOk, IfErr};
+ghost use Rattle.link_source.specs.declared.streams.TheConstants.{MOST_RECEIVED};
 ghost use Rattle.reply_reader.specs.Losses.{IsKnown};
 ghost use Rattle.reply_reader.specs.declared.loss.Loss.TheVariants.{BadReply, NoMemory};
-ghost use Rattle.request_chain.specs.Stages.{IsDueAt, IsNoHeadAt, got_at};
+ghost use Rattle.request_chain.specs.Stages.{FitsHead, IsDueAt, IsNoHeadAt, got_at};
 
 use crate::content::Content;
+use link_source::MOST_RECEIVED;
 use reply_reader::{HeadReader, Loss};
 use std::alloc::Global;
 
@@ -30,6 +32,18 @@ impl Stage {
         match self {
             Stage::Asking | Stage::Head(_) => 0,
             Stage::Content(content) => content.got,
+        }
+    }
+
+    /// The most bytes that are asked of the link at once: of a head that is due no more than the longest one has.
+    pub fn most_asked(&self) -> u32
+        ensures some { 0 < result }
+        ensures few { result ≤ MOST_RECEIVED }
+        ensures head { FitsHead self.now result }
+    {
+        match self {
+            Stage::Head(reader) => reader.most_asked(),
+            Stage::Asking | Stage::Content(_) => MOST_RECEIVED as u32,
         }
     }
 

@@ -26,7 +26,7 @@ returns-in-Part-clause-begun c =
     let head = c.args.head.now in
     let total = c.requires.total in
     let fits = subst (Fits asked) (sym c.in-Part.ensures.value) (verdict_fits c.numbers_and_ranges_are_read.ensures.ranges head asked total.0 total.1 (omega arith)) in
-    begun_of asked head c.in-Part.framing 0 c.in-Part.last c.new.result c.new.ensures fits.0 (omega (arith, fits.1)) fits.2
+    begun_of asked head c.in-Part.framing 0 c.in-Part.last c.new.result c.new.ensures fits.0 (omega (arith, fits.1)) (omega (arith, fits.0, fits.1)) fits.2
     (λ stream ended. ap (λ (v : Verdict). answer_by head asked v stream ended) (sym c.in-Part.ensures.value))
 
 pub returns-in-Whole-clause-begun : goal.returns-in-Whole-clause-begun
@@ -35,7 +35,7 @@ returns-in-Whole-clause-begun c =
     let head = c.args.head.now in
     let total = c.requires.total in
     let fits = subst (Fits asked) (sym c.in-Whole.ensures.value) (verdict_fits c.numbers_and_ranges_are_read.ensures.ranges head asked total.0 total.1 (omega arith)) in
-    begun_of asked head c.in-Whole.framing asked.first asked.last c.new-in-Whole.result c.new-in-Whole.ensures c.requires.ordered c.requires.bounded fits
+    begun_of asked head c.in-Whole.framing asked.first asked.last c.new-in-Whole.result c.new-in-Whole.ensures c.requires.ordered c.requires.bounded (omega (arith, c.requires.ordered)) fits
     (λ stream ended. ap (λ (v : Verdict). answer_by head asked v stream ended) (sym c.in-Whole.ensures.value))
 
 pub returns-in-Refused-clause-known : goal.returns-in-Refused-clause-known

@@ -1,6 +1,5 @@
 use Rattle.std.proofs.Common.{◌+◌, [], length, refl, arith}
 use Rattle.std.proofs.lemmas.Result.{err_from_is_err_and}
-use Rattle.request_chain.proofs.AnsweredLemmas.{top_later}
 use Rattle.request_chain.proofs.ProbeLemmas.{none_left, read_more, read_whole, read_none, read_room}
 use Rattle.request_chain.proofs.probing.receive_head.Goals as goal
 
@@ -23,14 +22,14 @@ turns-preserved g c = record {
   listens = c.receive.ensures.listens;
   answered = λ told url others before opened few old were.
       let awaits = c.turns.invariant.awaits told url others opened in
-      c.receive.ensures.answered told before (top_later before others _ awaits.stream awaits.on_top few) old
+      c.receive.ensures.answered told url others before awaits few old
       (c.turns.invariant.answered told url others before opened few old were);
 }
 
 pub returns-in_err-count-clause-answered : goal.returns-in_err-count-clause-answered
 returns-in_err-count-clause-answered g c told url others before opened few old were =
     let awaits = c.turns.invariant.awaits told url others opened in
-    c.receive.ensures.answered told before (top_later before others _ awaits.stream awaits.on_top few) old
+    c.receive.ensures.answered told url others before awaits few old
     (c.turns.invariant.answered told url others before opened few old were)
 
 pub returns-in-Bad-clause-heads : goal.returns-in-Bad-clause-heads
@@ -50,17 +49,17 @@ returns-clause-heads g c told url before opened =
 pub returns-in-Whole-clause-answered : goal.returns-in-Whole-clause-answered
 returns-in-Whole-clause-answered g c told url others before opened few old were =
     let awaits = c.turns.invariant.awaits told url others opened in
-    c.receive.ensures.answered told before (top_later before others _ awaits.stream awaits.on_top few) old
+    c.receive.ensures.answered told url others before awaits few old
     (c.turns.invariant.answered told url others before opened few old were)
 
 pub returns-in-Bad-clause-answered : goal.returns-in-Bad-clause-answered
 returns-in-Bad-clause-answered g c told url others before opened few old were =
     let awaits = c.turns.invariant.awaits told url others opened in
-    c.receive.ensures.answered told before (top_later before others _ awaits.stream awaits.on_top few) old
+    c.receive.ensures.answered told url others before awaits few old
     (c.turns.invariant.answered told url others before opened few old were)
 
 pub returns-in-NoMemory-clause-answered : goal.returns-in-NoMemory-clause-answered
 returns-in-NoMemory-clause-answered g c told url others before opened few old were =
     let awaits = c.turns.invariant.awaits told url others opened in
-    c.receive.ensures.answered told before (top_later before others _ awaits.stream awaits.on_top few) old
+    c.receive.ensures.answered told url others before awaits few old
     (c.turns.invariant.answered told url others before opened few old were)

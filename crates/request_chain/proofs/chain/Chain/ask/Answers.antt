@@ -1,4 +1,4 @@
-use Rattle.std.proofs.Common.{List, ℕ, [], ◌∷◌, ◌++◌, refl, sym, subst}
+use Rattle.std.proofs.Common.{List, ℕ, [], ◌∷◌, ◌++◌, refl, sym, subst, arith}
 use Rattle.std.proofs.lemmas.Result.{err_from_is_err_and}
 use Rattle.request_chain.specs.Courses.{plan_now}
 use Rattle.request_chain.specs.Stages.{IsReading, IsReadingHead}
@@ -23,7 +23,7 @@ returns-clause-asks g c told parts before used bytes is gains =
     let url = asked_in _ asks.part asks.others asks.url asks.count asks.status _ asks.is c.url.ensures in
     let asked = asked_in _ asks.part asks.others asks.url asks.count asks.status _ asks.is c.asked-asked.ensures.asked in
     let opened = c.in_ok-send_request.ensures.sent told in
-    let head = opened_head parts before used _ _ (plan_now self.course) bytes asks reading.0 gains self.course refl c.new.result c.new.ensures.at _ asked _ url opened in
+    let head = opened_head parts before used _ _ (plan_now self.course) bytes asks reading.0 gains self.course refl c.new.result c.new.ensures.at _ asked c.asked-asked.ensures.ordered (omega (arith, c.asked-asked.ensures.bounded)) _ url opened in
     let P : List ℕ → Type 0 = λ waiting. IsReadingHead parts (used ++ opened.stream ∷ []) self.course waiting bytes c.new.result in
     opened_steps parts before used _ _ (plan_now self.course) bytes asks reading.0 gains _ _ opened _ _ refl
     (record { reading = subst P (sym reading.1) head; behind = reading.1 })

@@ -66,5 +66,19 @@ turns-preserved g c = record {
       let so_far = c.turns.invariant.steps told parts before used bytes is gains in
       c.turn.ensures.answered told parts before so_far.2.later (bytes ++ so_far.0) so_far.2.chain_is so_far.2.gains old
       (c.turns.invariant.answered told parts before used bytes is gains old were);
+  untouched = λ url asks unusable.
+      let was = c.turns.invariant.untouched url asks unusable in
+      absurd (c.in_ok-turn.ensures.usable url was.1 unusable);
   may = c.in_ok-turn.ensures.may;
 }
+
+pub returns-in_err-turn-clause-untouched : goal.returns-in_err-turn-clause-untouched
+returns-in_err-turn-clause-untouched g c url asks unusable =
+    let was = c.turns.invariant.untouched url asks unusable in
+    c.turn.ensures.untouched url was.1 unusable ∙ was.0
+
+pub returns-in_err-check-clause-untouched : goal.returns-in_err-check-clause-untouched
+returns-in_err-check-clause-untouched g c url asks unusable = (c.turns.invariant.untouched url asks unusable).0
+
+pub returns-clause-untouched : goal.returns-clause-untouched
+returns-clause-untouched g c url asks unusable = (c.turns.invariant.untouched url asks unusable).0

@@ -1,9 +1,10 @@
-use Rattle.std.proofs.Common.{◌≡◌, ◌+◌, ◌-◌, ◌*◌, ◌≤◌, ◌++◌, ℕ, List, [], IsTrue, vec_len, vec_capacity}
+use Rattle.std.proofs.Common.{◌≡◌, ◌+◌, ◌-◌, ◌*◌, ◌≤◌, ◌++◌, ℕ, List, IsTrue, vec_len, vec_capacity}
+use Rattle.link_source.specs.Endpoint.{IsUsable}
 use Rattle.link_source.specs.Streams.{Stream}
 use Rattle.span_map.specs.declared.jobs.JobPart.{JobPart}
 use Rattle.request_chain.specs.Chains.{IsChain, Gains}
 use Rattle.request_chain.specs.Answered.{KeepsAnswers}
-use Rattle.request_chain.specs.Turns.{Steps, MayGoOn, weight_of}
+use Rattle.request_chain.specs.Turns.{AsksFor, Steps, MayGoOn, weight_of}
 use Rattle.request_chain.proofs.chain.Chain.read.Given as goal
 
 abbrev pub invariant-turns : goal.invariant-turns
@@ -19,6 +20,7 @@ invariant-turns g l = record {
   answered : IsTrue g.L.Links.tells → (parts : List JobPart) (before used : List Stream) (bytes : List ℕ)
       → IsChain parts used bytes l.fn.self → Gains before (g.L.Links.state l.initial.link).streams used
       → KeepsAnswers before (g.L.Links.state l.initial.link) (g.L.Links.state l.link);
+  untouched : (url : List ℕ) → AsksFor l.fn.self url → (IsUsable url → ⊥) → (l.link ≡ l.initial.link) × AsksFor l.self url;
   may : IsTrue g.L.Links.tells → MayGoOn l.self (g.L.Links.state l.link);
 }
 

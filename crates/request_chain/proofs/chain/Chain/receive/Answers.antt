@@ -4,6 +4,7 @@ use Rattle.link_source.specs.Streams.{with_received}
 use Rattle.reply_reader.specs.declared.loss.Loss.TheVariants.{Short}
 use Rattle.request_chain.specs.Stages.{IsReading, got_at}
 use Rattle.request_chain.proofs.AnsweredLemmas.{answered_received, answered_still, comes_due, sent_later}
+use Rattle.request_chain.proofs.Little.{little_newest}
 use Rattle.request_chain.proofs.ReadingLemmas.{short_answer}
 use Rattle.request_chain.proofs.ReceivingLemmas.{more_reading}
 use Rattle.request_chain.proofs.TurnLemmas.{no_bytes, ended_loses, unchecked_ended, unchecked_still, link_loses}
@@ -59,6 +60,9 @@ returns-in_ok-check-in-Ok-eq0-clause-answered g c told parts before used bytes i
     answered_received before _ _ c.refill.new.self
     (sent_later parts before _ used self.course bytes self.room.inbox self.stage is.reading c.requires.sent gains)
     (c.in-Ok-eq0.ensures.received told) (comes_due _ c.refill.new.self _ _ c.in-Ok-eq0.ensures.count (c.in-Ok-eq0.ensures.given told)) (c.refill.ensures.kept told)
+    (little_newest c.replies_are_read_short.ensures.final_head c.replies_are_read_short.ensures.heads c.replies_are_read_short.ensures.not_final c.replies_are_read_short.ensures.slices
+    parts before _ used self.course bytes c.refill.new.self c.most_asked.result (omega (arith, c.in-Ok-eq0.ensures.count, c.in-Ok-eq0.ensures.most)) (omega (arith, c.in-Ok-eq0.ensures.count, c.in-Ok-eq0.ensures.most, c.most_asked.ensures.few))
+    self.stage c.most_asked.ensures.head c.requires.sent (subst (λ waiting. IsReading self.stage self.course waiting parts used bytes) c.requires.none_waits is.reading) gains)
 
 pub returns-in_err-check-in-Ok-eq0-clause-answered : goal.returns-in_err-check-in-Ok-eq0-clause-answered
 returns-in_err-check-in-Ok-eq0-clause-answered g c told parts before used bytes is gains =
@@ -66,6 +70,9 @@ returns-in_err-check-in-Ok-eq0-clause-answered g c told parts before used bytes 
     answered_received before _ _ c.refill.new.self
     (sent_later parts before _ used self.course bytes self.room.inbox self.stage is.reading c.requires.sent gains)
     (c.in-Ok-eq0.ensures.received told) (comes_due _ c.refill.new.self _ _ c.in-Ok-eq0.ensures.count (c.in-Ok-eq0.ensures.given told)) (c.refill.ensures.kept told)
+    (little_newest c.replies_are_read_short.ensures.final_head c.replies_are_read_short.ensures.heads c.replies_are_read_short.ensures.not_final c.replies_are_read_short.ensures.slices
+    parts before _ used self.course bytes c.refill.new.self c.most_asked.result (omega (arith, c.in-Ok-eq0.ensures.count, c.in-Ok-eq0.ensures.most)) (omega (arith, c.in-Ok-eq0.ensures.count, c.in-Ok-eq0.ensures.most, c.most_asked.ensures.few))
+    self.stage c.most_asked.ensures.head c.requires.sent (subst (λ waiting. IsReading self.stage self.course waiting parts used bytes) c.requires.none_waits is.reading) gains)
 
 pub returns-in-Ok-clause-answered : goal.returns-in-Ok-clause-answered
 returns-in-Ok-clause-answered g c told parts before used bytes is gains =
@@ -73,6 +80,9 @@ returns-in-Ok-clause-answered g c told parts before used bytes is gains =
     answered_received before _ _ c.refill.new.self
     (sent_later parts before _ used self.course bytes self.room.inbox self.stage is.reading c.requires.sent gains)
     (c.in-Ok.ensures.received told) (comes_due _ c.refill.new.self _ _ c.in-Ok.ensures.count (c.in-Ok.ensures.given told)) (c.refill.ensures.kept told)
+    (little_newest c.replies_are_read_short.ensures.final_head c.replies_are_read_short.ensures.heads c.replies_are_read_short.ensures.not_final c.replies_are_read_short.ensures.slices
+    parts before _ used self.course bytes c.refill.new.self c.most_asked.result (omega (arith, c.in-Ok.ensures.count, c.in-Ok.ensures.most)) (omega (arith, c.in-Ok.ensures.count, c.in-Ok.ensures.most, c.most_asked.ensures.few))
+    self.stage c.most_asked.ensures.head c.requires.sent (subst (λ waiting. IsReading self.stage self.course waiting parts used bytes) c.requires.none_waits is.reading) gains)
 
 pub returns-in_err-check-in-Err-clause-answered : goal.returns-in_err-check-in-Err-clause-answered
 returns-in_err-check-in-Err-clause-answered g c told parts before used bytes is gains =
