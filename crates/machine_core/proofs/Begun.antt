@@ -1,17 +1,19 @@
 -- What a download is opened with, by what is kept of it.
-use Rattle.std.proofs.Common.{◌≡◌, ℕ, Bool, true, false, cond, Option, Some, None, ◌<◌, ◌≤◌, List, [], ◌∷◌, ◌++◌, get_or, length, map, set, arith, reverse, slice_get, refl, sym, ap, ◌∙◌, subst, Bor}
-use Rattle.std.specs.Prelude.{find, IfNone, IsSome, option_copied}
-use Rattle.std.specs.List.{range_with_len}
-use Rattle.std.specs.Option.{option_and_then, option_map, unwrap_or}
-use Rattle.std.proofs.lemmas.List.FromFn.{length-map-range_with_len}
+use Rattle.std.proofs.Common.{◌≡◌, ◌+◌, ℕ, zero, suc, Bool, true, false, cond, Option, Some, None, ◌<◌, ◌≤◌, List, [], ◌∷◌, ◌++◌, get_or, length, map, set, arith, reverse, slice_get, refl, sym, ap, ◌∙◌, subst, Bor}
+use Rattle.std.specs.Prelude.{◌↔◌, find, IfNone, IsNone, IsSome, option_copied, replicate, sum_by}
+use Rattle.std.specs.List.{enumerate_from, range_with_len}
+use Rattle.std.specs.Option.{is_some, option_and_then, option_map, option_map_or, unwrap_or}
+use Rattle.std.proofs.lemmas.List.{get_or-replicate, length-replicate}
+use Rattle.std.proofs.lemmas.List.Sums.{sum_by-cons}
+use Rattle.std.proofs.lemmas.List.FromFn.{fill_by_all, length-map-range_with_len}
 use Rattle.std.proofs.lemmas.Option.{same_Some, slice_get_read, slice_get_within}
-use Rattle.dl_kinds.specs.Plan.{IsPlan, pieces_of}
+use Rattle.dl_kinds.specs.Plan.{IsPlan, blocks_of, pieces_of}
 use Rattle.dl_kinds.specs.declared.gid.Gid.{Gid}
 use Rattle.dl_kinds.specs.declared.plan.Plan.{Plan}
 use Rattle.dl_kinds.specs.declared.runs.Moment.{Moment}
 use Rattle.dl_history.specs.Accounts.{Account, at_opening}
 use Rattle.dl_history.specs.OwnEvents.{OwnEvent, Opens}
-use Rattle.dl_history.specs.PayloadParts.{told_total}
+use Rattle.dl_history.specs.PayloadParts.{is_landed_in, is_opened, told_total}
 use Rattle.dl_queue.specs.Calls.{options_in}
 use Rattle.dl_queue.specs.declared.kinds.Added.{Added}
 use Rattle.file_choice.proofs.Flags.{all_true}
@@ -21,19 +23,23 @@ use Rattle.one_download.specs.DownloadViews.{DownloadView, IsRoomier, is_opened_
 use Rattle.option_set.specs.Values.{OptionValues, number_value, text_of_word}
 use Rattle.option_set.specs.declared.kinds.Num.TheVariants as num
 use Rattle.option_set.specs.declared.kinds.Word.TheVariants as word
+use Rattle.piece_table.specs.Progress.{Progress}
+use Rattle.piece_table.specs.Sums.{block_bytes, completed_of, sum_where}
 use Rattle.machine_core.specs.Choices.{options_now}
 use Rattle.machine_core.specs.MachineParts.{KeepsDownload, KeepsRun, MachineState, added_as, kept_room, subject_of_event}
 use Rattle.machine_core.specs.MachineViews.{MachineView}
-use Rattle.machine_core.specs.Openings.{HasPlan, IsToOpen, lengths_of_plan, lengths_with, meta_of_event, meta_of_subject, wanted_with}
+use Rattle.machine_core.specs.Openings.{HasPlan, IsToOpen, landed_bytes_in, landed_bytes_of, lengths_of_plan, lengths_with, meta_of_event, meta_of_subject, wanted_of_gid, wanted_with}
 use Rattle.machine_core.specs.OwnParts.{PayloadLengths, lengths_by, no_lengths, own_of, payload_lengths_of, with_own}
+use Rattle.machine_core.specs.Reads.{IsOpenedGid, IsPieceOfGid, lengths_of_gid, own_of_gid}
 use Rattle.machine_core.specs.Replays.{download_of, is_same_gid, replay_of}
-use Rattle.machine_core.specs.RunLegal.{MayBeOpened, MayFollow, known_lengths}
+use Rattle.machine_core.specs.RunLegal.{MayBeOpened, MayFollow, download_in, known_lengths}
 use Rattle.machine_core.specs.Starts.{Download, Subject, Listed, Unlisted}
 use Rattle.machine_core.specs.TurnRooms.{AreRoomier}
 use Rattle.machine_core.specs.Wanted.{wanted_by, wanted_pieces}
 use Rattle.machine_core.specs.declared.entries.Entry.{Entry}
 use Rattle.machine_core.specs.declared.events.Event.{Event}
 use Rattle.machine_core.specs.declared.events.Event.TheVariants.{Opened}
+use Rattle.machine_core.proofs.Fitting.{IsKnown, some_is}
 use Rattle.machine_core.proofs.Here.{Here, Seen, known_here, may_here}
 use Rattle.machine_core.proofs.Legal.{Laws, known_idle}
 use Rattle.machine_core.proofs.Lists.{element_at}
@@ -307,3 +313,92 @@ still_roomier entries at x state within x_is same =
 -- the event is the last, also where the journal was given room before
 pub added_to : (events was old : List Event) (e : Event) → events ≡ was ++ e ∷ [] → was ≡ old → events ≡ old ++ e ∷ []
 added_to events was old e is same = is ∙ ap (λ (es : List Event). es ++ e ∷ []) same
+
+-- ---- reads
+
+-- the pieces that are wanted of an opened download
+pub wanted_here : (s : MachineState) (v : MachineView) (gid : Gid) (at : ℕ) (x : Entry) → Seen s v
+    → (h : Here s gid at x) → IsOpenedGid v gid → x.state.wanted ≡ wanted_of_gid v gid
+wanted_here s v gid at x seen h opened =
+    let start = s.start in
+    let past = reverse s.events in
+    let d = h.download in
+    let kept = seen.keeps.downloads.each at d x h.is.added h.is.there in
+    let was_opened : is_opened (own_of start past gid) ≡ true =
+    subst (λ (w : MachineView). IsOpenedGid w gid) (sym seen.view_is) opened in
+    let wanted : x.state.wanted ≡ wanted_pieces d (known_lengths start past gid) =
+    subst (λ (g : Gid). x.state.wanted ≡ wanted_pieces d (known_lengths start past g)) h.is.gid_is
+    (kept.wanted (subst (λ (g : Gid). is_opened (own_of start past g) ≡ true) (sym h.is.gid_is) was_opened)) in
+    subst (λ (w : MachineView). x.state.wanted ≡ wanted_of_gid w gid) seen.view_is
+    (wanted ∙ sym (ap (λ (o : Option Download). option_map_or (λ (e : Download). wanted_pieces e (known_lengths start past gid)) o [])
+    (added_here s v gid at x seen h)))
+
+pub wanted_each : (v : MachineView) (gid : Gid) (row : List Bool) (piece : ℕ) → row ≡ wanted_of_gid v gid
+    → is_some (download_in v.start v.past gid) ≡ true → IsPieceOfGid v gid piece → piece < length row
+wanted_each v gid row piece is added below =
+    let d = some_is (download_in v.start v.past gid) added in
+    let l = lengths_of_gid v gid in
+    let long : length row ≡ pieces_of l.total l.piece_len =
+    ap (λ (r : List Bool). length r)
+    (is ∙ ap (λ (o : Option Download). option_map_or (λ (e : Download). wanted_pieces e l) o []) d.1)
+    ∙ length-map-range_with_len (wanted_by d.0.subject (text_of_word d.0.options word.SelectFile) l) 0 (pieces_of l.total l.piece_len) in
+    omega arith
+
+pub added_seen : (s : MachineState) (v : MachineView) (gid : Gid) (at : ℕ) (x : Entry) → Seen s v → Here s gid at x
+    → is_some (download_in v.start v.past gid) ≡ true
+added_seen s v gid at x seen h =
+    subst (λ (w : MachineView). is_some (download_in w.start w.past gid) ≡ true) seen.view_is
+    (ap is_some (added_here s v gid at x seen h))
+
+none_sum : (size : ℕ → ℕ) (first n : ℕ)
+    → sum_by (λ (place : ℕ × Bool). cond place.1 (size place.0) 0) (enumerate_from first (replicate n false)) ≡ 0
+none_sum size first zero = refl
+none_sum size first (suc n) =
+    sum_by-cons (λ (place : ℕ × Bool). cond place.1 (size place.0) 0) (first, false) (enumerate_from (first + 1) (replicate n false))
+    ∙ (let rest = none_sum size (first + 1) n in omega arith)
+
+landed_none : (total len : ℕ) (own : List OwnEvent) (k : Account) → IsKnown total len own k → is_opened own ≡ false
+    → 0 ≡ landed_bytes_in total len own
+landed_none total len own k kn un =
+    let n = blocks_of total len in
+    let row : replicate n false ≡ map (is_landed_in len own) (range_with_len 0 n) =
+    fill_by_all (is_landed_in len own) (replicate n false) n false (length-replicate n false)
+    (λ b below. get_or-replicate n b false false below
+    ∙ (ap (λ (p : Progress). get_or p.landed b false) (sym (kn.matches.nothing un)) ∙ kn.matches.blocks b below)) in
+    sym (none_sum (block_bytes total len) 0 n) ∙ ap (sum_where (block_bytes total len)) row
+
+landed_some : (total len : ℕ) (own : List OwnEvent) (k : Account) → IsKnown total len own k → is_opened own ≡ true
+    → completed_of k.progress ≡ landed_bytes_in total len own
+landed_some total len own k kn opened =
+    let fit = kn.matches.rows opened in
+    ap (λ (n : ℕ). sum_where (block_bytes n k.progress.piece_len) k.progress.landed) fit.total_is
+    ∙ (ap (λ (n : ℕ). sum_where (block_bytes total n) k.progress.landed) fit.piece_len_is
+    ∙ ap (sum_where (block_bytes total len))
+    (fill_by_all (is_landed_in len own) k.progress.landed (blocks_of total len) false fit.landed (λ b below. kn.matches.blocks b below)))
+
+pub landed_unadded : (v : MachineView) (gid : Gid) → download_in v.start v.past gid ≡ None → 0 ≡ landed_bytes_of v gid
+landed_unadded v gid none =
+    sym (ap (λ (o : Option Download). landed_bytes_in
+    (unwrap_or (option_and_then (λ (d : Download). lengths_by d d.subject (own_of_gid v gid)) o) no_lengths).total
+    (unwrap_or (option_and_then (λ (d : Download). lengths_by d d.subject (own_of_gid v gid)) o) no_lengths).piece_len
+    (own_of_gid v gid)) none)
+
+-- the bytes that are kept, by whether it is opened
+pub landed_kept : Laws → AccountsTellOpening → (s : MachineState) (v : MachineView) (gid : Gid) (at : ℕ) (x : Entry)
+    → Seen s v → Here s gid at x → is_opened_by x.state.account ≡ true
+    → completed_of x.state.account.progress ≡ landed_bytes_of v gid
+landed_kept laws tells s v gid at x seen h opened =
+    let kn = known_here laws tells s v gid at x seen h in
+    subst (λ (w : MachineView). completed_of x.state.account.progress ≡ landed_bytes_of w gid) seen.view_is
+    (landed_some _ _ _ x.state.account kn (sym kn.opened ∙ opened))
+
+pub landed_unopened : Laws → AccountsTellOpening → (s : MachineState) (v : MachineView) (gid : Gid) (at : ℕ) (x : Entry)
+    → Seen s v → Here s gid at x → is_opened_by x.state.account ≡ false → 0 ≡ landed_bytes_of v gid
+landed_unopened laws tells s v gid at x seen h un =
+    let kn = known_here laws tells s v gid at x seen h in
+    subst (λ (w : MachineView). 0 ≡ landed_bytes_of w gid) seen.view_is
+    (landed_none _ _ _ x.state.account kn (sym kn.opened ∙ un))
+
+pub not_none : {A : Type 0} (o : Option A) (t : Bool) (x : A) → IsNone o ↔ (t ≡ false) → o ≡ Some x → t ≡ true
+not_none o true x none is = refl
+not_none o false x none is = absurd (let n : IsNone (Some x) = subst IsNone is (none.1 refl) in cc)

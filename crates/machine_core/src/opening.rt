@@ -1,10 +1,11 @@
 // The opening of downloads.
-ghost use Rattle.std.specs.Prelude.{◌≡◌, ◌≤◌, IfNone, IfOk, IfSome, OnErr, OnOk, Some, option_copied};
+ghost use Rattle.std.specs.Prelude.{◌≡◌, ◌≤◌, IfNone, IfOk, IfSome, OnErr, OnOk, Some, option_copied, slice_get};
 ghost use Rattle.dl_kinds.specs.Plan.{IsPlan};
 ghost use Rattle.option_set.specs.Files.{IsFileList};
 ghost use Rattle.machine_core.specs.MachineViews.{Appends};
-ghost use Rattle.machine_core.specs.Openings.{HasPlan, IsToOpen, lengths_of_plan, lengths_with, meta_of_event, wanted_with};
+ghost use Rattle.machine_core.specs.Openings.{HasPlan, IsToOpen, landed_bytes_of, lengths_of_plan, lengths_with, meta_of_event, wanted_of_gid, wanted_with};
 ghost use Rattle.machine_core.specs.OwnParts.{PayloadLengths};
+ghost use Rattle.machine_core.specs.Reads.{IsOpenedGid, IsPieceOfGid};
 ghost use Rattle.machine_core.specs.RunLegal.{MayFollow};
 ghost use Rattle.machine_core.specs.TurnRooms.{IsRoomierRun};
 ghost use Rattle.machine_core.specs.declared.events.Event.TheVariants as event;
@@ -134,5 +135,38 @@ impl Machine {
             now,
         });
         Ok(())
+    }
+
+    /// Whether a piece of a download that is opened is wanted.
+    pub fn is_wanted(&self, gid: Gid, piece: u32) -> bool
+        requires opened { IsOpenedGid self.now gid }
+        requires piece { IsPieceOfGid self.now gid piece }
+        ensures { slice_get (wanted_of_gid self.now gid) piece ≡ Some result }
+    {
+        plan_laws();
+        histories_are_sound();
+        accounts_match_events();
+        steps_match_events();
+        let entries = &self.entries;
+        let place = self.place(gid).unwrap();
+        entries[place].state.is_wanted(piece)
+    }
+
+    /// The bytes of the landed blocks of a download: 0 before its opening, and of one that wasn't added.
+    pub fn landed_bytes(&self, gid: Gid) -> u64
+        ensures { result ≡ landed_bytes_of self.now gid }
+    {
+        plan_laws();
+        histories_are_sound();
+        accounts_match_events();
+        steps_match_events();
+        let entries = &self.entries;
+        let Some(place) = self.place(gid) else {
+            return 0;
+        };
+        match entries[place].state.table() {
+            Some(table) => table.completed(),
+            None => 0,
+        }
     }
 }
