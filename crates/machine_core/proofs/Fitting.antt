@@ -177,7 +177,7 @@ clearing_fits laws total len own k piece known may =
 
 -- ---- losses
 
-some_is : {A : Type 0} (o : Option A) → is_some o ≡ true → (x : A) × (o ≡ Some x)
+pub some_is : {A : Type 0} (o : Option A) → is_some o ≡ true → (x : A) × (o ≡ Some x)
 some_is None h = absurd cc
 some_is (Some x) h = (x, refl)
 

@@ -12,4 +12,5 @@ pub mod Journals
 pub mod MachineViews
 pub mod MachineParts
 pub mod Reads
+pub mod Openings
 pub mod TurnRooms

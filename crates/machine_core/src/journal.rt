@@ -1,5 +1,5 @@
 // What happened in a run.
-ghost use Rattle.std.specs.Prelude.{◌≡◌, ◌≤◌, ◌-◌, ◌∷◌, ◌++◌, [], length, OnOk, OnErr, option_copied, slice_get, vec_len, vec_capacity};
+ghost use Rattle.std.specs.Prelude.{◌≡◌, ◌≤◌, ◌+◌, ◌-◌, ◌∷◌, ◌++◌, [], length, OnOk, OnErr, option_copied, slice_get, vec_len, vec_capacity};
 ghost use Rattle.machine_core.specs.declared.journal.TheConstants.{MAX_EVENTS};
 
 use crate::Event;
@@ -57,6 +57,19 @@ impl Journal {
             return Err(AllocError);
         }
         self.events.reserve(more)
+    }
+
+    /// Makes room for one event more than there is room for. Want of memory also comes where these would be too many.
+    pub(crate) fn reserve_one(&mut self) -> Result<(), AllocError>
+        ensures same { self.new.events.items ≡ self.old.events.items }
+        ensures ok { OnOk result (room_in self.old + 1 ≤ room_in self.new) }
+        ensures room { room_in self.old ≤ room_in self.new }
+    {
+        let room = self.events.capacity().min(MAX_EVENTS) - self.events.len();
+        if room >= MAX_EVENTS {
+            return Err(AllocError);
+        }
+        self.reserve(room + 1)
     }
 
     /// An event comes.

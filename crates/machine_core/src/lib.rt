@@ -10,6 +10,7 @@ mod halts;
 mod journal;
 mod laws;
 mod machine;
+mod opening;
 mod rests;
 mod spares;
 

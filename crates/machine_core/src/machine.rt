@@ -39,12 +39,12 @@ pub struct Machine {
     left: u16,
     shut: bool,
     stopped: bool,
-    queue: Queue,
+    pub(crate) queue: Queue,
     // In the order of adding.
-    entries: Vec<Entry>,
+    pub(crate) entries: Vec<Entry>,
     // The gid of the download of each claim, by its number.
     homes: Vec<Gid>,
-    journal: Journal,
+    pub(crate) journal: Journal,
 }
 
 impl Model for Machine {
@@ -124,7 +124,7 @@ impl Machine {
         self.journal
     }
 
-    fn place(&self, gid: Gid) -> Option<usize>
+    pub(crate) fn place(&self, gid: Gid) -> Option<usize>
         ensures found { IfSome result (λ place. IsPlaceOf self.now gid place) }
         ensures none { IfNone result (download_in self.now.start self.now.past gid ≡ None) }
     {
