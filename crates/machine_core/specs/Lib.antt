@@ -13,3 +13,5 @@ pub mod MachineViews
 pub mod MachineParts
 pub mod Reads
 pub mod TurnRooms
+pub mod KeptOffers
+pub mod Claiming
