@@ -12,3 +12,4 @@ mod Finds
 mod Marks
 mod Additions
 mod Lifts
+mod Actives

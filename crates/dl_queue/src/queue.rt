@@ -1,5 +1,5 @@
 // The queue.
-ghost use Rattle.std.specs.Prelude.{◌≡◌, ◌≤◌, ◌<◌, ◌-◌, ◌++◌, ◌∷◌, [], ℕ, true, false, IsTrue, Option, Some, None, IfSome, IfOk, OnOk, insert, is_ok, is_some, length, map, option_copied, remove, if◌then◌else◌};
+ghost use Rattle.std.specs.Prelude.{All, ◌≡◌, ◌≤◌, ◌<◌, ◌-◌, ◌++◌, ◌∷◌, [], ℕ, true, false, IsTrue, Option, Some, None, IfSome, IfOk, OnOk, insert, is_ok, is_some, length, map, option_copied, remove, if◌then◌else◌};
 ghost use Rattle.std.specs.Option.{ok_or};
 ghost use Rattle.dl_kinds.specs.declared.status.Status.TheVariants.{Active, Waiting};
 ghost use Rattle.dl_queue.specs.declared.kinds.QueueErr.TheVariants.{NotFound};
@@ -111,9 +111,10 @@ impl Queue {
         self.stopped.len()
     }
 
-    /// The active downloads, in the order in which they became active.
+    /// The active downloads, in the order in which they became active. Each of them was added.
     pub fn active(&self) -> ActiveGids<'_>
-        ensures { result ≡ self.now.active }
+        ensures value { result ≡ self.now.active }
+        ensures added { All (λ gid. was_added self.now.added gid ≡ true) self.now.active }
     {
         ActiveGids::of(&self.added, self.active.iter())
     }

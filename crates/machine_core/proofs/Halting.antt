@@ -117,7 +117,11 @@ stop_step past s ys room k h may room_is =
       downloads = halted_keeps s.start past s.entries ys k.downloads h;
       apart = k.apart;
       called = called_halted s.events (Stopped ∷ []) (replay_of s.start past).downloads s.entries ys h k.called;
-      homes = record { own = λ g claim there. k.homes.own g claim there; added = λ id g at. k.homes.added id g at };
+      homes = record {
+        many = k.homes.many;
+        own = λ g claim there. k.homes.own g claim there;
+        added = λ id g at. k.homes.added id g at;
+      };
       ends = record { left_is = k.ends.left_is; stopped_is = refl };
       room_is = room_is;
     }

@@ -412,6 +412,7 @@ leaves s v events room seen may is room_is =
       called = λ i d x added there.
           read-more subject_of_event s.events (Left ∷ []) x.called d.subject (k.called i d x added there);
       homes = record {
+        many = k.homes.many;
         own = λ g claim there. k.homes.own g claim there;
         added = λ id g at. k.homes.added id g at;
       };
@@ -512,7 +513,7 @@ same_claim v id gid other claim twin block stands there is =
     subst (λ (g : Gid). block ≡ first_open_since (own_of v.start v.past g) twin) (sym one.0)
     (subst (λ (c : Claim). block ≡ first_open_since (own_of v.start v.past gid) c) (sym one.1) is)
 
-not_nowhere : {P : Type 0} (v : MachineView) (id : ℕ) (gid : Gid) (claim : Claim) → StandsUnder v id gid claim
+pub not_nowhere : {P : Type 0} (v : MachineView) (id : ℕ) (gid : Gid) (claim : Claim) → StandsUnder v id gid claim
     → StandsNowhere v id → P
 not_nowhere v id gid claim stands none =
     absurd (All-contains (λ (c : Claim). c.id ≢ id) (standing_in v gid) claim (none gid) stands.stands stands.id_is)

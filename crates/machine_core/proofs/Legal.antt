@@ -236,7 +236,7 @@ grant_by laws start past gid claim download added part new (Some lengths) is g =
       matches = laws.accounts lengths.total lengths.piece_len own (λ opened. plan) legal;
     }) claim (fresh_in start past gid claim.id new) g.1)
 
-granted : (laws : Laws) (start : RunStart) (past : List Event) (gid : Gid) (claim : Claim)
+pub granted : (laws : Laws) (start : RunStart) (past : List Event) (gid : Gid) (claim : Claim)
     → Part (replay_of start past).downloads gid (own_of start past gid) → MayBeClaimed start past gid claim
     → MayOwn start past gid (Grants claim)
 granted laws start past gid claim part may =

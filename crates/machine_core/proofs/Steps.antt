@@ -1,9 +1,10 @@
 -- What a step of one download keeps of a machine.
-use Rattle.std.proofs.Common.{◌≡◌, ◌≢◌, ℕ, Bool, true, false, cond, Some, ◌<◌, ◌≤◌, List, [], ◌∷◌, ◌++◌, length, set, slice_get, refl, sym, ap, ◌∙◌, subst, ⊎_elim}
+use Rattle.std.proofs.Common.{◌≡◌, ◌≢◌, ℕ, Bool, true, false, cond, Some, ◌+◌, ◌<◌, ◌≤◌, zero-add, arith, List, [], ◌∷◌, ◌++◌, length, set, slice_get, refl, sym, ap, ◌∙◌, subst, ⊎_elim}
 use Rattle.std.specs.Prelude.{All, Contains}
 use Rattle.std.specs.Option.{is_some, option_and_then}
 use Rattle.std.proofs.lemmas.Bool.{cases_eq, eq-eqb}
 use Rattle.std.proofs.lemmas.List.{length-set}
+use Rattle.std.proofs.lemmas.List.Sums.{sum_by-cons}
 use Rattle.std.proofs.lemmas.Option.{slice_get_within, same_Some}
 use Rattle.dl_kinds.specs.declared.gid.Gid.{Gid}
 use Rattle.dl_kinds.specs.declared.claims.Claim.{Claim}
@@ -11,18 +12,19 @@ use Rattle.mirror_blame.specs.Marks.{counted}
 use Rattle.dl_queue.specs.Lists.{QueueLists}
 use Rattle.option_set.specs.Values.{OptionValues}
 use Rattle.dl_history.specs.Accounts.{Account, after_own}
-use Rattle.dl_history.specs.OwnEvents.{OwnEvent}
+use Rattle.dl_history.specs.OwnEvents.{OwnEvent, Grants}
 use Rattle.dl_history.specs.PayloadParts.{is_opened, is_opening, blames_in, told_total}
 use Rattle.dl_history.specs.StandingClaims.{granted_claims}
 use Rattle.one_download.specs.DownloadViews.{DownloadView, StaysSetUp, marks_after}
 use Rattle.machine_core.specs.Choices.{options_now}
 use Rattle.machine_core.specs.OwnParts.{PayloadLengths, own_of, with_own}
 use Rattle.machine_core.specs.Replays.{Replay, download_of, replay_of, is_same_gid}
-use Rattle.machine_core.specs.RunLegal.{MayFollow, download_in, known_lengths, mirrors_by, tries_in}
+use Rattle.machine_core.specs.RunLegal.{MayFollow, download_in, known_lengths, makes_claim, mirrors_by, next_number, tries_in}
 use Rattle.machine_core.specs.Starts.{RunStart, Download}
 use Rattle.machine_core.specs.MachineParts.{KeepsDownload, KeepsDownloads, KeepsQueue, KeepsHomes, KeepsEnds, KeepsRun, MachineState, HaveOwnGids, AreAddedAt, kept_room, subject_of_event}
 use Rattle.machine_core.specs.declared.entries.Entry.{Entry}
 use Rattle.machine_core.specs.declared.events.Event.{Event}
+use Rattle.machine_core.specs.declared.events.Event.TheVariants.{Called, Opened, Sized, Claimed, Landed, Settled, Cleared, Lost, Checked, Saved, Ended, Left, Stopped}
 use Rattle.machine_core.proofs.Lists.{slice_get-set_same, slice_get-set_other, read-more}
 use Rattle.machine_core.proofs.Parts.{gid_is, lengths_in, lengths_same}
 
@@ -176,18 +178,50 @@ granted_cases : (t : Bool) (own : List OwnEvent) (o : OwnEvent) → granted_clai
 granted_cases true own o same = same
 granted_cases false own o same = refl
 
+-- an event that grants no download a claim makes none
+more_claims : (claim : Claim) (cs ds : List Claim) → claim ∷ cs ≡ ds → cs ≡ ds → ⊥
+more_claims claim cs ds more same =
+    let n : length (claim ∷ cs) ≡ length cs = ap (λ (l : List Claim). length l) (more ∙ sym same) in omega arith
+
+makes_none : (start : RunStart) (past : List Event) (e : Event)
+    → ((g : Gid) → granted_claims (own_of start (e ∷ past) g) ≡ granted_claims (own_of start past g))
+    → makes_claim e ≡ false
+makes_none start past (Claimed gid claim) same =
+    let here : granted_claims (own_of start (Claimed gid claim ∷ past) gid)
+    ≡ claim ∷ granted_claims (own_of start past gid) = ap granted_claims (own_here gid (Grants claim) (own_of start past gid)) in
+    absurd (more_claims claim (granted_claims (own_of start past gid)) (granted_claims (own_of start past gid))
+    (sym here ∙ same gid) refl)
+makes_none start past (Called session asked now) same = refl
+makes_none start past (Opened gid verified blocks now) same = refl
+makes_none start past (Sized gid id total) same = refl
+makes_none start past (Landed gid id mirror run now) same = refl
+makes_none start past (Settled gid piece right giver) same = refl
+makes_none start past (Cleared gid piece) same = refl
+makes_none start past (Lost gid id mirror piece mark) same = refl
+makes_none start past (Checked gid right) same = refl
+makes_none start past (Saved gid now) same = refl
+makes_none start past (Ended gid how) same = refl
+makes_none start past Left same = refl
+makes_none start past Stopped same = refl
+
+numbers_stay : (e : Event) (past : List Event) → makes_claim e ≡ false → next_number past ≡ next_number (e ∷ past)
+numbers_stay e past none =
+    sym (sum_by-cons (λ (x : Event). cond (makes_claim x) 1 0) e past
+    ∙ ap (λ (t : Bool). cond t 1 0 + next_number past) none ∙ zero-add (next_number past))
+
 pub homes_stay : (start : RunStart) (past : List Event) (e : Event) (homes : List Gid)
     → ((g : Gid) → granted_claims (own_of start (e ∷ past) g) ≡ granted_claims (own_of start past g))
     → ((g : Gid) → is_some (download_in start past g) ≡ true → is_some (download_in start (e ∷ past) g) ≡ true)
     → KeepsHomes start past homes → KeepsHomes start (e ∷ past) homes
 homes_stay start past e homes same added k =
     record {
+      many = k.many ∙ numbers_stay e past (makes_none start past e same);
       own = λ g claim there. k.own g claim (subst (λ (cs : List Claim). Contains cs claim) (same g) there);
       added = λ id g at. added g (k.added id g at);
     }
 
 -- each was added by the call at its place, also once an entry's state is another
-called_set : (events more : List Event) (downloads : List Download) (entries : List Entry) (at : ℕ) (x : Entry)
+pub called_set : (events more : List Event) (downloads : List Download) (entries : List Entry) (at : ℕ) (x : Entry)
     (s : DownloadView) → slice_get entries at ≡ Some x → AreAddedAt events downloads entries
     → AreAddedAt (events ++ more) downloads (set entries at (record x { state = s }))
 called_set events more downloads entries at x s there k i d y added here =

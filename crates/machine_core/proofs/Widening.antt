@@ -1,14 +1,15 @@
 -- More room, and nothing else.
 use Rattle.std.proofs.Common.{◌≡◌, ◌≢◌, ◌⊎◌, ℕ, zero, suc, Bool, true, false, Some, ◌<◌, ◌≤◌, List, [], ◌∷◌, length, get_or, map, set, slice_get, reverse, refl, sym, ap, ◌∙◌, subst, inl, inr, ⊎_elim, arith}
-use Rattle.std.specs.Prelude.{◌||◌, OnOk, Result, Ok, Err, nat_lt, slice_index_or}
+use Rattle.std.specs.Prelude.{◌||◌, All, IsSome, OnOk, Option, Result, Ok, Err, nat_lt, slice_index_or}
 use Rattle.std.specs.List.{list_any}
 use Rattle.std.specs.Option.{option_and_then}
 use Rattle.std.proofs.lemmas.Bool.{cases_eq}
 use Rattle.std.proofs.lemmas.Bool.Decides.{nat_tests}
 use Rattle.std.proofs.lemmas.List.{length-set}
+use Rattle.std.proofs.lemmas.List.Elements.{All-head, All-tail}
 use Rattle.std.proofs.lemmas.Option.{cond_some, same_Some, slice_get_read, slice_get_within}
 use Rattle.dl_kinds.specs.declared.gid.Gid.{Gid}
-use Rattle.dl_queue.specs.Calls.{added_place, adding_place}
+use Rattle.dl_queue.specs.Calls.{added_place, adding_place, was_added}
 use Rattle.dl_queue.specs.declared.kinds.Added.{Added}
 use Rattle.one_download.specs.DownloadViews.{DownloadView, IsRoomier}
 use Rattle.machine_core.specs.Choices.{options_now}
@@ -18,10 +19,9 @@ use Rattle.machine_core.specs.OwnParts.{own_of}
 use Rattle.machine_core.specs.Replays.{is_same_gid, replay_of}
 use Rattle.machine_core.specs.RunLegal.{known_lengths}
 use Rattle.machine_core.specs.Starts.{Download}
-use Rattle.machine_core.specs.TurnRooms.{AreRoomier, HasTurnMarkRoom, HasTurnRoom, HaveTurnRoom, IsRoomierEntry, IsRoomierRun}
+use Rattle.machine_core.specs.TurnRooms.{AreRoomier, EachActiveHas, HasEntry, HasMarksForTurn, HasTurnMarkRoom, IsRoomierEntry, IsRoomierRun}
 use Rattle.machine_core.specs.declared.entries.Entry.{Entry}
 use Rattle.machine_core.specs.declared.events.Event.{Event}
-use Rattle.machine_core.specs.declared.journal.TheConstants.{TURN_EVENTS}
 use Rattle.machine_core.proofs.Here.{Here, Seen, view_of}
 use Rattle.machine_core.proofs.Homes.{place_found}
 use Rattle.machine_core.proofs.Lists.{element_at, slice_get-set_other, slice_get-set_same}
@@ -30,7 +30,7 @@ use Rattle.machine_core.proofs.Rooms.{own_spare}
 
 -- ---- entries
 
-same_entry : (x : Entry) → IsRoomierEntry x x
+pub same_entry : (x : Entry) → IsRoomierEntry x x
 same_entry x =
     record { state = x.state; is = refl; rest = record { same = refl; spare = omega arith; mark_spare = omega arith } }
 
@@ -89,11 +89,29 @@ entry_there added old xs gid at x all r placed is =
     let within : at < length xs = grind (arith, nat_tests) in
     slice_get_read xs (length xs) at x refl within is
 
+pub entry_at : (added : List Added) (xs : List Entry) (gid : Gid) (at : ℕ) (x : Entry) → length xs ≡ length added
+    → Some at ≡ adding_place added gid → x ≡ get_or xs at x → slice_get xs at ≡ Some x
+entry_at added xs gid at x all placed is = entry_there added xs xs gid at x all (none_roomier xs) placed is
+
+-- a download of a list of those that were added has a place
+pub head_placed : (added : List Added) (gid : Gid) (left rest : List Gid) (o : Option ℕ) → left ≡ gid ∷ rest
+    → All (λ (g : Gid). was_added added g ≡ true) left → o ≡ adding_place added gid → IsSome o
+head_placed added gid left rest o steps all is =
+    let here = All-head (λ (g : Gid). was_added added g ≡ true) gid rest
+    (subst (λ (gs : List Gid). All (λ (g : Gid). was_added added g ≡ true) gs) steps all) in
+    rw (is, here) refl
+
+pub tail_added : (added : List Added) (gid : Gid) (left rest : List Gid) → left ≡ gid ∷ rest
+    → All (λ (g : Gid). was_added added g ≡ true) left → All (λ (g : Gid). was_added added g ≡ true) rest
+tail_added added gid left rest steps all =
+    All-tail (λ (g : Gid). was_added added g ≡ true) gid rest
+    (subst (λ (gs : List Gid). All (λ (g : Gid). was_added added g ≡ true) gs) steps all)
+
 -- more room for one leaves each its room
-still_room : (added : List Added) (xs : List Entry) (at : ℕ) (x : Entry) (d : DownloadView) (gid : Gid)
-    → slice_get xs at ≡ Some x → TURN_EVENTS ≤ d.mark_spare → HasTurnRoom added xs gid
-    → HasTurnRoom added (set xs at (record x { state = d })) gid
-still_room added xs at x d gid there room h =
+still_room : (Is : Entry → Type 0) (added : List Added) (xs : List Entry) (at : ℕ) (x : Entry) (d : DownloadView) (gid : Gid)
+    → slice_get xs at ≡ Some x → Is (record x { state = d }) → HasEntry Is added xs gid
+    → HasEntry Is added (set xs at (record x { state = d })) gid
+still_room Is added xs at x d gid there room h =
     let new : Entry = record x { state = d } in
     ⊎_elim
     (λ (same : h.place ≡ at). record {
@@ -101,53 +119,53 @@ still_room added xs at x d gid there room h =
       at = h.at;
       entry = new;
       there = ap (slice_get (set xs at new)) same ∙ slice_get-set_same xs at new (slice_get_within xs at x there);
-      room = room;
+      is = room;
     })
     (λ (other : h.place ≢ at). record {
       place = h.place;
       at = h.at;
       entry = h.entry;
       there = slice_get-set_other xs at h.place new other ∙ h.there;
-      room = h.room;
+      is = h.is;
     })
     (cases_eq h.place at)
 
-here_or_left : (added : List Added) (xs : List Entry) (at : ℕ) (x : Entry) (d : DownloadView) (g gid : Gid)
+here_or_left : (Is : Entry → Type 0) (added : List Added) (xs : List Entry) (at : ℕ) (x : Entry) (d : DownloadView) (g gid : Gid)
     (rest : List Gid) (t : Bool) → is_same_gid g gid ≡ t
-    → slice_get xs at ≡ Some x → TURN_EVENTS ≤ d.mark_spare → adding_place added gid ≡ Some at
+    → slice_get xs at ≡ Some x → Is (record x { state = d }) → adding_place added gid ≡ Some at
     → (t || list_any (is_same_gid g) rest) ≡ true
-    → (list_any (is_same_gid g) rest ≡ true) ⊎ HasTurnRoom added (set xs at (record x { state = d })) g
-here_or_left added xs at x d g gid rest true same there room placed any =
+    → (list_any (is_same_gid g) rest ≡ true) ⊎ HasEntry Is added (set xs at (record x { state = d })) g
+here_or_left Is added xs at x d g gid rest true same there room placed any =
     let new : Entry = record x { state = d } in
     inr (record {
       place = at;
       at = subst (λ (h : Gid). adding_place added h ≡ Some at) (gid_is g gid same) placed;
       entry = new;
       there = slice_get-set_same xs at new (slice_get_within xs at x there);
-      room = room;
+      is = room;
     })
-here_or_left added xs at x d g gid rest false same there room placed any = inl any
+here_or_left Is added xs at x d g gid rest false same there room placed any = inl any
 
-pub one_done : (added : List Added) (xs : List Entry) (at : ℕ) (x : Entry) (d : DownloadView) (g gid : Gid)
-    (left rest : List Gid) → left ≡ gid ∷ rest → slice_get xs at ≡ Some x → TURN_EVENTS ≤ d.mark_spare
+pub one_done : (Is : Entry → Type 0) (added : List Added) (xs : List Entry) (at : ℕ) (x : Entry) (d : DownloadView) (g gid : Gid)
+    (left rest : List Gid) → left ≡ gid ∷ rest → slice_get xs at ≡ Some x → Is (record x { state = d })
     → adding_place added gid ≡ Some at
-    → (list_any (is_same_gid g) left ≡ true) ⊎ HasTurnRoom added xs g
-    → (list_any (is_same_gid g) rest ≡ true) ⊎ HasTurnRoom added (set xs at (record x { state = d })) g
-one_done added xs at x d g gid left rest steps there room placed was =
+    → (list_any (is_same_gid g) left ≡ true) ⊎ HasEntry Is added xs g
+    → (list_any (is_same_gid g) rest ≡ true) ⊎ HasEntry Is added (set xs at (record x { state = d })) g
+one_done Is added xs at x d g gid left rest steps there room placed was =
     ⊎_elim
     (λ (any : list_any (is_same_gid g) left ≡ true).
-    here_or_left added xs at x d g gid rest (is_same_gid g gid) refl there room placed
+    here_or_left Is added xs at x d g gid rest (is_same_gid g gid) refl there room placed
     (sym (ap (list_any (is_same_gid g)) steps) ∙ any))
-    (λ (h : HasTurnRoom added xs g). inr (still_room added xs at x d g there room h))
+    (λ (h : HasEntry Is added xs g). inr (still_room Is added xs at x d g there room h))
     was
 
-pub all_done : (added : List Added) (xs : List Entry) (g : Gid) (left : List Gid) → left ≡ []
-    → (list_any (is_same_gid g) left ≡ true) ⊎ HasTurnRoom added xs g → HasTurnRoom added xs g
-all_done added xs g left none was =
+pub all_done : (Is : Entry → Type 0) (added : List Added) (xs : List Entry) (g : Gid) (left : List Gid) → left ≡ []
+    → (list_any (is_same_gid g) left ≡ true) ⊎ HasEntry Is added xs g → HasEntry Is added xs g
+all_done Is added xs g left none was =
     ⊎_elim
     (λ (any : list_any (is_same_gid g) left ≡ true).
     absurd (let f : false ≡ true = sym (ap (list_any (is_same_gid g)) none) ∙ any in cc))
-    (λ (h : HasTurnRoom added xs g). h)
+    (λ (h : HasEntry Is added xs g). h)
     was
 
 -- ---- the run
@@ -198,7 +216,7 @@ roomier_kept s ys room k r some =
       called = λ i d y added here.
           let e = entry i y here in
           subst (λ (z : Entry). AddedBy s d z) (sym (r.each i e.0 y e.1 here).is) (k.called i d e.0 added e.1);
-      homes = record { own = λ g claim there. k.homes.own g claim there; added = λ id g at. k.homes.added id g at };
+      homes = k.homes;
       ends = k.ends;
       room_is = some;
     }
@@ -246,7 +264,7 @@ roomier_seen s v events ys room seen is r more =
     }))
 
 pub turn_marks : (s : MachineState) (v : MachineView) (events : List Event) (ys : List Entry) (room : ℕ) → Seen s v
-    → events ≡ s.events → AreRoomier s.entries ys → s.room ≤ room → HaveTurnRoom s.queue ys
+    → events ≡ s.events → AreRoomier s.entries ys → s.room ≤ room → EachActiveHas HasMarksForTurn s.queue ys
     → HasTurnMarkRoom (view_of (record s { events = events; entries = ys; room = room }))
 turn_marks s v events ys room seen is r more have =
     let some = seen.keeps.room_is in
@@ -259,7 +277,7 @@ turn_marks s v events ys room seen is r more have =
     let here : Here (record s { entries = ys; room = room }) gid h.place h.entry =
     record { download = f.0; is = record { added = f.1; there = h.there; gid_is = f.2 } } in
     let same = own_spare (record s { entries = ys; room = room }) gid h.place h.entry k here in
-    let enough = h.room in
+    let enough = h.is in
     omega arith)
 
 pub if_ok : {A B : Type 0} (r : Result A B) (P Q : Type 0) → OnOk r P → (P → Q) → OnOk r Q

@@ -14,3 +14,5 @@ pub mod MachineParts
 pub mod Reads
 pub mod Openings
 pub mod TurnRooms
+pub mod KeptOffers
+pub mod Claiming

@@ -17,7 +17,7 @@ use Rattle.dl_history.specs.StandingClaims.{granted_claims}
 use Rattle.machine_core.specs.Choices.{mirror_urls, options_now}
 use Rattle.machine_core.specs.OwnParts.{PayloadLengths, own_of}
 use Rattle.machine_core.specs.Replays.{Replay, replay_of}
-use Rattle.machine_core.specs.RunLegal.{IsLegal, download_in, is_left, is_stop, known_lengths, mirrors_by, tries_in}
+use Rattle.machine_core.specs.RunLegal.{IsLegal, download_in, is_left, is_stop, known_lengths, mirrors_by, next_number, tries_in}
 use Rattle.machine_core.specs.Starts.{RunStart, Download, Subject, Listed, Unlisted}
 use Rattle.machine_core.specs.Wanted.{wanted_pieces}
 use Rattle.machine_core.specs.declared.calls.Call.{Call}
@@ -89,6 +89,7 @@ pub record KeepsQueue (replay : Replay) (queue : QueueLists) (global : OptionVal
 
 -- the gid of each claim's download stands at the claim's number, and is of a download
 pub record KeepsHomes (start : RunStart) (past : List Event) (homes : List Gid) : Type 0 where
+  pub many : length homes ≡ next_number past
   pub own : (gid : Gid) (claim : Claim) → Contains (granted_claims (own_of start past gid)) claim
       → slice_get homes claim.id ≡ Some gid
   pub added : (id : ℕ) (gid : Gid) → slice_get homes id ≡ Some gid → is_some (download_in start past gid) ≡ true

@@ -53,6 +53,13 @@ claim_of_event e = None
 abbrev pub IsNewNumber : List Event → ℕ → Type 0
 IsNewNumber past id = All (λ earlier. earlier < id) (filter_map claim_of_event past)
 
+abbrev pub makes_claim : Event → Bool
+makes_claim e = is_some (claim_of_event e)
+
+-- claims are numbered from 0; the number of the next one
+abbrev pub next_number : List Event → ℕ
+next_number past = count_by makes_claim past
+
 abbrev pub is_left : Event → Bool
 is_left Left = true
 is_left e = false

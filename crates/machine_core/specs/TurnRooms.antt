@@ -36,15 +36,23 @@ pub record AreRoomier (old new : List Entry) : Type 0 where
   pub many : length new ≡ length old
   pub each : (i : ℕ) (was is : Entry) → slice_get old i ≡ Some was → slice_get new i ≡ Some is → IsRoomierEntry was is
 
--- room for the marks of a turn of the download of this gid
-pub record HasTurnRoom (added : List Added) (entries : List Entry) (gid : Gid) : Type 0 where
+-- this holds of the entry at the place of the download of this gid
+pub record HasEntry (Is : Entry → Type 0) (added : List Added) (entries : List Entry) (gid : Gid) : Type 0 where
   pub place : ℕ
   pub at : adding_place added gid ≡ Some place
   pub entry : Entry
   pub there : slice_get entries place ≡ Some entry
-  pub room : TURN_EVENTS ≤ entry.state.mark_spare
+  pub is : Is entry
 
 -- .. of each active one
-abbrev pub HaveTurnRoom : QueueLists → List Entry → Type 0
-HaveTurnRoom queue entries =
-    (gid : Gid) → list_any (is_same_gid gid) queue.active ≡ true → HasTurnRoom queue.added entries gid
+abbrev pub EachActiveHas : (Entry → Type 0) → QueueLists → List Entry → Type 0
+EachActiveHas Is queue entries =
+    (gid : Gid) → list_any (is_same_gid gid) queue.active ≡ true → HasEntry Is queue.added entries gid
+
+-- room for the marks of a turn
+abbrev pub HasMarksForTurn : Entry → Type 0
+HasMarksForTurn x = TURN_EVENTS ≤ x.state.mark_spare
+
+-- room for a claim
+abbrev pub HasClaimRoom : Entry → Type 0
+HasClaimRoom x = 1 ≤ x.state.spare

@@ -1,8 +1,9 @@
 // What happened in a run.
-ghost use Rattle.std.specs.Prelude.{◌≡◌, ◌≤◌, ◌+◌, ◌-◌, ◌∷◌, ◌++◌, [], length, OnOk, OnErr, option_copied, slice_get, vec_len, vec_capacity};
+ghost use Rattle.std.specs.Prelude.{◌≡◌, ◌<◌, ◌≤◌, ◌+◌, ◌-◌, ◌∷◌, ◌++◌, [], length, OnOk, OnErr, option_copied, slice_get, vec_len, vec_capacity};
+ghost use Rattle.machine_core.specs.KeptOffers.{is_torrent_at};
 ghost use Rattle.machine_core.specs.declared.journal.TheConstants.{MAX_EVENTS};
 
-use crate::Event;
+use crate::{Call, Event};
 use std::alloc::{AllocError, Global};
 
 /// The most events of a run.
@@ -44,6 +45,29 @@ impl Journal {
         ensures { option_copied result ≡ slice_get self.now.events.items place }
     {
         self.events.get(place as usize)
+    }
+
+    /// The place of an event, counted from 0.
+    pub(crate) fn number(&self, place: usize) -> u32
+        requires { place < length self.now.events.items }
+        ensures { result ≡ place }
+    {
+        place as u32
+    }
+
+    /// Whether the event at a place adds a download with a metainfo file.
+    pub(crate) fn is_torrent_at(&self, place: usize) -> bool
+        ensures { result ≡ is_torrent_at self.now.events.items place }
+    {
+        match self.events.get(place) {
+            Some(
+                Event::Called {
+                    call: Call::AddTorrent { .. },
+                    ..
+                },
+            ) => true,
+            _ => false,
+        }
     }
 
     /// Makes room for `more` more events in all; want of memory also comes where these would be too many.

@@ -3,13 +3,17 @@
 #![tactic(auto)]
 
 mod calls;
+mod choosing;
+mod claiming;
 mod ends;
 mod entries;
 mod events;
 mod halts;
+mod handed;
 mod journal;
 mod laws;
 mod machine;
+mod offers;
 mod opening;
 mod rests;
 mod spares;
@@ -17,9 +21,11 @@ mod spares;
 pub use calls::Call;
 pub use ends::End;
 pub use events::Event;
+pub use handed::{Handed, HandedPieces};
 pub use journal::{Journal, MAX_BEFORE_TURN, MAX_EVENTS, TURN_EVENTS};
 pub use laws::{
     downloads_are_legal, downloads_stay, known_downloads_are_idle, worked_runs_are_told,
 };
 pub use machine::Machine;
+pub use offers::{Offer, Offered};
 pub use std::alloc::AllocError as NoMemory;

@@ -35,7 +35,7 @@ pub struct Machine {
     // The global options at the start, and as they are now.
     first: Options,
     global: Options,
-    doors: u16,
+    pub(crate) doors: u16,
     left: u16,
     shut: bool,
     stopped: bool,
@@ -43,7 +43,7 @@ pub struct Machine {
     // In the order of adding.
     pub(crate) entries: Vec<Entry>,
     // The gid of the download of each claim, by its number.
-    homes: Vec<Gid>,
+    pub(crate) homes: Vec<Gid>,
     pub(crate) journal: Journal,
 }
 
@@ -440,8 +440,7 @@ impl Machine {
         ensures none { IfNone result (length (downloads_in self.now) ≤ n) }
     {
         let entry = self.entries.get(n as usize)?;
-        let _ = self.journal.len();
-        Some((entry.gid, entry.called as u32))
+        Some((entry.gid, self.journal.number(entry.called)))
     }
 
     /// Whether the last save of a download that is opened, or its opening where there is none, lists a block of a piece.

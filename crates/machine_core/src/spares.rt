@@ -1,6 +1,6 @@
-// Room for the marks of downloads.
+// Room for the marks and the claims of downloads.
 ghost use Rattle.std.specs.Prelude.{◌≡◌, OnOk, length};
-ghost use Rattle.machine_core.specs.TurnRooms.{AreRoomier, HaveTurnRoom};
+ghost use Rattle.machine_core.specs.TurnRooms.{AreRoomier, EachActiveHas, HasClaimRoom, HasMarksForTurn};
 
 use crate::TURN_EVENTS;
 use crate::entries::Entry;
@@ -11,14 +11,24 @@ use std::alloc::AllocError;
 pub(crate) fn reserve_marks(queue: &Queue, entries: &mut Vec<Entry>) -> Result<(), AllocError>
     requires { length entries.old.items ≡ length queue.now.added }
     ensures same { AreRoomier entries.old.items entries.new.items }
-    ensures room { OnOk result (HaveTurnRoom queue.now entries.new.items) }
+    ensures room { OnOk result (EachActiveHas HasMarksForTurn queue.now entries.new.items) }
 {
     for gid in queue.active() {
-        // Never refused here: an active download was added, and so has a place.
-        let Some(place) = queue.adding_place(gid) else {
-            return Err(AllocError);
-        };
+        let place = queue.adding_place(gid).unwrap();
         entries[place].state.reserve_marks(TURN_EVENTS)?;
+    }
+    Ok(())
+}
+
+/// Makes room for a claim of each active download. The entries stand in the order of adding.
+pub(crate) fn reserve_claims(queue: &Queue, entries: &mut Vec<Entry>) -> Result<(), AllocError>
+    requires { length entries.old.items ≡ length queue.now.added }
+    ensures same { AreRoomier entries.old.items entries.new.items }
+    ensures room { OnOk result (EachActiveHas HasClaimRoom queue.now entries.new.items) }
+{
+    for gid in queue.active() {
+        let place = queue.adding_place(gid).unwrap();
+        entries[place].state.reserve_claim()?;
     }
     Ok(())
 }

@@ -1,13 +1,15 @@
 -- A download before its opening, and its claims.
 use Rattle.std.proofs.Common.{◌≡◌, ℕ, suc, zero, ◌<◌, ◌≤◌, Bool, true, false, cond, Option, Some, None, List, [], ◌∷◌, All, length, map, replicate, take, refl, sym, ap, subst, arith}
-use Rattle.std.specs.Prelude.{◌==◌, IfNone, IfSome, count_by, find}
-use Rattle.std.specs.Option.{option_and_then}
+use Rattle.std.specs.Prelude.{◌==◌, ◌&&◌, IfNone, IfSome, count_by, find, not, slice_index_or}
+use Rattle.std.specs.Option.{option_and_then, option_map_or}
+use Rattle.std.proofs.lemmas.Bool.Decides.{nat_tests}
 use Rattle.std.proofs.lemmas.List.Elements.{All-head, All-tail}
 use Rattle.dl_kinds.specs.declared.claims.Claim.{Claim}
-use Rattle.dl_history.specs.Accounts.{Account, first_still_open}
+use Rattle.dl_history.specs.Accounts.{Account, first_still_open, is_still_open}
+use Rattle.piece_table.specs.Changes.{is_in}
 use Rattle.segment_claim.specs.Situation.{is_on, loads_of}
 use Rattle.one_download.specs.DownloadParts.{HoldsIn, IsOfMirrors, account_in, some_of}
-use Rattle.one_download.specs.DownloadViews.{DownloadView, IsProbeAt, is_opened_by, standing_under}
+use Rattle.one_download.specs.DownloadViews.{DownloadView, IsProbeAt, is_open_by, is_opened_by, standing_under}
 use Rattle.mirror_blame.specs.Choice.{IsChoice}
 use Rattle.one_download.specs.Grants.{IsProbeMirror, situation_with}
 use Rattle.one_download.specs.PayloadViews.{PayloadView, account_before}
@@ -51,6 +53,10 @@ pub probe_known : (mirrors id : ℕ) (payload : Option PayloadView) (probe : Opt
 probe_known mirrors id None probe before holds none = probe_mirrors mirrors id probe holds
 probe_known mirrors id (Some payload) probe before holds none = absurd cc
 
+and_first : (a b : Bool) → (a && b) ≡ true → a ≡ true
+and_first true b h = refl
+and_first false b h = cc
+
 -- a probe has no open block
 closed_by : (k : Account) (b : Bool) (claim : Claim) → claim.run.count ≡ 0
     → None ≡ option_and_then (first_still_open k) (cond b (Some claim) None)
@@ -66,6 +72,25 @@ probe_closed mirrors id None (Some claim) before holds none =
     closed_by (account_in None (Some claim) before) (claim.id == id) claim
     (All-head (IsProbeAt mirrors) claim [] holds).count
 probe_closed mirrors id (Some payload) probe before holds none = absurd cc
+
+-- nor is any block open in it
+shut_by : (k : Account) (b : Bool) (claim : Claim) (block : ℕ) → claim.run.count ≡ 0
+    → option_map_or (λ (c : Claim). is_still_open k c block) (cond b (Some claim) None) false ≡ true → ⊥
+shut_by k true claim block none h =
+    let inside : is_in block claim.run ≡ true =
+    and_first (is_in block claim.run) (not (slice_index_or k.progress.landed block false))
+    (and_first (is_in block claim.run && not (slice_index_or k.progress.landed block false)) _ h) in
+    grind (arith, nat_tests)
+shut_by k false claim block none h = cc
+
+pub probe_shut : (mirrors id block : ℕ) (payload : Option PayloadView) (probe : Option Claim) (before : Before)
+    → HoldsIn mirrors payload probe → payload ≡ None
+    → is_open_by (account_in payload probe before) id block ≡ true → ⊥
+probe_shut mirrors id block None None before holds none h = cc
+probe_shut mirrors id block None (Some claim) before holds none h =
+    shut_by (account_in None (Some claim) before) (claim.id == id) claim block
+    (All-head (IsProbeAt mirrors) claim [] holds).count h
+probe_shut mirrors id block (Some payload) probe before holds none h = absurd cc
 
 -- while no claim stands, no host has one
 pub no_loads : (all hosts : List ℕ) (many : ℕ) → length hosts ≤ many

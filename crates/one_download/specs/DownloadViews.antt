@@ -7,7 +7,7 @@ use Rattle.dl_kinds.specs.declared.plan.TheConstants.{MAX_PIECES}
 use Rattle.mirror_blame.specs.Marks.{tries_of}
 use Rattle.mirror_blame.specs.declared.blame.Blame.{Blame}
 use Rattle.piece_table.specs.Progress.{Progress}
-use Rattle.dl_history.specs.Accounts.{Account, first_still_open}
+use Rattle.dl_history.specs.Accounts.{Account, first_still_open, is_still_open}
 use Rattle.dl_history.specs.OwnEvents.{OwnEvent}
 use Rattle.dl_history.specs.PayloadParts.{blame_in}
 
@@ -27,6 +27,10 @@ is_opened_by k = is_some k.saved
 -- the claim that stands under a number
 abbrev pub standing_under : Account → ℕ → Option Claim
 standing_under k id = find (λ claim. claim.id == id) k.standing
+
+-- the block is open in it
+abbrev pub is_open_by : Account → ℕ → ℕ → Bool
+is_open_by k id block = option_map_or (λ claim. is_still_open k claim block) (standing_under k id) false
 
 -- ---- pieces
 

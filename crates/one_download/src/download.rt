@@ -1,14 +1,15 @@
 // A download, from its adding on.
-ghost use Rattle.std.specs.Prelude.{◌≡◌, ◌↔◌, ℕ, ◌+◌, ◌<◌, ◌≤◌, [], true, false, Some, None, IfNone, IfOk, IfSome, IsNone, IsTrue, OnErr, OnOk, find, length, slice_get, ◌==◌};
+ghost use Rattle.std.specs.Prelude.{◌≡◌, ◌↔◌, ℕ, ◌+◌, ◌<◌, ◌≤◌, ◌^◌, [], true, false, Some, None, IfNone, IfOk, IfSome, IsNone, IsTrue, OnErr, OnOk, find, length, slice_get, ◌==◌};
 ghost use Rattle.std.specs.Option.{option_and_then};
 ghost use Rattle.dl_history.specs.Accounts.{after_finding, after_halt, after_landing, after_loss, after_save, after_sizing, at_opening, first_still_open, listing_of, new_account, with_claim, without_claim, without_piece};
 ghost use Rattle.dl_history.specs.Listings.{ListsNone};
 ghost use Rattle.dl_history.specs.OwnEvents.{Loses, Settles};
 ghost use Rattle.dl_kinds.specs.Plan.{blocks_of, pieces_of};
 ghost use Rattle.dl_kinds.specs.declared.plan.TheConstants.{MAX_PIECES};
-ghost use Rattle.one_download.specs.DownloadViews.{HasNoneToSettle, IsClaimOf, IsFirstPiece, IsFullUnverified, IsNextToSettle, IsOpenAt, IsPieceOf, IsProbeAt, IsRoomier, IsToSettle, IsUnverified, MayBlame, StaysSetUp, StaysUnmarked, UsesMarkRoom, is_opened_by, marks_after, standing_under, with_blame};
+ghost use Rattle.one_download.specs.DownloadViews.{HasNoneToSettle, IsClaimOf, IsFirstPiece, IsFullUnverified, IsNextToSettle, IsOpenAt, IsPieceOf, IsProbeAt, IsRoomier, IsToSettle, IsUnverified, MayBlame, StaysSetUp, StaysUnmarked, UsesMarkRoom, is_open_by, is_opened_by, marks_after, standing_under, with_blame};
 ghost use Rattle.one_download.specs.DownloadParts.{IsGiverAmong, some_of};
 ghost use Rattle.one_download.specs.Grants.{HasNoChoice, HasNoProbe, IsBlockChoice, IsProbeMirror, MayBeGranted, MaySplit, situation_with};
+ghost use Rattle.piece_table.specs.NewRuns.{AreRunsOf};
 ghost use Rattle.piece_table.specs.Progress.{IsStart};
 ghost use Rattle.segment_claim.specs.declared.limits.TheConstants.{MAX_SPLIT};
 
@@ -18,7 +19,7 @@ use bit_rows::BitRow;
 use dl_history::CHECKSUM_FAILED;
 use dl_kinds::{Claim, Code, MAX_MIRRORS, Mark, Moment, Plan, Run};
 use mirror_blame::Marks;
-use piece_table::{Giver, Table};
+use piece_table::{Giver, NewRuns, Table};
 use std::alloc::{AllocError, Global};
 use std::marker::Model;
 
@@ -383,6 +384,18 @@ impl OneDownload {
         }
     }
 
+    /// The blocks of a run, of at most 64, that are open in it: none of a probe, and where none stands.
+    pub fn open_runs(&self, id: u64, run: Run) -> NewRuns
+        requires few { run.count ≤ 64 }
+        requires bounded { run.first + run.count < 2 ^ 32 }
+        ensures { AreRunsOf (λ block. is_open_by self.now.account id block ≡ true) run result }
+    {
+        match &self.payload {
+            Some(payload) => payload.open_runs(id, run),
+            None => NewRuns::new(),
+        }
+    }
+
     /// The piece of the first block that is open in it: of a probe, and of no claim, piece 0.
     pub fn first_piece(&self, id: u64) -> u32
         ensures opened { is_opened_by self.now.account ≡ true
@@ -470,6 +483,7 @@ impl OneDownload {
     /// The first piece from `from` on that is full and unverified, and wasn't settled since its last landing.
     pub fn next_full(&self, from: u32) -> Option<u32>
         ensures found { IfSome result (λ piece. IsNextToSettle self.now.account from piece) }
+        ensures number { IfSome result (λ piece. piece < MAX_PIECES) }
         ensures none { IfNone result (HasNoneToSettle self.now.account from) }
     {
         match &self.payload {

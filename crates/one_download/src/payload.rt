@@ -1,13 +1,14 @@
 // The payload of a download that is opened.
-ghost use Rattle.std.specs.Prelude.{◌≡◌, ◌↔◌, ◌||◌, ℕ, IsTrue, ◌+◌, ◌-◌, ◌<◌, ◌≤◌, true, false, Some, IfNone, IfOk, IfSome, OnOk, length, slice_get};
+ghost use Rattle.std.specs.Prelude.{◌≡◌, ◌↔◌, ◌||◌, ℕ, IsTrue, ◌+◌, ◌-◌, ◌<◌, ◌≤◌, ◌^◌, true, false, Some, IfNone, IfOk, IfSome, OnOk, length, slice_get};
 ghost use Rattle.std.specs.Option.{is_some, option_and_then};
 ghost use Rattle.dl_history.specs.Accounts.{after_finding, after_halt, after_landing, after_loss, after_save, at_opening, first_still_open, listing_of, with_claim, with_finding, without_piece, unsettled_by};
 ghost use Rattle.dl_history.specs.Listings.{ListsNone};
 ghost use Rattle.dl_kinds.specs.Plan.{blocks_of, pieces_of};
 ghost use Rattle.dl_kinds.specs.declared.plan.TheConstants.{MAX_PIECES};
-ghost use Rattle.one_download.specs.DownloadViews.{HasNoneToSettle, IsFirstPiece, IsFullUnverified, IsNextToSettle, IsOpenAt, IsPieceOf, IsToSettle, IsUnverified, standing_under};
+ghost use Rattle.one_download.specs.DownloadViews.{HasNoneToSettle, IsFirstPiece, IsFullUnverified, IsNextToSettle, IsOpenAt, IsPieceOf, IsToSettle, IsUnverified, is_open_by, standing_under};
 ghost use Rattle.one_download.specs.Grants.{HasNoChoice, IsBlockChoice, MaySplit, situation_for};
 ghost use Rattle.one_download.specs.PayloadViews.{IsRunOf, account_before};
+ghost use Rattle.piece_table.specs.NewRuns.{AreRunsOf};
 ghost use Rattle.piece_table.specs.Progress.{IsFull, IsStart};
 ghost use Rattle.segment_claim.specs.declared.limits.TheConstants.{MAX_SPLIT};
 
@@ -18,7 +19,7 @@ use crate::{Choice, Split};
 use bit_rows::BitRow;
 use dl_kinds::{BLOCK_LEN, Claim, Moment, Plan, Run, plan_laws};
 use mirror_blame::Marks;
-use piece_table::{Giver, Table};
+use piece_table::{Giver, NewRuns, Table};
 use segment_claim::{Claims, Limits};
 use std::alloc::{AllocError, Global};
 use std::marker::Model;
@@ -289,6 +290,15 @@ impl Payload {
         self.claims.get(id)
     }
 
+    /// The blocks of a run, of at most 64, that are open in it.
+    pub fn open_runs(&self, id: u64, run: Run) -> NewRuns
+        requires few { run.count ≤ 64 }
+        requires bounded { run.first + run.count < 2 ^ 32 }
+        ensures { AreRunsOf (λ block. is_open_by self.now.account id block ≡ true) run result }
+    {
+        self.claims.open_runs(id, run, &self.table)
+    }
+
     /// The first block that is open in it.
     pub fn first_open(&self, id: u64) -> Option<u32>
         ensures { result ≡ option_and_then (first_still_open self.now.account)
@@ -362,6 +372,7 @@ impl Payload {
     /// The first piece from `from` on that is full and unverified, and wasn't settled since its last landing.
     pub fn next_full(&self, from: u32) -> Option<u32>
         ensures found { IfSome result (IsNextToSettle self.now.account from) }
+        ensures number { IfSome result (λ piece. piece < MAX_PIECES) }
         ensures none { IfNone result (HasNoneToSettle self.now.account from) }
     {
         plan_laws();

@@ -2,7 +2,7 @@
 ghost use Rattle.std.specs.Prelude.{◌≡◌, ◌<◌, ◌++◌, IsTrue, IfOk, OnOk, IfSome, option_copied};
 ghost use Rattle.option_set.specs.Table.{table_row, row_of_number, row_of_text};
 ghost use Rattle.option_set.specs.Settings.{IsWithinLimits, MeetsRule};
-ghost use Rattle.option_set.specs.Values.{place_of_number, place_of_word, number_value, text_of_word, default_values, with_setting, number_text, value_text, is_shown, shown_pairs, shown_options};
+ghost use Rattle.option_set.specs.Values.{AreValues, place_of_number, place_of_word, number_value, text_of_word, default_values, with_setting, number_text, value_text, is_shown, shown_pairs, shown_options};
 
 use crate::setting::Assigned;
 use crate::{Num, Opt, Scope, Setting, Spelling, Word};
@@ -167,6 +167,13 @@ impl Options {
             Assigned::Number(num, value) => self.numbers[number_place(num)] = value,
             Assigned::Text(word, text) => self.texts[word_place(word)] = Some(text),
         }
+    }
+
+    /// Each number is within its option's limits, and each text meets its option's rule.
+    pub fn values_are_within(&self)
+        ensures { AreValues self.now }
+    {
+        let _ = &self.numbers;
     }
 
     /// The value of an option of a number; 0 and 1 are the truth values.

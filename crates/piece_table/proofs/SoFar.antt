@@ -1,27 +1,26 @@
--- The new runs of the blocks of a run that were looked at so far.
-use Rattle.std.proofs.Common.{◌≡◌, ◌↔◌, ◌⊎◌, ℕ, ◌+◌, ◌-◌, ◌*◌, ◌<◌, ◌≤◌, Bool, true, false, eqb, cond, List, [], ◌∷◌, ◌++◌, length, Some, slice_get, refl, sym, ap, ◌∙◌, subst, inl, inr, ⊎_elim, arith}
+-- The runs of the blocks of a run that were looked at so far.
+use Rattle.std.proofs.Common.{◌≡◌, ◌↔◌, ◌⊎◌, ℕ, ◌+◌, ◌-◌, ◌*◌, ◌<◌, ◌≤◌, true, false, eqb, cond, List, [], ◌∷◌, ◌++◌, length, refl, sym, ◌∙◌, subst, inl, inr, ⊎_elim, arith}
 use Rattle.std.specs.Prelude.{All, AllPairs, Any}
-use Rattle.std.proofs.lemmas.Bool.{cases_lt, false≢true, eqb-true, eqb-false}
+use Rattle.std.proofs.lemmas.Bool.{cases_lt, eqb-true, eqb-false}
 use Rattle.std.proofs.lemmas.List.{length_push, get_or_append_left, get_or_at}
 use Rattle.std.proofs.lemmas.List.Elements.{All-nil, All-push}
 use Rattle.std.proofs.lemmas.List.Quantifiers.{Any-push, all_pairs_push}
-use Rattle.std.proofs.lemmas.Option.{same_Some}
 use Rattle.dl_kinds.specs.declared.runs.Run.{Run}
-use Rattle.piece_table.specs.NewRuns.{IsIn, AreNewRuns}
+use Rattle.piece_table.specs.NewRuns.{IsIn, AreRunsOf}
 
--- the runs hold the new blocks before `last`, which holds the new blocks directly behind the last landed one
-pub record AreSoFar (landed : List Bool) (first : ℕ) (runs : List Run) (last : Run) : Type 0 where
+-- the runs hold the blocks that pass before `last`, which holds those directly behind the last one that doesn't
+pub record AreSoFar (Is : ℕ → Type 0) (first : ℕ) (runs : List Run) (last : Run) : Type 0 where
   pub from : first ≤ last.first
-  pub exact : (block : ℕ) → Any (IsIn block) runs ↔ ((first ≤ block) × (block < last.first) × (slice_get landed block ≡ Some false))
+  pub exact : (block : ℕ) → Any (IsIn block) runs ↔ ((first ≤ block) × (block < last.first) × (Is block))
   pub some : All (λ r. 0 < r.count) runs
   pub apart : AllPairs (λ earlier later. earlier.first + earlier.count < later.first) runs
   pub behind : All (λ r. r.first + r.count < last.first) runs
-  pub new : (block : ℕ) → last.first ≤ block → block < last.first + last.count → slice_get landed block ≡ Some false
+  pub new : (block : ℕ) → last.first ≤ block → block < last.first + last.count → Is block
   pub few : 2 * length runs ≤ last.first - first
 
--- the runs hold the new blocks before `end`
-record AreClosed (landed : List Bool) (first end : ℕ) (runs : List Run) : Type 0 where
-  exact : (block : ℕ) → Any (IsIn block) runs ↔ ((first ≤ block) × (block < end) × (slice_get landed block ≡ Some false))
+-- the runs hold the blocks that pass before `end`
+record AreClosed (Is : ℕ → Type 0) (first end : ℕ) (runs : List Run) : Type 0 where
+  exact : (block : ℕ) → Any (IsIn block) runs ↔ ((first ≤ block) × (block < end) × (Is block))
   some : All (λ r. 0 < r.count) runs
   apart : AllPairs (λ earlier later. earlier.first + earlier.count < later.first) runs
   within : All (λ r. r.first + r.count ≤ end) runs
@@ -47,9 +46,9 @@ Any-push_cases P runs last (k, r, below, is, holds) =
 
 -- ---- closing the last run
 
-empty : (landed : List Bool) (first : ℕ) (runs : List Run) (last : Run) → AreSoFar landed first runs last → last.count ≡ 0
-    → AreClosed landed first (last.first + last.count) runs
-empty landed first runs last so none =
+empty : (Is : ℕ → Type 0) (first : ℕ) (runs : List Run) (last : Run) → AreSoFar Is first runs last → last.count ≡ 0
+    → AreClosed Is first (last.first + last.count) runs
+empty Is first runs last so none =
     record {
       exact = λ block. (
         λ any. let h = (so.exact block).0 any in (h.0, omega (arith, h.1), h.2),
@@ -61,9 +60,9 @@ empty landed first runs last so none =
       few = omega (arith, so.few);
     }
 
-some_more : (landed : List Bool) (first : ℕ) (runs : List Run) (last : Run) → AreSoFar landed first runs last → 0 < last.count
-    → AreClosed landed first (last.first + last.count) (runs ++ last ∷ [])
-some_more landed first runs last so some =
+some_more : (Is : ℕ → Type 0) (first : ℕ) (runs : List Run) (last : Run) → AreSoFar Is first runs last → 0 < last.count
+    → AreClosed Is first (last.first + last.count) (runs ++ last ∷ [])
+some_more Is first runs last so some =
     let from = so.from in
     record {
       exact = λ block. (
@@ -84,18 +83,18 @@ some_more landed first runs last so some =
       few = omega (arith, so.few, length_push runs last);
     }
 
-closes : (landed : List Bool) (first : ℕ) (runs : List Run) (last : Run) → AreSoFar landed first runs last
-    → AreClosed landed first (last.first + last.count) (cond (eqb last.count 0) runs (runs ++ last ∷ []))
-closes landed first runs last so =
-    (elim (eqb last.count 0) as (λ v. eqb last.count 0 ≡ v → AreClosed landed first (last.first + last.count) (cond v runs (runs ++ last ∷ []))) [
-      | true ↦ λ is. empty landed first runs last so (eqb-true last.count 0 is)
-      | false ↦ λ is. some_more landed first runs last so (omega (arith, eqb-false last.count 0 is))
+closes : (Is : ℕ → Type 0) (first : ℕ) (runs : List Run) (last : Run) → AreSoFar Is first runs last
+    → AreClosed Is first (last.first + last.count) (cond (eqb last.count 0) runs (runs ++ last ∷ []))
+closes Is first runs last so =
+    (elim (eqb last.count 0) as (λ v. eqb last.count 0 ≡ v → AreClosed Is first (last.first + last.count) (cond v runs (runs ++ last ∷ []))) [
+      | true ↦ λ is. empty Is first runs last so (eqb-true last.count 0 is)
+      | false ↦ λ is. some_more Is first runs last so (omega (arith, eqb-false last.count 0 is))
     ]) refl
 
 -- ---- the loop
 
-pub none : (landed : List Bool) (first : ℕ) → AreSoFar landed first [] (record { first = first; count = 0 })
-none landed first =
+pub none : (Is : ℕ → Type 0) (first : ℕ) → AreSoFar Is first [] (record { first = first; count = 0 })
+none Is first =
     record {
       from = omega arith;
       exact = λ block. (λ any. absurd (Any-nil (IsIn block) any), λ (from, before, _). absurd (omega arith));
@@ -106,10 +105,10 @@ none landed first =
       few = omega arith;
     }
 
--- a block that is new
-pub grown : (landed : List Bool) (first : ℕ) (runs : List Run) (last : Run) → AreSoFar landed first runs last
-    → slice_get landed (last.first + last.count) ≡ Some false → AreSoFar landed first runs (record { first = last.first; count = last.count + 1 })
-grown landed first runs last so is =
+-- a block that passes
+pub grown : (Is : ℕ → Type 0) (first : ℕ) (runs : List Run) (last : Run) → AreSoFar Is first runs last
+    → Is (last.first + last.count) → AreSoFar Is first runs (record { first = last.first; count = last.count + 1 })
+grown Is first runs last so is =
     record {
       from = so.from;
       exact = so.exact;
@@ -121,16 +120,16 @@ grown landed first runs last so is =
           ⊎_elim
           (λ (less : block < last.first + last.count). so.new block from less)
           (λ (more : last.first + last.count ≤ block).
-          let here : last.first + last.count ≡ block = omega arith in ap (slice_get landed) (sym here) ∙ is)
+          let here : last.first + last.count ≡ block = omega arith in subst Is here is)
           (cases_lt block (last.first + last.count));
     }
 
--- a block that is landed
-pub ended : (landed : List Bool) (first block : ℕ) (runs : List Run) (last : Run) → AreSoFar landed first runs last
-    → last.first + last.count ≡ block → slice_get landed block ≡ Some true
-    → AreSoFar landed first (cond (eqb last.count 0) runs (runs ++ last ∷ [])) (record { first = block + 1; count = 0 })
-ended landed first block runs last so end is =
-    let c = closes landed first runs last so in
+-- a block that doesn't
+pub ended : (Is : ℕ → Type 0) (first block : ℕ) (runs : List Run) (last : Run) → AreSoFar Is first runs last
+    → last.first + last.count ≡ block → (Is block → ⊥)
+    → AreSoFar Is first (cond (eqb last.count 0) runs (runs ++ last ∷ [])) (record { first = block + 1; count = 0 })
+ended Is first block runs last so end is =
+    let c = closes Is first runs last so in
     let from = so.from in
     record {
       from = omega arith;
@@ -141,7 +140,7 @@ ended landed first block runs last so end is =
             (λ (less : b < last.first + last.count). (c.exact b).1 (h.0, less, h.2))
             (λ (more : last.first + last.count ≤ b).
             let here : b ≡ block = omega (arith, h.1) in
-            absurd (false≢true (same_Some false true (sym h.2 ∙ ap (slice_get landed) here ∙ is))))
+            absurd (is (subst Is here h.2)))
             (cases_lt b (last.first + last.count)),
       );
       some = c.some;
@@ -152,10 +151,10 @@ ended landed first block runs last so end is =
     }
 
 -- all blocks were looked at
-pub whole : (landed : List Bool) (run : Run) (runs : List Run) (last : Run) → AreSoFar landed run.first runs last
-    → last.first + last.count ≡ run.first + run.count → AreNewRuns landed run (cond (eqb last.count 0) runs (runs ++ last ∷ []))
-whole landed run runs last so end =
-    let c = closes landed run.first runs last so in
+pub whole : (Is : ℕ → Type 0) (run : Run) (runs : List Run) (last : Run) → AreSoFar Is run.first runs last
+    → last.first + last.count ≡ run.first + run.count → AreRunsOf Is run (cond (eqb last.count 0) runs (runs ++ last ∷ []))
+whole Is run runs last so end =
+    let c = closes Is run.first runs last so in
     record {
       exact = λ b. (
         λ any. let h = (c.exact b).0 any in (record { from = h.0; before = omega (arith, h.1) }, h.2),
@@ -164,3 +163,9 @@ whole landed run runs last so end =
       some = c.some;
       apart = c.apart;
     }
+
+-- the same at equal runs
+pub same : (Is : ℕ → Type 0) (first : ℕ) (runs runs' : List Run) (last last' : Run) → runs' ≡ runs → last' ≡ last
+    → AreSoFar Is first runs last → AreSoFar Is first runs' last'
+same Is first runs runs' last last' r l so =
+    subst (λ (x : List Run). AreSoFar Is first x last') (sym r) (subst (λ (x : Run). AreSoFar Is first runs x) (sym l) so)

@@ -47,8 +47,8 @@ impl NewRuns {
         self.len += 1;
     }
 
-    // Adds a run at the end, if it has a block.
-    fn close(&mut self, run: Run)
+    /// Adds a run at the end, if it has a block.
+    pub fn close(&mut self, run: Run)
         requires { 0 < run.count → length self.old < 32 }
         ensures { self.new ≡ (if run.count == 0 then self.old else self.old ++ run ∷ []) }
     {

@@ -10,3 +10,4 @@ pub mod StealLemmas
 pub mod LooseRuns
 pub mod OwnRuns
 pub mod Zips
+pub mod OpenRuns

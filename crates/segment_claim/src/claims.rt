@@ -1,6 +1,7 @@
 // The claims of a download.
-ghost use Rattle.std.specs.Prelude.{◌≡◌, ◌↔◌, ◌⊎◌, ℕ, ◌+◌, ◌<◌, ◌≤◌, ◌^◌, not, [], All, length, IsNone, IfNone, IfSome, OnOk};
+ghost use Rattle.std.specs.Prelude.{◌≡◌, ◌↔◌, ◌⊎◌, ℕ, ◌+◌, ◌<◌, ◌≤◌, ◌^◌, not, [], All, length, true, IsNone, IfNone, IfSome, OnOk};
 ghost use Rattle.dl_kinds.specs.Plan.{blocks_of, pieces_of};
+ghost use Rattle.piece_table.specs.NewRuns.{AreRunsOf};
 ghost use Rattle.segment_claim.specs.Book.{granted, no_claims, kept_where, with_cleared, claim_under, is_open_under, first_open_under, first_open_at, swept};
 ghost use Rattle.segment_claim.specs.Open.{has_number};
 ghost use Rattle.segment_claim.specs.Free.{HasNoFreeClaim, IsFreeClaim, IsFreeGrant, IsMirrorFor};
@@ -11,12 +12,12 @@ ghost use Rattle.segment_claim.specs.Theft.{AreViews, IsStealOf, stolen_claim};
 ghost use Rattle.segment_claim.specs.declared.limits.TheConstants.{MAX_SPLIT};
 
 use crate::free::Found;
-use crate::open::{first_open, is_open, sweep};
+use crate::open::{first_open, is_open, open_runs, sweep};
 use crate::scene::{Scene, host_loads};
 use crate::{Limits, Views};
 use dl_kinds::{Claim, Moment, Plan, Run};
 use mirror_blame::Marks;
-use piece_table::Table;
+use piece_table::{NewRuns, Table};
 use slow_steal::Steal;
 use std::alloc::{AllocError, Global};
 use std::marker::Model;
@@ -118,6 +119,20 @@ impl Claims {
         match self.get(id) {
             Some(claim) => is_open(&self.plan, table.blocks(), &self.closed, &claim, block),
             None => false,
+        }
+    }
+
+    /// The blocks of a run, of at most 64, that are open in the claim that stands under a number.
+    pub fn open_runs(&self, id: u64, run: Run, table: &Table) -> NewRuns
+        requires table { IsTableOfClaims self.now table.now }
+        requires few { run.count ≤ 64 }
+        requires bounded { run.first + run.count < 2 ^ 32 }
+        ensures { AreRunsOf (λ block. is_open_under self.now table.now.landed id block ≡ true)
+            run result }
+    {
+        match self.get(id) {
+            Some(claim) => open_runs(&self.plan, table.blocks(), &self.closed, &claim, run),
+            None => NewRuns::new(),
         }
     }
 

@@ -1,11 +1,13 @@
 // Which blocks are open in claims.
-ghost use Rattle.std.specs.Prelude.{◌≡◌, ◌+◌, ◌≤◌, All, filter, length, vec_capacity};
+ghost use Rattle.std.specs.Prelude.{◌≡◌, ◌+◌, ◌<◌, ◌≤◌, ◌^◌, All, filter, length, true, vec_capacity};
 ghost use Rattle.dl_kinds.specs.Plan.{blocks_of, pieces_of};
+ghost use Rattle.piece_table.specs.NewRuns.{AreRunsOf};
 ghost use Rattle.segment_claim.specs.Open.{first_open_in, is_open_in, is_underway};
 ghost use Rattle.segment_claim.specs.Sound.{IsWithinBlocks};
 
 use bit_rows::BitRow;
-use dl_kinds::{Claim, Plan};
+use dl_kinds::{Claim, Plan, Run};
+use piece_table::NewRuns;
 
 /// Whether a block is open in a claim.
 pub fn is_open(plan: &Plan, landed: &BitRow, closed: &[u128], claim: &Claim, block: u32) -> bool
@@ -35,6 +37,38 @@ pub fn first_open(plan: &Plan, landed: &BitRow, closed: &[u128], claim: &Claim) 
         }
     }
     None
+}
+
+/// The blocks of a run, of at most 64, that are open in a claim.
+pub fn open_runs(plan: &Plan, landed: &BitRow, closed: &[u128], claim: &Claim, run: Run) -> NewRuns
+    requires row { length landed.now ≡ blocks_of plan.now.total plan.now.piece_len }
+    requires pieces { length closed.now ≡ pieces_of plan.now.total plan.now.piece_len }
+    requires within { claim.now.run.first + claim.now.run.count
+        ≤ blocks_of plan.now.total plan.now.piece_len }
+    requires few { run.count ≤ 64 }
+    requires bounded { run.first + run.count < 2 ^ 32 }
+    ensures { AreRunsOf
+        (λ block. is_open_in plan.now.piece_len landed.now closed.now claim.now block ≡ true)
+        run result }
+{
+    let mut runs = NewRuns::new();
+    let mut last = Run {
+        first: run.first,
+        count: 0,
+    };
+    for block in run.first..run.first + run.count {
+        if is_open(plan, landed, closed, claim, block) {
+            last.count += 1;
+        } else {
+            runs.close(last);
+            last = Run {
+                first: block + 1,
+                count: 0,
+            };
+        }
+    }
+    runs.close(last);
+    runs
 }
 
 /// Takes out the claims in which no block is open.

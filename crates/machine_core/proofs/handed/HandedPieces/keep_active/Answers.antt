@@ -1,0 +1,14 @@
+use Rattle.std.proofs.Common.{◌≡◌, ap, ◌∙◌, rules}
+use Rattle.std.specs.Prelude.{filter}
+use Rattle.std.proofs.lemmas.Fn.{filter_same}
+use Rattle.machine_core.specs.Offers.{HandedList}
+use Rattle.machine_core.specs.Replays.{is_active_in}
+use Rattle.machine_core.specs.declared.handed.Handed.{Handed}
+use Rattle.machine_core.proofs.handed.HandedPieces.keep_active.Goals as goal
+
+pub returns-clause-pieces : goal.returns-clause-pieces
+returns-clause-pieces c =
+    let filtered : c.retain.new.self.items ≡ filter (λ (handed : Handed). is_active_in c.args.machine.now.start c.args.machine.now.past handed.gid) c.self.inside.pieces.items =
+    filter_same _ _ _ (λ x b f' k. search rules) _ _ c.retain.ensures.filtered in
+    filtered
+    ∙ ap (λ (h : HandedList). filter (λ (handed : Handed). is_active_in c.args.machine.now.start c.args.machine.now.past handed.gid) h.pieces) c.self.view_is
