@@ -1,44 +1,51 @@
 -- What the active downloads offer, as contracts see it.
 use Rattle.std.proofs.Common.{◌≡◌, ℕ, Bool, true, false, cond, Option, Some, None, ◌≤◌, List, [], ◌∷◌, ◌++◌, length, map, slice_get, reverse, refl, sym, ap, ◌∙◌, subst, arith}
-use Rattle.std.specs.Prelude.{◌↔◌, ◌||◌, ◌&&◌, find, not}
+use Rattle.std.specs.Prelude.{◌↔◌, ◌||◌, ◌&&◌, find, not, slice_index_or}
 use Rattle.std.specs.List.{list_any}
-use Rattle.std.specs.Option.{is_some, option_and_then, option_map_or}
+use Rattle.std.specs.Option.{is_some, option_and_then, option_map_or, unwrap_or}
 use Rattle.std.proofs.lemmas.Bool.{eq-eqb}
 use Rattle.std.proofs.lemmas.List.{length-map}
 use Rattle.std.proofs.lemmas.Option.{cond_some, none-some, same_Some}
 use Rattle.dl_kinds.specs.declared.gid.Gid.{Gid}
 use Rattle.dl_kinds.specs.declared.runs.Moment.{Moment}
 use Rattle.dl_kinds.specs.declared.runs.Run.{Run}
+use Rattle.dl_history.specs.AccountLaws.{MatchesEvents}
+use Rattle.dl_history.specs.Accounts.{Account, account_of}
+use Rattle.dl_history.specs.OwnEvents.{OwnEvent}
+use Rattle.dl_history.specs.OwnLegal.{MaySettle}
 use Rattle.dl_history.specs.PayloadParts.{is_opened}
+use Rattle.piece_table.specs.declared.giver.Giver.{Giver}
+use Rattle.piece_table.specs.declared.giver.Giver.TheVariants.{Nobody}
 use Rattle.dl_queue.specs.Calls.{added_place, adding_place}
 use Rattle.dl_queue.specs.Lists.{QueueLists}
 use Rattle.dl_queue.specs.declared.kinds.Added.{Added}
 use Rattle.one_download.specs.DownloadLaws.{AccountsTellOpening}
 use Rattle.rate_limits.specs.Shared.{RunLevels, lesser_credit, longer_wait}
 use Rattle.machine_core.specs.Choices.{IsGrantBy, situation_in}
-use Rattle.machine_core.specs.Claiming.{IsOfferedNow, MayBeClaimedOf, is_to_open, next_to_open}
+use Rattle.machine_core.specs.Claiming.{IsOfferedNow, MayBeTaken, is_to_open, next_to_open}
 use Rattle.machine_core.specs.KeptOffers.{IsGidOffer, IsKeptOffer, is_waiting_to_open, kept_entry, opens_next}
 use Rattle.machine_core.specs.MachineParts.{MachineState, added_as}
 use Rattle.machine_core.specs.MachineViews.{MachineView}
-use Rattle.machine_core.specs.Offers.{Credit, IsNextOffer, IsOffer, IsOfferBy, IsOffered, active_credits, affords, gid_credit, no_blocks, offered_claim}
-use Rattle.machine_core.specs.OwnParts.{PayloadLengths, lengths_by, own_of, payload_lengths_of}
+use Rattle.machine_core.specs.Offers.{AwaitsFinding, Credit, IsNextOffer, IsOffer, IsOfferBy, IsOffered, active_credits, affords, gid_credit, no_blocks, offered_claim}
+use Rattle.machine_core.specs.OwnParts.{PayloadLengths, lengths_by, no_lengths, own_of, payload_lengths_of}
 use Rattle.machine_core.specs.Reads.{downloads_in}
 use Rattle.machine_core.specs.Replays.{is_active_in, is_download, is_same_gid, queue_in, replay_of}
-use Rattle.machine_core.specs.RunLegal.{IsLaterThan, IsNewNumber, MayBeClaimed, download_in}
+use Rattle.machine_core.specs.RunLegal.{IsLaterThan, IsNewNumber, MayBeClaimed, download_in, IsLegal, MayFollow, known_lengths}
 use Rattle.machine_core.specs.Starts.{Download, RunStart}
 use Rattle.machine_core.specs.TurnRooms.{AreRoomier, HasEntry, IsRoomierRun}
 use Rattle.machine_core.specs.declared.entries.Entry.{Entry}
 use Rattle.machine_core.specs.declared.events.Event.{Event}
-use Rattle.machine_core.specs.declared.events.Event.TheVariants.{Claimed}
+use Rattle.machine_core.specs.declared.events.Event.TheVariants.{Claimed, Settled}
 use Rattle.machine_core.specs.declared.handed.Handed.{Handed}
 use Rattle.machine_core.specs.declared.offers.Offer.{Offer}
 use Rattle.machine_core.specs.declared.offers.Offer.TheVariants.{Whole, Blocks, Probe}
 use Rattle.machine_core.specs.declared.offers.Offered.{Offered}
 use Rattle.machine_core.specs.declared.offers.Offered.TheVariants.{Next, Held, Idle}
+use Rattle.machine_core.proofs.Fitting.{plan_of}
 use Rattle.machine_core.proofs.Here.{Here, Seen, known_here, view_of}
 use Rattle.machine_core.proofs.Homes.{entry_within, place_found, place_none}
 use Rattle.machine_core.proofs.Keeping.{IsSeenEntry, kept_same, offers_alike, to_open_same}
-use Rattle.machine_core.proofs.Legal.{Laws}
+use Rattle.machine_core.proofs.Legal.{Laws, parts}
 use Rattle.machine_core.proofs.Lists.{element_at, find_same, found}
 use Rattle.machine_core.proofs.Numbered.{homes_new}
 use Rattle.machine_core.proofs.Offering.{block_grant, choice_in, grant_choice}
@@ -406,11 +413,62 @@ next_active P queue levels now gid offer is =
     subst (λ (g : Gid). list_any (is_same_gid g) queue.active ≡ true) is.gid_is
     (among queue.added levels now queue.active is.before is.credit is.behind is.cut)
 
-claimed_by : (m : MachineView) (handed : List Handed) (levels : RunLevels) (now : Moment) (offered : Offered) (id : ℕ)
-    → IsNewNumber m.past id → IsLaterThan m.past now → IsOfferedNow m handed levels now.0 offered
-    → MayBeClaimedOf m now offered
-claimed_by m handed levels now (Next gid (Whole piece)) id new later is = tt
-claimed_by m handed levels now (Next gid (Blocks mirror run victim)) id new later is =
+-- what is known of an opened download says who gave a full piece
+piece_found : (total len : ℕ) (own : List OwnEvent) (k : Account) (piece : ℕ) → MatchesEvents total len own k
+    → is_opened own ≡ true → AwaitsFinding total len own piece
+    → MaySettle total len own piece (slice_index_or k.progress.givers piece Nobody)
+piece_found total len own k piece matches opened awaits =
+    record {
+      opened = opened;
+      within = awaits.within;
+      full = awaits.full;
+      unverified = awaits.unverified;
+      anew = awaits.anew;
+      givers = (matches.pieces piece awaits.within).giver;
+    }
+
+-- the giver of the piece, and that it may be found right
+record MayBeRight (start : RunStart) (past : List Event) (gid : Gid) (piece : ℕ) : Type 0 where
+  giver : Giver
+  may : MayFollow start past (Settled gid piece true giver)
+
+whole_by : Laws → (start : RunStart) (past : List Event) (gid : Gid) (piece : ℕ) (handed : List Handed) (now : ℕ)
+    (d : Download) → IsLegal start past → download_in start past gid ≡ Some d → d.gid ≡ gid
+    → (o : Option PayloadLengths) → payload_lengths_of start past gid ≡ o
+    → IsOfferBy handed start past d o now (Whole piece) → MayBeRight start past gid piece
+whole_by laws start past gid piece handed now d legal added same None is offered = absurd offered
+whole_by laws start past gid piece handed now d legal added same (Some l) is offered =
+    let own = own_of start past gid in
+    let lengths : known_lengths start past gid ≡ l =
+    ap (λ (o : Option PayloadLengths). unwrap_or o no_lengths) is in
+    let opened : is_opened own ≡ true = subst (λ (g : Gid). is_opened (own_of start past g) ≡ true) same offered.0 in
+    let awaits : AwaitsFinding (known_lengths start past gid).total (known_lengths start past gid).piece_len own piece =
+    subst (λ (y : PayloadLengths). AwaitsFinding y.total y.piece_len own piece) (sym lengths)
+    (subst (λ (g : Gid). AwaitsFinding l.total l.piece_len (own_of start past g) piece) same offered.1.whole.awaits) in
+    let part = parts laws start past gid legal in
+    let k = account_of (known_lengths start past gid).total (known_lengths start past gid).piece_len own in
+    let matches = laws.accounts (known_lengths start past gid).total (known_lengths start past gid).piece_len own
+    (λ (h : is_opened own ≡ true). plan_of start past gid (part.planned h)) part.legal in
+    let settle = piece_found (known_lengths start past gid).total (known_lengths start past gid).piece_len own k piece
+    matches opened awaits in
+    record {
+      giver = slice_index_or k.progress.givers piece Nobody;
+      may = record { own = record { download = d; added = added; may = settle }; right_is = λ unlisted. refl };
+    }
+
+whole_next : Laws → (start : RunStart) (past : List Event) (gid : Gid) (piece : ℕ) (handed : List Handed) (now : ℕ)
+    → IsLegal start past → IsOffer handed start past now gid (Whole piece) → MayBeRight start past gid piece
+whole_next laws start past gid piece handed now legal o =
+    whole_by laws start past gid piece handed now o.download legal o.added (its_gid start past gid o.download o.added)
+    (payload_lengths_of start past gid) refl o.is
+
+claimed_by : Laws → (m : MachineView) (handed : List Handed) (levels : RunLevels) (now : Moment) (offered : Offered)
+    (id : ℕ) → IsLegal m.start m.past → IsNewNumber m.past id → IsLaterThan m.past now → IsOfferedNow m handed levels now.0 offered
+    → MayBeTaken m now offered
+claimed_by laws m handed levels now (Next gid (Whole piece)) id legal new later is =
+    let r = whole_next laws m.start m.past gid piece handed now.0 legal is.is in
+    (Settled gid piece true r.giver, (r.giver, refl), r.may)
+claimed_by laws m handed levels now (Next gid (Blocks mirror run victim)) id legal new later is =
     λ worker. let active = next_active (IsOffer handed m.start m.past now.0) (queue_in m.start m.past) levels now.0 gid
     (Blocks mirror run victim) is in (
       Claimed gid (offered_claim mirror run victim id worker now.0),
@@ -418,7 +476,7 @@ claimed_by m handed levels now (Next gid (Blocks mirror run victim)) id new late
       blocks_next handed m.start m.past gid mirror run victim worker now
           (record { active = active; id = id; fresh = new; later = later }) is.is,
     )
-claimed_by m handed levels now (Next gid (Probe mirror)) id new later is =
+claimed_by laws m handed levels now (Next gid (Probe mirror)) id legal new later is =
     λ worker. let active = next_active (IsOffer handed m.start m.past now.0) (queue_in m.start m.past) levels now.0 gid
     (Probe mirror) is in (
       Claimed gid (offered_claim mirror no_blocks None id worker now.0),
@@ -426,14 +484,15 @@ claimed_by m handed levels now (Next gid (Probe mirror)) id new later is =
       probe_next handed m.start m.past gid mirror worker now
           (record { active = active; id = id; fresh = new; later = later }) is.is,
     )
-claimed_by m handed levels now (Held wait) id new later is = tt
-claimed_by m handed levels now Idle id new later is = tt
+claimed_by laws m handed levels now (Held wait) id legal new later is = tt
+claimed_by laws m handed levels now Idle id legal new later is = tt
 
-pub may_be_claimed : (s : MachineState) (v : MachineView) (handed : List Handed) (levels : RunLevels) (now : Moment)
+pub may_be_claimed : Laws → (s : MachineState) (v : MachineView) (handed : List Handed) (levels : RunLevels) (now : Moment)
     (offered : Offered) → Seen s v → IsLaterThan v.past now → IsOfferedNow v handed levels now.0 offered
-    → MayBeClaimedOf v now offered
-may_be_claimed s v handed levels now offered seen later is =
-    claimed_by v handed levels now offered (length s.homes)
+    → MayBeTaken v now offered
+may_be_claimed laws s v handed levels now offered seen later is =
+    claimed_by laws v handed levels now offered (length s.homes)
+    (subst (λ (w : MachineView). IsLegal w.start w.past) seen.view_is seen.keeps.legal)
     (subst (λ (w : MachineView). IsNewNumber w.past (length s.homes)) seen.view_is
     (homes_new s.start (reverse s.events) s.homes seen.keeps.homes))
     later is
@@ -461,15 +520,15 @@ grown_offered laws tells s v ys handed levels now offered seen r is =
     offered_here laws tells (grown s ys) (view_of (grown s ys)) handed levels now offered (grown_seen s v ys seen r) is in
     subst (λ (w : MachineView). IsOfferedNow w handed levels now offered) seen.view_is told
 
-pub grown_claim : (s : MachineState) (v : MachineView) (ys : List Entry) (handed : List Handed) (levels : RunLevels)
+pub grown_claim : Laws → (s : MachineState) (v : MachineView) (ys : List Entry) (handed : List Handed) (levels : RunLevels)
     (now : Moment) (offered : Offered) → Seen s v → AreRoomier s.entries ys → IsLaterThan v.past now
-    → IsOfferedNow v handed levels now.0 offered → MayBeClaimedOf (view_of (grown s ys)) now offered
-grown_claim s v ys handed levels now offered seen r later is =
+    → IsOfferedNow v handed levels now.0 offered → MayBeTaken (view_of (grown s ys)) now offered
+grown_claim laws s v ys handed levels now offered seen r later is =
     let here : IsLaterThan (reverse s.events) now =
     subst (λ (w : MachineView). IsLaterThan w.past now) (sym seen.view_is) later in
     let told : IsOfferedNow (view_of s) handed levels now.0 offered =
     subst (λ (w : MachineView). IsOfferedNow w handed levels now.0 offered) (sym seen.view_is) is in
-    may_be_claimed (grown s ys) (view_of (grown s ys)) handed levels now offered (grown_seen s v ys seen r) here told
+    may_be_claimed laws (grown s ys) (view_of (grown s ys)) handed levels now offered (grown_seen s v ys seen r) here told
 
 pub all_have : (s : MachineState) (v : MachineView) → Seen s v → length s.entries ≡ length s.queue.added
 all_have s v seen =

@@ -39,7 +39,7 @@ pub record IsKnown (total len : ℕ) (own : List OwnEvent) (k : Account) : Type 
   pub matches : MatchesEvents total len own k
   pub opened : is_opened_by k ≡ is_opened own
 
-plan_of : (start : RunStart) (past : List Event) (gid : Gid)
+pub plan_of : (start : RunStart) (past : List Event) (gid : Gid)
     → IsPlanned (replay_of start past).downloads gid (own_of start past gid)
     → IsPlan (known_lengths start past gid).total (known_lengths start past gid).piece_len
 plan_of start past gid p =

@@ -204,7 +204,7 @@ makes_none start past (Ended gid how) same = refl
 makes_none start past Left same = refl
 makes_none start past Stopped same = refl
 
-numbers_stay : (e : Event) (past : List Event) → makes_claim e ≡ false → next_number past ≡ next_number (e ∷ past)
+pub numbers_stay : (e : Event) (past : List Event) → makes_claim e ≡ false → next_number past ≡ next_number (e ∷ past)
 numbers_stay e past none =
     sym (sum_by-cons (λ (x : Event). cond (makes_claim x) 1 0) e past
     ∙ ap (λ (t : Bool). cond t 1 0 + next_number past) none ∙ zero-add (next_number past))

@@ -13,7 +13,7 @@ use Rattle.one_download.specs.DownloadViews.{DownloadView, IsClaimOf, IsProbeAt,
 use Rattle.piece_table.specs.NewRuns.{AreRunsOf}
 use Rattle.rate_limits.specs.Shared.{RunLevels}
 use Rattle.segment_claim.specs.declared.limits.TheConstants.{MAX_SPLIT}
-use Rattle.machine_core.specs.MachineViews.{IsNext, MachineView, StandsNowhere, StandsUnder, mark_spare_in}
+use Rattle.machine_core.specs.MachineViews.{IsFindingOf, IsNext, MachineView, StandsNowhere, StandsUnder, mark_spare_in}
 use Rattle.machine_core.specs.Offers.{IsOffer, IsOffered, active_credits, no_blocks, offered_claim}
 use Rattle.machine_core.specs.OwnParts.{own_of, payload_lengths_of}
 use Rattle.machine_core.specs.Replays.{queue_in}
@@ -22,7 +22,7 @@ use Rattle.machine_core.specs.declared.events.Event.{Event}
 use Rattle.machine_core.specs.declared.events.Event.TheVariants.{Claimed}
 use Rattle.machine_core.specs.declared.handed.Handed.{Handed}
 use Rattle.machine_core.specs.declared.journal.TheConstants.{TURN_EVENTS}
-use Rattle.machine_core.specs.declared.offers.Offer.TheVariants.{Blocks, Probe}
+use Rattle.machine_core.specs.declared.offers.Offer.TheVariants.{Whole, Blocks, Probe}
 use Rattle.machine_core.specs.declared.offers.Offered.{Offered}
 use Rattle.machine_core.specs.declared.offers.Offered.TheVariants.{Next}
 
@@ -58,12 +58,13 @@ IsClaimUnder id gid worker mirror run victim now e =
 abbrev pub IsClaimAt : Gid → ℕ → ℕ → Run → Option ℕ → Moment → Event → Type 0
 IsClaimAt gid worker mirror run victim now e = (id : ℕ) × IsClaimUnder id gid worker mirror run victim now e
 
--- what was offered may be claimed by any worker
-abbrev pub MayBeClaimedOf : MachineView → Moment → Offered → Type 0
-MayBeClaimedOf m now (Next gid (Blocks mirror run victim)) =
+-- what was offered may be taken: a full piece found right, or a claim by any worker
+abbrev pub MayBeTaken : MachineView → Moment → Offered → Type 0
+MayBeTaken m now (Next gid (Whole piece)) = IsNext m (IsFindingOf gid piece true)
+MayBeTaken m now (Next gid (Blocks mirror run victim)) =
     (worker : ℕ) → IsNext m (IsClaimAt gid worker mirror run victim now)
-MayBeClaimedOf m now (Next gid (Probe mirror)) = (worker : ℕ) → IsNext m (IsClaimAt gid worker mirror no_blocks None now)
-MayBeClaimedOf m now other = Unit {0}
+MayBeTaken m now (Next gid (Probe mirror)) = (worker : ℕ) → IsNext m (IsClaimAt gid worker mirror no_blocks None now)
+MayBeTaken m now other = Unit {0}
 
 -- there is no less room for marks
 abbrev pub KeepsMarkRoom : MachineView → MachineView → Type 0

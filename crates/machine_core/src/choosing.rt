@@ -2,7 +2,7 @@
 ghost use Rattle.std.specs.Prelude.{◌≡◌, ◌≤◌, true, IfNone, IfOk, IfSome, find, length};
 ghost use Rattle.one_download.specs.DownloadViews.{is_opened_by};
 ghost use Rattle.segment_claim.specs.declared.limits.TheConstants.{MAX_SPLIT};
-ghost use Rattle.machine_core.specs.Claiming.{IsOfferedNow, MayBeClaimedOf, is_active_status, next_to_open};
+ghost use Rattle.machine_core.specs.Claiming.{IsOfferedNow, MayBeTaken, is_active_status, next_to_open};
 ghost use Rattle.machine_core.specs.KeptOffers.{HasHosts, HasNoneToHand, HaveHosts, IsFirstToHand, IsGidOffer, IsKeptOffer, IsKeptProbeOffer, IsOpenedKeptOffer, is_sized_entry, is_torrent_at, is_waiting_to_open, opens_next, split_by};
 ghost use Rattle.machine_core.specs.Offers.{IsOffered, active_credits, affords, least_wait};
 ghost use Rattle.machine_core.specs.Reads.{downloads_in};
@@ -249,7 +249,7 @@ impl Machine {
         requires buckets { length (downloads_in self.old) ≤ length limits.now.own }
         ensures offered { IfOk result
             (IsOfferedNow self.old handed.now.pieces limits.now now.0) }
-        ensures claim { IfOk result (MayBeClaimedOf self.new now) }
+        ensures taken { IfOk result (MayBeTaken self.new now) }
         ensures same { IsRoomierRun self.old self.new }
     {
         plan_laws();

@@ -39,10 +39,14 @@ returns-clause-offered c =
     }) c.steps_match_events.ensures.opened _ c.args.self.now c.reserve_claims.new.entries.items c.args.handed.now.pieces
     c.args.limits.now c.args.now.0 c.first_offer.result seen c.reserve_claims.ensures.same c.first_offer.ensures
 
-pub returns-clause-claim : goal.returns-clause-claim
-returns-clause-claim c =
+pub returns-clause-taken : goal.returns-clause-taken
+returns-clause-taken c =
     let seen = sees _ c.args.self.now c.self.invariant c.self.view_is in
-    grown_claim _ c.args.self.now c.reserve_claims.new.entries.items c.args.handed.now.pieces c.args.limits.now c.args.now
+    grown_claim (record {
+      sound = c.histories_are_sound.ensures;
+      accounts = c.accounts_match_events.ensures;
+      plans = record { of_pieces = c.plan_laws.ensures.of_pieces; numbered = c.plan_laws.ensures.numbered };
+    }) _ c.args.self.now c.reserve_claims.new.entries.items c.args.handed.now.pieces c.args.limits.now c.args.now
     c.first_offer.result seen c.reserve_claims.ensures.same c.requires.later
     (grown_offered (record {
       sound = c.histories_are_sound.ensures;
