@@ -13,4 +13,5 @@ pub mod MachineViews
 pub mod MachineParts
 pub mod Reads
 pub mod Openings
+pub mod DownloadWants
 pub mod TurnRooms

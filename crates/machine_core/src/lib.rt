@@ -13,6 +13,7 @@ mod machine;
 mod opening;
 mod rests;
 mod spares;
+mod wants;
 
 pub use calls::Call;
 pub use ends::End;
@@ -23,3 +24,4 @@ pub use laws::{
 };
 pub use machine::Machine;
 pub use std::alloc::AllocError as NoMemory;
+pub use wants::wants_stay;
