@@ -1,40 +1,21 @@
 -- The names on a disk that a download writes (aria2 manual, "Resuming Download").
-use Rattle.std.specs.Prelude.{◌≡◌, ◌⊎◌, ℕ, ◌++◌, Option, Some, None, Ok, List, [], ◌∷◌, codes, Any}
+use Rattle.std.specs.Prelude.{◌≡◌, ◌⊎◌, ℕ, ◌++◌, Option, Some, None, List, [], ◌∷◌, codes, Any}
 use Rattle.std.specs.Option.{unwrap_or}
 use Rattle.option_set.specs.Values.{text_of_word}
 use Rattle.option_set.specs.declared.kinds.Word.TheVariants.{Dir, Out}
 use Rattle.payload_files.specs.Names.{name_of}
-use Rattle.percent_encoding.specs.Percent.{percent_decode}
-use Rattle.span_map.specs.Paths.{IsValidPart}
-use Rattle.span_map.specs.declared.paths.TheConstants.{SLASH}
-use Rattle.url.specs.Parser.{parse_url}
-use Rattle.url.specs.Parts.{Parts}
+use Rattle.url_names.specs.UrlNames.{IsNameOfUrl}
 use Rattle.machine_core.specs.Starts.{Download, Subject, Listed, Unlisted}
 
 -- the folder of the option, which has a default
 abbrev pub folder_in : Download → List ℕ
 folder_in download = unwrap_or (text_of_word download.options Dir) []
 
--- what stands behind the last slash of the URL's path, percent-decoded
-pub record IsLastSegment (uri segment : List ℕ) : Type 0 where
-  pub url : Parts
-  pub parsed : parse_url None uri ≡ Ok url
-  pub before : List ℕ
-  pub last : List ℕ
-  pub path : url.path ≡ before ++ SLASH ∷ last
-  pub no_slash : Any (λ byte. byte ≡ SLASH) last → ⊥
-  pub decoded : segment ≡ percent_decode last
-
--- a segment that may name a file does, and otherwise `index.html`
-abbrev pub IsNameBy : List ℕ → List ℕ → Type 0
-IsNameBy segment name =
-    (IsValidPart segment × (name ≡ segment)) ⊎ ((IsValidPart segment → ⊥) × (name ≡ codes "index.html"))
-
 -- the name of a download without a metainfo file: that of its option, or by the first URI
 abbrev pub IsUnlistedName : Option (List ℕ) → List (List ℕ) → List ℕ → Type 0
 IsUnlistedName (Some out) uris name = name ≡ out
 IsUnlistedName None [] name = ⊥
-IsUnlistedName None (uri ∷ uris) name = (segment : List ℕ) × IsLastSegment uri segment × IsNameBy segment name
+IsUnlistedName None (uri ∷ uris) name = IsNameOfUrl uri name
 
 -- the name of the payload's file, or of the folder of its files
 abbrev pub IsPayloadName : Download → Subject → List ℕ → Type 0

@@ -13,6 +13,7 @@ pub mod MachineViews
 pub mod MachineParts
 pub mod Reads
 pub mod Openings
+pub mod DownloadWants
 pub mod TurnRooms
 pub mod KeptOffers
 pub mod Claiming

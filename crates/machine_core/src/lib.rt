@@ -17,6 +17,7 @@ mod offers;
 mod opening;
 mod rests;
 mod spares;
+mod wants;
 
 pub use calls::Call;
 pub use ends::End;
@@ -29,3 +30,4 @@ pub use laws::{
 pub use machine::Machine;
 pub use offers::{Offer, Offered};
 pub use std::alloc::AllocError as NoMemory;
+pub use wants::wants_stay;

@@ -30,7 +30,7 @@ struct ToOpen {
 }
 
 // The metainfo file that an event adds a download of.
-fn meta_of(event: &Event) -> Option<&Meta>
+pub(crate) fn meta_of(event: &Event) -> Option<&Meta>
     ensures { option_copied result ≡ meta_of_event event.now }
 {
     match event {
@@ -43,7 +43,7 @@ fn meta_of(event: &Event) -> Option<&Meta>
 }
 
 // The plan of a metainfo file, or without one that of the length that a probe told.
-fn plan_with(meta: Option<&Meta>, piece_len: u32, told: Option<u64>) -> Option<Plan>
+pub(crate) fn plan_with(meta: Option<&Meta>, piece_len: u32, told: Option<u64>) -> Option<Plan>
     ensures found { IfSome result (λ plan.
         lengths_with (option_copied meta.entry) piece_len told ≡ Some (lengths_of_plan plan)) }
     ensures none { IfNone result ((lengths : PayloadLengths)

@@ -1,0 +1,7 @@
+//! The names of files by their URLs.
+#![tactic(auto)]
+
+mod names;
+
+pub use dl_kinds::NoMemory;
+pub use names::name_of_url;
