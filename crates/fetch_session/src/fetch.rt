@@ -159,8 +159,8 @@ impl Fetch {
         ensures lost { IfErr result (λ loss. lost_of self.new ≡ Some loss) }
         ensures known { IfErr result IsKnown }
         // A request for a URL that is no `http` URL is refused without a call of the link.
-        ensures refused { OnErr result ((url : List ℕ) → AsksNext self.old url
-            → (IsUsable url → ⊥) → link.new ≡ link.old) }
+        ensures refused { (url : List ℕ) → AsksNext self.old url → (IsUsable url → ⊥)
+            → link.new ≡ link.old }
 
         // Over mirrors in memory each request had one answer: the true reply, or a bad answer that is used then.
         ensures answered { IsTrue L.tells → (job : Job) (before used : List Stream) (handed : List ℕ)
@@ -235,8 +235,8 @@ impl Fetch {
             ↔ (got.ready.count ≡ (rest_of self.new).count)) }
         ensures lost { IfErr result (λ loss. lost_of self.new ≡ Some loss) }
         ensures known { IfErr result IsKnown }
-        ensures refused { OnErr result ((url : List ℕ) → AsksNext self.old url
-            → (IsUsable url → ⊥) → link.new ≡ link.old) }
+        ensures refused { (url : List ℕ) → AsksNext self.old url → (IsUsable url → ⊥)
+            → link.new ≡ link.old }
 
         ensures answered { IsTrue L.tells → (job : Job) (before used : List Stream) (handed : List ℕ)
             → IsFetch job used handed self.old → Gains before (L.state link.old).streams used

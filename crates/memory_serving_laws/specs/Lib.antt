@@ -1,3 +1,4 @@
+pub mod Alike
 pub mod Charges
 pub mod Laws
 pub mod Leads

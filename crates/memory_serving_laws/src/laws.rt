@@ -1,4 +1,5 @@
 // What comes by streams that gave the answers of mirrors in memory.
+ghost use Rattle.memory_serving_laws.specs.Alike.{AnswersKeepMirrors, LeadsAlike, LeadsAmongAlike, LeadsToSizeAlike};
 ghost use Rattle.memory_serving_laws.specs.Charges.{BadAnswersPay, OneIsNeverBoth};
 ghost use Rattle.memory_serving_laws.specs.Leads.{LeadsOnce, VisibleLocationsLead};
 ghost use Rattle.memory_serving_laws.specs.Sizes.{BadAnswersPayProbes, ServedSizeIsTold};
@@ -65,3 +66,11 @@ pub fn urls_lead_once()
     final_heads_are_one_and_stay();
     replies_are_read();
 }
+
+/// Mirrors keep what they hold, and where they hold the same, URLs lead to the same.
+pub fn mirrors_hold_alike()
+    ensures kept { AnswersKeepMirrors }
+    ensures leads { LeadsAlike }
+    ensures sizes { LeadsToSizeAlike }
+    ensures among { LeadsAmongAlike }
+{}

@@ -5,6 +5,6 @@
 mod laws;
 
 pub use laws::{
-    bad_answers_pay, clean_mirrors_stay, good_mirrors_serve, served_comes, served_sizes_are_told,
-    urls_lead_once,
+    bad_answers_pay, clean_mirrors_stay, good_mirrors_serve, mirrors_hold_alike, served_comes,
+    served_sizes_are_told, urls_lead_once,
 };

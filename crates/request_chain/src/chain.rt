@@ -332,7 +332,7 @@ impl Chain {
         ensures smaller { OnOk result (weight_of self.new + 3 * (allow - self.new.taken) < weight_of self.old + 3 * (allow - self.old.taken)) }
         ensures may { OnOk result (IsTrue L.tells → MayGoOn self.new (L.state link.new)) }
         ensures usable { OnOk result (IfUnusable self.old ⊥) }
-        ensures untouched { IfUnusable self.old (link.new ≡ link.old) }
+        ensures untouched { IfUnusable self.old ((link.new ≡ link.old) × (out.new ≡ out.old)) }
         ensures link { IfErr result (CountsLinkLoss (L.faults link.old) (L.faults link.new)) }
         ensures known { IfErr result IsKnown }
         ensures answered { IsTrue L.tells
@@ -394,7 +394,8 @@ impl Chain {
         ensures len { vec_len out.new ≤ vec_len out.old + room }
         ensures capacity { vec_capacity out.old ≤ vec_capacity out.new }
         // A request for a URL that is no `http` URL is refused without a call of the link.
-        ensures untouched { IfUnusable self.old (link.new ≡ link.old) }
+        ensures usable { OnOk result (IfUnusable self.old ⊥) }
+        ensures untouched { IfUnusable self.old ((link.new ≡ link.old) × (out.new ≡ out.old)) }
         ensures link { IfErr result (CountsLinkLoss (L.faults link.old) (L.faults link.new)) }
         ensures known { IfErr result IsKnown }
         ensures answered { IsTrue L.tells

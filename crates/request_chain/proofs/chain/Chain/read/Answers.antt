@@ -1,6 +1,7 @@
-use Rattle.std.proofs.Common.{◌++◌, List, ℕ, length, refl, ap, subst, ◌∙◌, arith, append_assoc, length-append, rules}
+use Rattle.std.proofs.Common.{◌++◌, List, ℕ, length, refl, ap, subst, ◌∙◌, arith, append_assoc, length-append, rules, inl, inr}
 use Rattle.std.proofs.lemmas.Result.{err_from_is_err_and}
 use Rattle.request_chain.specs.Chains.{IsChain}
+use Rattle.request_chain.specs.Courses.{AsksAt}
 use Rattle.request_chain.proofs.CallLemmas.{steps_lose, unchecked_loses, call_reads}
 use Rattle.request_chain.proofs.ReadingLemmas.{reading_brought}
 use Rattle.request_chain.proofs.chain.Chain.read.Goals as goal
@@ -68,17 +69,31 @@ turns-preserved g c = record {
       (c.turns.invariant.answered told parts before used bytes is gains old were);
   untouched = λ url asks unusable.
       let was = c.turns.invariant.untouched url asks unusable in
-      absurd (c.in_ok-turn.ensures.usable url was.1 unusable);
+      absurd (c.in_ok-turn.ensures.usable url was.2 unusable);
   may = c.in_ok-turn.ensures.may;
 }
 
 pub returns-in_err-turn-clause-untouched : goal.returns-in_err-turn-clause-untouched
 returns-in_err-turn-clause-untouched g c url asks unusable =
     let was = c.turns.invariant.untouched url asks unusable in
-    c.turn.ensures.untouched url was.1 unusable ∙ was.0
+    let now = c.turn.ensures.untouched url was.2 unusable in
+    (now.0 ∙ was.0, now.1 ∙ was.1)
 
 pub returns-in_err-check-clause-untouched : goal.returns-in_err-check-clause-untouched
-returns-in_err-check-clause-untouched g c url asks unusable = (c.turns.invariant.untouched url asks unusable).0
+returns-in_err-check-clause-untouched g c url asks unusable =
+    let was = c.turns.invariant.untouched url asks unusable in
+    (was.0, was.1)
 
 pub returns-clause-untouched : goal.returns-clause-untouched
-returns-clause-untouched g c url asks unusable = (c.turns.invariant.untouched url asks unusable).0
+returns-clause-untouched g c url asks unusable =
+    let was = c.turns.invariant.untouched url asks unusable in
+    (was.0, was.1)
+
+pub returns-clause-usable : goal.returns-clause-usable
+returns-clause-usable g c url asks unusable =
+    let was = c.turns.invariant.untouched url asks unusable in
+    elim (c.goes_on.ensures.off c.turns-test.false) [
+      | inl over ↦ subst (λ plan. AsksAt plan url) over was.2.1
+      | inr (inl full) ↦ omega (arith, full, was.3, c.requires.some_room)
+      | inr (inr all) ↦ omega (arith, all.0, was.4, c.requires.some)
+    ]

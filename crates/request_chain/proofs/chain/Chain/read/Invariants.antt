@@ -20,7 +20,8 @@ invariant-turns g l = record {
   answered : IsTrue g.L.Links.tells → (parts : List JobPart) (before used : List Stream) (bytes : List ℕ)
       → IsChain parts used bytes l.fn.self → Gains before (g.L.Links.state l.initial.link).streams used
       → KeepsAnswers before (g.L.Links.state l.initial.link) (g.L.Links.state l.link);
-  untouched : (url : List ℕ) → AsksFor l.fn.self url → (IsUsable url → ⊥) → (l.link ≡ l.initial.link) × AsksFor l.self url;
+  untouched : (url : List ℕ) → AsksFor l.fn.self url → (IsUsable url → ⊥)
+      → (l.link ≡ l.initial.link) × (l.out ≡ l.initial.out) × AsksFor l.self url × (l.gained ≡ 0) × (l.self.taken ≡ 0);
   may : IsTrue g.L.Links.tells → MayGoOn l.self (g.L.Links.state l.link);
 }
 
