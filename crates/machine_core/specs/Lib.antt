@@ -2,14 +2,17 @@ pub mod Starts
 pub mod Replays
 pub mod OwnParts
 pub mod LawfulCalls
+pub mod Answers
 pub mod FileNames
 pub mod Wanted
 pub mod Choices
 pub mod Offers
 pub mod RunLegal
 pub mod WorkedRuns
+pub mod WorkedAnswers
 pub mod Journals
 pub mod MachineViews
 pub mod MachineParts
+pub mod CallParts
 pub mod Reads
 pub mod TurnRooms
