@@ -30,12 +30,12 @@ use Rattle.machine_core.proofs.Steps.{IsAt}
 
 -- ---- a download by its gid
 
-place_same : (gid : Gid) (ds : List Download)
+pub place_same : (gid : Gid) (ds : List Download)
     → added_place gid (map added_as ds) ≡ position_or_len (is_download gid) ds
 place_same gid [] = refl
 place_same gid (d ∷ ds) = rw (place_same gid ds) refl
 
-length_added : (ds : List Download) → length (map added_as ds) ≡ length ds
+pub length_added : (ds : List Download) → length (map added_as ds) ≡ length ds
 length_added [] = refl
 length_added (d ∷ ds) = rw (length_added ds) refl
 

@@ -16,13 +16,10 @@ use Rattle.dl_queue.specs.Rising.{moved_up, risen}
 use Rattle.dl_queue.specs.declared.kinds.Ending.{Ending}
 use Rattle.dl_queue.specs.declared.kinds.QueueErr.{QueueErr}
 use Rattle.dl_queue.specs.declared.kinds.Queued.{Queued}
+use Rattle.machine_core.specs.CallParts.{has_active}
 use Rattle.machine_core.specs.Replays.{is_same_gid}
 use Rattle.machine_core.proofs.Lists.{found}
 use Rattle.machine_core.proofs.Parts.{gid_is}
-
--- it is active
-abbrev pub has_active : QueueLists → Gid → Bool
-has_active queue gid = list_any (is_same_gid gid) queue.active
 
 abbrev pub StayActive : QueueLists → QueueLists → Type 0
 StayActive old new = (gid : Gid) → has_active old gid ≡ true → has_active new gid ≡ true
@@ -156,7 +153,7 @@ none_active queue =
 -- ---- what was added
 
 -- an end adds none
-stopped_added : (st : Option Status) (gid : Gid) (how : Ending) (queue : QueueLists)
+pub stopped_added : (st : Option Status) (gid : Gid) (how : Ending) (queue : QueueLists)
     → (stopped_from st gid how queue).added ≡ queue.added
 stopped_added None gid how queue = refl
 stopped_added (Some status.Active) gid how queue = refl

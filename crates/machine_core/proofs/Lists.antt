@@ -89,10 +89,10 @@ find_same p q (x ∷ xs) same = find_step p q x xs (same x) (find_same p q xs sa
 
 -- ---- what a filter keeps
 
-front : {A : Type 0} (y : A) (ys : List A) (x : A) → y ≡ x → Contains (y ∷ ys) x
+pub front : {A : Type 0} (y : A) (ys : List A) (x : A) → y ≡ x → Contains (y ∷ ys) x
 front y ys x is = (0, omega arith, is)
 
-behind : {A : Type 0} (y : A) (ys : List A) (x : A) → Contains ys x → Contains (y ∷ ys) x
+pub behind : {A : Type 0} (y : A) (ys : List A) (x : A) → Contains ys x → Contains (y ∷ ys) x
 behind y ys x there = (suc there.0, (let w = there.1 in omega arith), there.2)
 
 pub contains_cases : {A : Type 0} (y : A) (ys : List A) (x : A) → Contains (y ∷ ys) x → (y ≡ x) ⊎ Contains ys x

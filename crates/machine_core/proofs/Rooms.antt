@@ -34,7 +34,7 @@ one_download ds gid at d y apart there d_is has passes =
     let same : has.0 ≡ at = apart has.0 at y d y_there there (gid_is gid y.gid passes ∙ sym d_is) in
     same_Some y d (sym y_there ∙ (ap (slice_get ds) same ∙ there))
 
-place_is : (ds : List Download) (gid : Gid) (at : ℕ) (d : Download) → HaveOwnGids ds → slice_get ds at ≡ Some d
+pub place_is : (ds : List Download) (gid : Gid) (at : ℕ) (d : Download) → HaveOwnGids ds → slice_get ds at ≡ Some d
     → d.gid ≡ gid → position_or_len (is_download gid) ds ≡ at
 place_is ds gid at d apart there d_is =
     let has : Contains ds d =
@@ -56,7 +56,7 @@ elsewhere ds other gid at d is there d_is =
 abbrev spare_of : Entry → ℕ
 spare_of x = x.state.mark_spare
 
-read_spare : (xs : List Entry) (at : ℕ) (x : Entry) → slice_get xs at ≡ Some x
+pub read_spare : (xs : List Entry) (at : ℕ) (x : Entry) → slice_get xs at ≡ Some x
     → slice_index_or (map spare_of xs) at 0 ≡ x.state.mark_spare
 read_spare xs at x there =
     get_or_from_slice_get (map spare_of xs) at (spare_of x) 0

@@ -48,7 +48,7 @@ same_lengths start past gid other e lengths told is =
     (with_own other gid e (own_of start past gid))
     (told_where (is_same_gid gid other) (own_of start past gid) e told) ∙ is
 
-halted_told : (t : Bool) (own : List OwnEvent) → told_total (halted_where t own) ≡ told_total own
+pub halted_told : (t : Bool) (own : List OwnEvent) → told_total (halted_where t own) ≡ told_total own
 halted_told true own = refl
 halted_told false own = refl
 

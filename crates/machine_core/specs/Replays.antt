@@ -21,6 +21,7 @@ use Rattle.machine_core.specs.declared.ends.End.{End}
 use Rattle.machine_core.specs.declared.ends.End.TheVariants as end
 use Rattle.machine_core.specs.declared.events.Event.{Event}
 use Rattle.machine_core.specs.declared.events.Event.TheVariants.{Called, Ended}
+use Rattle.machine_core.specs.declared.gids.TheConstants.{GID_STEP}
 
 pub record Replay : Type 0 where
   pub queue : QueueLists
@@ -69,12 +70,8 @@ is_download gid download = is_same_gid gid download.gid
 abbrev pub download_of : List Download → Gid → Option Download
 download_of downloads gid = find (is_download gid) downloads
 
--- what is added from one number of a gid to the next: 2 ^ 64 divided by the golden ratio
-abbrev pub gid_step : ℕ
-gid_step = 11400714819323198485
-
 abbrev pub gid_number : ℕ → ℕ → ℕ
-gid_number gids place = (gids + place * gid_step) % 2 ^ 64
+gid_number gids place = (gids + place * GID_STEP) % 2 ^ 64
 
 abbrev pub is_free_number : List Download → ℕ → Bool
 is_free_number downloads number =

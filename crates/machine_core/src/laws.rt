@@ -1,5 +1,6 @@
 // What holds of every legal history of a run.
 ghost use Rattle.machine_core.specs.RunLegal.{DownloadsAreLegal, DownloadsStay, KnownAreIdle, LengthsStay};
+ghost use Rattle.machine_core.specs.WorkedAnswers.{WorkedAnswers};
 ghost use Rattle.machine_core.specs.WorkedRuns.{WorkedRuns};
 
 use dl_history::{accounts_match_events, histories_are_sound};
@@ -37,4 +38,9 @@ pub fn downloads_stay()
 /// What the definitions say of the worked runs.
 pub fn worked_runs_are_told()
     ensures { WorkedRuns }
+{}
+
+/// What the definitions say of the answers of calls in worked runs.
+pub fn worked_answers_are_told()
+    ensures { WorkedAnswers }
 {}

@@ -2,30 +2,41 @@
 //! machine that keeps it.
 #![tactic(auto)]
 
+mod adding;
+mod applied;
+mod calling;
 mod calls;
+mod changes;
 mod choosing;
 mod claiming;
 mod ends;
 mod entries;
 mod events;
+mod gids;
 mod halts;
 mod handed;
 mod journal;
+mod keyed;
 mod laws;
 mod machine;
 mod offers;
 mod opening;
+mod pausing;
+mod plain;
 mod rests;
 mod spares;
 mod wants;
 
+pub use applied::Applied;
 pub use calls::Call;
 pub use ends::End;
 pub use events::Event;
+pub use gids::GID_STEP;
 pub use handed::{Handed, HandedPieces};
 pub use journal::{Journal, MAX_BEFORE_TURN, MAX_EVENTS, TURN_EVENTS};
 pub use laws::{
-    downloads_are_legal, downloads_stay, known_downloads_are_idle, worked_runs_are_told,
+    downloads_are_legal, downloads_stay, known_downloads_are_idle, worked_answers_are_told,
+    worked_runs_are_told,
 };
 pub use machine::Machine;
 pub use offers::{Offer, Offered};

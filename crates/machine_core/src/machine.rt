@@ -1,23 +1,27 @@
 // The state of a run.
-ghost use Rattle.std.specs.Prelude.{◌≡◌, ◌≤◌, ◌↔◌, [], false, length, reverse, IfNone, IfOk, IfSome, MatchBool, None, OnOk, option_copied, slice_get, true};
+ghost use Rattle.std.specs.Prelude.{◌≡◌, ◌≤◌, ◌↔◌, [], false, length, reverse, IfNone, IfOk, IfSome, MatchBool, None, OnErr, OnOk, option_copied, slice_get, true};
 ghost use Rattle.std.specs.Option.{option_map};
 ghost use Rattle.dl_history.specs.PayloadParts.{is_opened};
+ghost use Rattle.dl_kinds.specs.declared.gid.Gid.{Gid};
+ghost use Rattle.machine_core.specs.Answers.{applied_by};
 ghost use Rattle.machine_core.specs.Choices.{options_now};
 ghost use Rattle.dl_queue.specs.Places.{status_of};
 ghost use Rattle.machine_core.specs.Replays.{queue_in};
 ghost use Rattle.machine_core.specs.OwnParts.{own_of};
+ghost use Rattle.machine_core.specs.LawfulCalls.{IsLawful};
 ghost use Rattle.machine_core.specs.MachineViews.{Appends, HasMarkRoomAt, IsFindingOf, IsLandingOf, IsLossOfClaim, IsNext, IsPlaceOf, IsSizingBy, StandsNowhere, StandsSomewhere, StandsUnder, IsFirstOpen, account_of_gid, is_added_in, UsesMarkRoomAt, UsesMarkRoomOf, UsesRoom, mark_spare_in};
 ghost use Rattle.machine_core.specs.Reads.{HasNoDeadMark, IsPieceOfGid, IsAdding, IsAllSaved, IsDeadPiece, IsOpenedGid, IsPieceUnlisted, downloads_in, is_finished_in};
-ghost use Rattle.machine_core.specs.RunLegal.{IsLegal, MayFollow, doors_left, download_in};
+ghost use Rattle.machine_core.specs.RunLegal.{IsLaterThan, IsLegal, MayFollow, doors_left, download_in};
 ghost use Rattle.machine_core.specs.TurnRooms.{HasTurnMarkRoom, IsRoomierRun};
 ghost use Rattle.machine_core.specs.declared.events.Event.TheVariants as event;
 ghost use Rattle.machine_core.specs.declared.journal.TheConstants.{MAX_BEFORE_TURN, TURN_EVENTS};
 
+use crate::calling::apply;
 use crate::entries::Entry;
 use crate::halts::halt_all;
 use crate::rests::is_at_rest;
 use crate::spares::reserve_marks;
-use crate::{End, Event, Journal, MAX_BEFORE_TURN, TURN_EVENTS};
+use crate::{Applied, Call, End, Event, Journal, MAX_BEFORE_TURN, TURN_EVENTS};
 use dl_history::{accounts_match_events, histories_are_sound, unopened_accounts_are_alike};
 use dl_kinds::{Claim, Gid, Mark, Moment, Run, Status, plan_laws};
 use dl_queue::{ActiveGids, Queue};
@@ -144,6 +148,44 @@ impl Machine {
         let place = self.place(gid)?;
         let claim = self.entries[place].state.claim(id)?;
         Some((gid, claim))
+    }
+
+    /// A call comes, of a console session or the command line. A refused one changes nothing but the history. Those that
+    /// ask change nothing either: their replies are read off the run before them. A download that is paused or removed
+    /// while it is active loses its claims, as all do at a Shutdown, and with them what these gave of pieces that one
+    /// mirror is to give whole. Want of memory also comes where the run has had the most events. After an Err all is as
+    /// before, but for room.
+    pub fn apply_call(
+        &mut self,
+        alloc: Global,
+        session: u32,
+        call: Call,
+        now: Moment,
+    ) -> Result<Applied, AllocError>
+        requires lawful { IsLawful call }
+        requires later { IsLaterThan self.old.past now }
+        ensures event { OnOk result (Appends self.old self.new
+            (λ e. e ≡ event.Called session call now)) }
+        ensures answer { IfOk result (λ applied.
+            applied ≡ applied_by self.old.start self.old.past call) }
+        ensures same { OnErr result (IsRoomierRun self.old self.new) }
+        ensures room { self.old.spare ≤ self.new.spare }
+        ensures mark_room { (gid : Gid) → mark_spare_in self.old gid ≤ mark_spare_in self.new gid }
+    {
+        let place = self.journal.len() as usize;
+        self.journal.reserve_one()?;
+        let applied = apply(
+            alloc,
+            self.gids,
+            place,
+            &mut self.queue,
+            &mut self.entries,
+            &mut self.global,
+            &mut self.shut,
+            &call,
+        )?;
+        self.journal.add(Event::Called { session, call, now });
+        Ok(applied)
     }
 
     /// Blocks of a claim that stands come, all of them open in it.
