@@ -2,6 +2,7 @@
 use Rattle.std.proofs.Common.{◌≡◌, inl, inr, ℕ, ◌+◌, ◌-◌, ◌*◌, ◌<◌, ◌≤◌, ◌^◌, Bool, true, false, cond, List, [], ◌∷◌, ◌++◌, append_assoc, length, length-append, drop, refl, ap, sym, subst, ◌∙◌, arith}
 use Rattle.std.proofs.lemmas.Bool.{cases_lt, cond-true, cond-false, le-ltb, lt-ltb, leb-false, true≢false}
 use Rattle.std.proofs.lemmas.List.{append_cancel_right}
+use Rattle.std.proofs.lemmas.List.Sums.{sum_by-append}
 use Rattle.std.proofs.lemmas.List.Elements.{All-nil, All-cons, All-head, All-tail}
 use Rattle.std.specs.Prelude.{All, Option, Some, None, nat_le, nat_lt}
 use Rattle.link_source.specs.Endpoint.{host_value}
@@ -25,10 +26,12 @@ use Rattle.reply_reader.specs.Slices.{goes_wrong, has_come}
 use Rattle.reply_reader.specs.declared.loss.Loss.{Loss}
 use Rattle.reply_reader.specs.declared.loss.Loss.TheVariants as losses
 use Rattle.request_chain.specs.Answered.{Gave, GaveAll, IsAnswered}
-use Rattle.request_chain.specs.Bounds.{RequestsReceive, RequestsReceiveLittle, redirected, request_most}
-use Rattle.request_chain.specs.Chains.{Gains}
+use Rattle.request_chain.specs.Bounds.{ProbesReceiveLittle, RequestsReceive, RequestsReceiveLittle, redirected, request_most}
+use Rattle.request_chain.specs.Chains.{Gains, received_by}
 use Rattle.request_chain.specs.Exchanges.{IsExchange, Replies, request_for}
 use Rattle.request_chain.specs.Plans.{NextAsk, Ask, Over, Lost as Gone, plan_of, plan_at, plan_behind, asked_of, next_plan, rest_behind}
+use Rattle.request_chain.specs.Probes as probes
+use Rattle.request_chain.specs.Probes.{Probe, ProbeReplies, ProbedBy, Search, next_search, probe_asked, probe_by, search_at, told_by}
 use Rattle.request_chain.specs.Received.{IsReadNoFurther, ReceivesLittle}
 use Rattle.request_chain.specs.Redirects.{moved_to, redirect_limit}
 use Rattle.request_chain.proofs.AnsweredLemmas.{fresh_little}
@@ -265,3 +268,92 @@ module _ (one : HasOneFinalHead) (stays : FinalHeadStays) (once : AsksOnce) (fil
   pub requests_receive_little : RequestsReceiveLittle
   requests_receive_little old before link gained parts answered gains are small =
       receives (plan_of parts) 0 gained (plan-bound parts are small) (gained-little nothing old before link gained answered gains)
+
+-- ---- a probe
+
+probe-due : {A : Type 0} (ended : Bool) (status : ℕ) (location : List ℕ) → cond ended (probes.Lost (losses.Short 0)) probes.Due ≡ probes.Away status location → A
+probe-due true status location is = absurd (cc is)
+probe-due false status location is = absurd (cc is)
+
+told-away : {A : Type 0} (told : ℕ) (total : Option ℕ) (status : ℕ) (location : List ℕ) → told_by told total ≡ probes.Away status location → A
+told-away told None status location is = absurd (cc is)
+told-away told (Some total) status location is = absurd (cc is)
+
+probe-away : (head : Head) (verdict : Verdict) (status : ℕ) (location : List ℕ) → probe_by head verdict ≡ probes.Away status location → verdict ≡ Moved
+probe-away head (Part last total framing) status location is = told-away head.status total status location is
+probe-away head (Whole total framing) status location is = told-away head.status total status location is
+probe-away head Empty status location is = absurd (cc is)
+probe-away head (WrongLength told) status location is = absurd (cc is)
+probe-away head Moved status location is = refl
+probe-away head NotFound status location is = absurd (cc is)
+probe-away head (Refused code) status location is = absurd (cc is)
+
+module _ (one : HasOneFinalHead) (stays : FinalHeadStays) (once : AsksOnce) (nothing : NothingIsNoHead) where
+  -- how much came by a probe's request, and by one that leads elsewhere
+  probe-most : (url : List ℕ) (stream : Stream) (told : Probe) → ReceivesLittle stream → ProbeReplies url stream told
+      → length stream.received ≤ heads_most + 261 + lines_most + MOST_RECEIVED
+  probe-most url stream told (inl near) replies = omega (arith, near.few)
+  probe-most url stream told (inr far) (inl dialled) = omega (arith, ap (λ (s : Stream). length s.received) dialled.0.is)
+  probe-most url stream told (inr far) (inr asking) =
+      let last = same-last once url far.url probe_asked far.asked stream asking.0 far.exchange (omega arith) (omega arith) far.ordered far.bounded in
+      omega (arith, last, far.short, far.buffer, ap length far.received_is, length-append far.front far.behind)
+
+  probe-away-most : (url : List ℕ) (stream : Stream) (told : Probe) (status : ℕ) (location : List ℕ) → ReceivesLittle stream → ProbeReplies url stream told
+      → told ≡ probes.Away status location → length stream.received ≤ heads_most
+  probe-away-most url stream told status location (inl near) replies is = near.few
+  probe-away-most url stream told status location (inr far) (inl dialled) is =
+      let both : probes.Due ≡ probes.Away status location = sym dialled.1 ∙ is in
+      absurd (cc both)
+  probe-away-most url stream told status location (inr far) (inr asking) is = elim asking.1 [
+    | inl (due, same) ↦ probe-due stream.ended status location (sym same ∙ is)
+    | inr (inl (none, same)) ↦
+        let both : probes.Lost losses.BadReply ≡ probes.Away status location = sym same ∙ is in
+        absurd (cc both)
+    | inr (inr (head, used, headed, same)) ↦
+        let P : List ℕ → Type 0 = λ received. HasFinalHead received far.head far.used in
+        let begins = subst P (sym far.received_is) (stays far.front far.behind far.head far.used far.begins) in
+        let heads : head ≡ far.head = (one stream.received head far.head used far.used headed begins).0 in
+        let moved : verdict_of head probe_asked ≡ Moved = probe-away head (verdict_of head probe_asked) status location (sym same ∙ is) in
+        absurd (true≢false (sym (moved_test far.head probe_asked (ap (λ h. verdict_of h probe_asked) (sym heads) ∙ moved)) ∙ far.here))
+  ]
+
+  -- behind this, where so much came before
+  abbrev Within : Search → ℕ → Type 0
+  Within (probes.Found probe) came = came ≤ request_most probe_asked
+  Within (probes.At url count status) came = (count ≤ redirect_limit) × (came ≤ heads_most * count)
+
+  at-within : (next : Option (List ℕ)) (count status came : ℕ) → count < redirect_limit → came ≤ heads_most * (count + 1) → Within (search_at next (count + 1) status) came
+  at-within None count status came few less = omega (arith, few, less)
+  at-within (Some next) count status came few less = (omega (arith, few), less)
+
+  away-within : (often : Bool) (url : List ℕ) (count status came : ℕ) (location : List ℕ) → nat_le redirect_limit count ≡ often → count ≤ redirect_limit
+      → came ≤ heads_most * (count + 1)
+      → Within (cond often (probes.Found (probes.Lost losses.Redirects)) (search_at (moved_to url location) (count + 1) status)) came
+  away-within true url count status came location is few less = omega (arith, few, less)
+  away-within false url count status came location is few less = at-within (moved_to url location) count status came (leb-false redirect_limit count is) less
+
+  next-within : (url : List ℕ) (count came : ℕ) (stream : Stream) (told : Probe) → count ≤ redirect_limit → came ≤ heads_most * count → ReceivesLittle stream
+      → ProbeReplies url stream told → (probe : Probe) → told ≡ probe → Within (next_search url count probe) (came + length stream.received)
+  next-within url count came stream told few less little replies probes.Due is =
+      let most = probe-most url stream told little replies in omega (arith, most, few, less)
+  next-within url count came stream told few less little replies (probes.Told total) is =
+      let most = probe-most url stream told little replies in omega (arith, most, few, less)
+  next-within url count came stream told few less little replies (probes.Away status location) is =
+      let most = probe-away-most url stream told status location little replies is in
+      away-within (nat_le redirect_limit count) url count status (came + length stream.received) location refl few (omega (arith, most, less))
+  next-within url count came stream told few less little replies (probes.Lost loss) is =
+      let most = probe-most url stream told little replies in omega (arith, most, few, less)
+
+  probe-receives : (search : Search) (came : ℕ) (streams : List Stream) (probe : Probe) → Within search came → All ReceivesLittle streams → ProbedBy search streams probe
+      → came + received_by streams ≤ request_most probe_asked
+  probe-receives (probes.Found told) came streams probe within little (same, none) = omega (arith, within, ap received_by none)
+  probe-receives (probes.At url count status) came [] probe within little stands = omega (arith, within.0, within.1)
+  probe-receives (probes.At url count status) came (stream ∷ streams) probe within little (told, replies, probed) =
+      let next = next-within url count came stream told within.0 within.1 (All-head ReceivesLittle stream streams little) replies told refl in
+      let rest = probe-receives (next_search url count told) (came + length stream.received) streams probe next (All-tail ReceivesLittle stream streams little) probed in
+      omega (arith, rest, sum_by-append (λ (s : Stream). length s.received) (stream ∷ []) streams)
+
+  pub probes_receive_little : ProbesReceiveLittle
+  probes_receive_little old before link gained url probe answered gains probed =
+      let all = probe-receives (probes.At url 0 0) 0 gained probe (omega arith, omega arith) (gained-little nothing old before link gained answered gains) probed in
+      omega (arith, all)

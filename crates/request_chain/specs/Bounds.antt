@@ -8,9 +8,10 @@ use Rattle.link_source.specs.declared.streams.TheConstants.{MOST_RECEIVED}
 use Rattle.reply_reader.specs.Answers.{Answer, Turn, Due, Given, Away, Lost}
 use Rattle.reply_reader.specs.Sizes.{heads_most, lines_most}
 use Rattle.request_chain.specs.Answered.{IsAnswered}
-use Rattle.request_chain.specs.Chains.{Gains}
+use Rattle.request_chain.specs.Chains.{Gains, received_by}
 use Rattle.request_chain.specs.Exchanges.{Replies}
 use Rattle.request_chain.specs.Plans.{NextAsk, Ask, Over, plan_of, asked_of, next_plan}
+use Rattle.request_chain.specs.Probes.{Probe, Probed, probe_asked}
 use Rattle.request_chain.specs.Redirects.{redirect_limit}
 use Rattle.span_map.specs.Jobs.{IsJobPart}
 use Rattle.span_map.specs.declared.jobs.JobPart.{JobPart}
@@ -41,3 +42,9 @@ abbrev pub RequestsReceiveLittle : Type 0
 RequestsReceiveLittle = (old : Content) (before : List Stream) (link : LinkState) (gained : List Stream) (parts : List JobPart)
     → IsAnswered old before link → Gains before link.streams gained
     → All IsJobPart parts → All (λ part. part.total < 2 ^ 64) parts → RequestsReceive (plan_of parts) 0 gained
+
+-- and so do those of a probe with its redirects
+abbrev pub ProbesReceiveLittle : Type 0
+ProbesReceiveLittle = (old : Content) (before : List Stream) (link : LinkState) (gained : List Stream) (url : List ℕ) (probe : Probe)
+    → IsAnswered old before link → Gains before link.streams gained → Probed url gained probe
+    → received_by gained ≤ request_most probe_asked

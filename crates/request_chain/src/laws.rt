@@ -1,5 +1,5 @@
 // What streams tell of the parts that were asked for.
-ghost use Rattle.request_chain.specs.Bounds.{RequestsReceiveLittle};
+ghost use Rattle.request_chain.specs.Bounds.{ProbesReceiveLittle, RequestsReceiveLittle};
 ghost use Rattle.request_chain.specs.Fetched.{FetchedIsOne};
 
 use link_source::requests_are_read_once;
@@ -18,7 +18,8 @@ pub fn fetched_is_one()
 /// For one request with its redirects a link gives no more than its replies may have up to the last byte that was asked
 /// for, and one buffer.
 pub fn requests_receive_little()
-    ensures { RequestsReceiveLittle }
+    ensures requests { RequestsReceiveLittle }
+    ensures probes { ProbesReceiveLittle }
 {
     answers_fill_what_is_asked();
     final_heads_are_one_and_stay();

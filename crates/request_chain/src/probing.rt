@@ -108,8 +108,8 @@ fn receive<L: Links>(
     ensures some { IfOk result (λ count. (0 < count) × (count ≤ most)) }
     ensures listens { IsTrue L.tells → (L.state link.new).listens ≡ true }
     ensures answered { IsTrue L.tells → (url : List ℕ) (others before : List Stream)
-        → Awaits url others (L.state link.old).streams most [] reader.now → length before ≤ length others
-        → KeepsAnswers before (L.state link.old) (L.state link.new) }
+        → Awaits url others (L.state link.old).streams most [] reader.now
+        → length before ≤ length others → KeepsAnswers before (L.state link.old) (L.state link.new) }
     ensures link { IfErr result (CountsLinkLoss (L.faults link.old) (L.faults link.new)) }
     ensures known { IfErr result IsKnown }
     ensures later { L.faults link.old ≤ L.faults link.new }

@@ -3,6 +3,7 @@ ghost use Rattle.std.specs.Prelude.{◌≡◌, ◌⊎◌, ◌↔◌, ◌<◌, �
 ghost use Rattle.link_source.specs.declared.streams.TheConstants.{MOST_RECEIVED};
 ghost use Rattle.reply_reader.specs.Losses.{IsKnown};
 ghost use Rattle.reply_reader.specs.declared.loss.Loss.TheVariants.{BadReply, NoMemory};
+ghost use Rattle.request_chain.specs.declared.content.Content.{Content};
 ghost use Rattle.request_chain.specs.Stages.{FitsHead, IsDueAt, IsNoHeadAt, got_at};
 
 use crate::content::Content;
@@ -40,6 +41,8 @@ impl Stage {
         ensures some { 0 < result }
         ensures few { result ≤ MOST_RECEIVED }
         ensures head { FitsHead self.now result }
+        ensures content { (content : Content) → self.now ≡ Stage.Content content
+            → result ≡ MOST_RECEIVED }
     {
         match self {
             Stage::Head(reader) => reader.most_asked(),
