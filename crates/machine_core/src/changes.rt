@@ -74,6 +74,7 @@ pub(crate) fn change_option(
             let changed = with_settings(alloc, &entries[place].options, settings)?;
             entries[place].options = changed;
         }
+        // Never comes: a download in the lists was added.
         None => {}
     }
     Ok(Applied::Fine)

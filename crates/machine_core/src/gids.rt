@@ -62,6 +62,7 @@ pub(crate) fn added_count(entries: &Vec<Entry>) -> usize
     ensures value { result ≡ length entries.now.items }
     ensures few { result < 2 ^ 62 }
 {
+    // The length of a slice is known to be bounded by its elements' size.
     let added = entries.as_slice();
     added.len()
 }

@@ -1,6 +1,6 @@
 // Calls by which downloads leave the active list, so that their claims end.
-ghost use Rattle.std.specs.Prelude.{◌≡◌, ◌&&◌, length, not, true};
-ghost use Rattle.dl_queue.specs.Calls.{QueueCall, after, was_added};
+ghost use Rattle.std.specs.Prelude.{◌≡◌, ◌&&◌, not};
+ghost use Rattle.dl_queue.specs.Calls.{QueueCall, after};
 ghost use Rattle.machine_core.specs.Answers.{call_answer, keyed_answer};
 ghost use Rattle.machine_core.specs.CallParts.{AreHaltedWhere, StandInOrder, has_active, leaves_active, queue_keyed};
 ghost use Rattle.machine_core.specs.Replays.{is_same_gid, keyed_gid};
@@ -33,6 +33,7 @@ fn halt_if_left(queue: &Queue, entries: &mut Vec<Entry>, gid: Gid, was_active: b
     }
     match queue.adding_place(gid) {
         Some(place) => entries[place].state.halted(false),
+        // Never comes: an active download was added.
         None => {}
     }
 }
