@@ -1,5 +1,5 @@
 // What happened in a run.
-ghost use Rattle.std.specs.Prelude.{◌≡◌, ◌<◌, ◌≤◌, ◌-◌, ◌∷◌, ◌++◌, [], length, OnOk, OnErr, option_copied, slice_get, vec_len, vec_capacity};
+ghost use Rattle.std.specs.Prelude.{◌≡◌, ◌<◌, ◌≤◌, ◌+◌, ◌-◌, ◌∷◌, ◌++◌, [], length, OnOk, OnErr, option_copied, slice_get, vec_len, vec_capacity};
 ghost use Rattle.machine_core.specs.KeptOffers.{is_torrent_at};
 ghost use Rattle.machine_core.specs.declared.journal.TheConstants.{MAX_EVENTS};
 
@@ -19,7 +19,10 @@ pub const MAX_BEFORE_TURN: u32 = 4_294_800_000;
 #[derive(Debug, Drop)]
 pub struct Journal {
     events: Vec<Event>,
-    ghost few: { vec_len events ≤ MAX_EVENTS },
+    // For so many more events room was asked. Memory is taken in larger parts.
+    room: usize,
+    ghost few: { vec_len events + room ≤ MAX_EVENTS },
+    ghost fits: { vec_len events + room ≤ vec_capacity events },
 }
 
 impl Journal {
@@ -30,6 +33,7 @@ impl Journal {
     {
         Journal {
             events: Vec::new(alloc),
+            room: 0,
         }
     }
 
@@ -80,7 +84,21 @@ impl Journal {
         if more > MAX_EVENTS - self.events.len() {
             return Err(AllocError);
         }
-        self.events.reserve(more)
+        self.events.reserve(more)?;
+        self.room = self.room.max(more);
+        Ok(())
+    }
+
+    /// Makes room for one event more than there is room for. Want of memory also comes where these would be too many.
+    pub(crate) fn reserve_one(&mut self) -> Result<(), AllocError>
+        ensures same { self.new.events.items ≡ self.old.events.items }
+        ensures ok { OnOk result (room_in self.old + 1 ≤ room_in self.new) }
+        ensures room { room_in self.old ≤ room_in self.new }
+    {
+        if self.room >= MAX_EVENTS - self.events.len() {
+            return Err(AllocError);
+        }
+        self.reserve(self.room + 1)
     }
 
     /// An event comes.
@@ -90,5 +108,6 @@ impl Journal {
         ensures room { room_in self.new ≡ room_in self.old - 1 }
     {
         self.events.push_reserved(event);
+        self.room -= 1;
     }
 }
