@@ -344,10 +344,6 @@ roomy s v gid at x y z room seen h r more z_is =
       same = z_is ∙ get_or-set_same s.entries at y z within;
     }
 
-kept_most : (doors left : ℕ) (stopped : Bool) → kept_room doors left stopped ≤ doors + 1
-kept_most doors left true = omega arith
-kept_most doors left false = omega arith
-
 pub gives : Laws → AccountsTellOpening → NewNumbersMayBeGranted → (s : MachineState) (v : MachineView) (gid : Gid)
     (worker mirror : ℕ) (run : Run) (victim : Option ℕ) (id : ℕ) (now : Moment) (at : ℕ) (x y z : Entry) (room : ℕ)
     → Seen s v → Here s gid at x → IsRoomierEntry x y → s.room ≤ room → z ≡ get_or (set s.entries at y) at z
@@ -369,7 +365,7 @@ pub claims : (s : MachineState) (v : MachineView) (gid : Gid)
     → Seen s v → Here s gid at x → IsRoomierEntry x y → s.room ≤ wide → z ≡ get_or (set s.entries at y) at z
     → IsNext v (IsClaimAt gid worker mirror run victim now) → id ≡ length s.homes
     → d.account ≡ with_claim z.state.account (offered_claim mirror run victim id worker now.0) → StaysGiven z.state d
-    → s.start.doors + 2 ≤ wide → was ≡ s.events → events ≡ was ++ Claimed gid (offered_claim mirror run victim id worker now.0) ∷ []
+    → s.room + 1 ≤ wide → was ≡ s.events → events ≡ was ++ Claimed gid (offered_claim mirror run victim id worker now.0) ∷ []
     → had ≡ s.homes → homes ≡ had ++ gid ∷ [] → room ≡ wide - 1
     → KeepsRun (reverse events) (record s {
       events = events;
@@ -389,7 +385,7 @@ claims s v gid worker mirror run victim id now at x y z d was events had homes w
     subst (λ (b : Download). claim.mirror < mirrors_by b.subject) same
     (mirror_below s.start (reverse s.events) gid may.download (payload_lengths_of s.start (reverse s.events) gid) claim
     may.granted) in
-    let most = kept_most s.start.doors s.left s.stopped in
+    let most = seen.keeps.room_is in
     let step = claim_step (reverse s.events) t gid claim at h.download z d room ready.keeps ready.is may id_is account
     rest below (omega arith) in
     subst

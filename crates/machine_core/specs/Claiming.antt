@@ -1,5 +1,5 @@
 -- What is claimed of what was offered, what is opened next, and which blocks of a claim are open.
-use Rattle.std.specs.Prelude.{◌≡◌, ◌<◌, ◌≤◌, ◌&&◌, ℕ, Bool, true, false, not, Option, Some, None, List, [], find, length, min}
+use Rattle.std.specs.Prelude.{◌≡◌, ◌<◌, ◌≤◌, ◌&&◌, ℕ, Bool, true, false, not, Option, Some, None, List, [], find, length}
 use Rattle.std.specs.Option.{is_some}
 use Rattle.dl_kinds.specs.declared.claims.Claim.{Claim}
 use Rattle.dl_kinds.specs.declared.gid.Gid.{Gid}
@@ -21,7 +21,6 @@ use Rattle.machine_core.specs.Starts.{RunStart}
 use Rattle.machine_core.specs.declared.events.Event.{Event}
 use Rattle.machine_core.specs.declared.events.Event.TheVariants.{Claimed}
 use Rattle.machine_core.specs.declared.handed.Handed.{Handed}
-use Rattle.machine_core.specs.declared.journal.TheConstants.{TURN_EVENTS}
 use Rattle.machine_core.specs.declared.offers.Offer.TheVariants.{Whole, Blocks, Probe}
 use Rattle.machine_core.specs.declared.offers.Offered.{Offered}
 use Rattle.machine_core.specs.declared.offers.Offered.TheVariants.{Next}
@@ -69,10 +68,6 @@ MayBeTaken m now other = Unit {0}
 -- there is no less room for marks
 abbrev pub KeepsMarkRoom : MachineView → MachineView → Type 0
 KeepsMarkRoom old new = (gid : Gid) → mark_spare_in old gid ≤ mark_spare_in new gid
-
--- there is no less room for events, but for what is beyond a turn's
-abbrev pub KeepsTurnRoom : MachineView → MachineView → Type 0
-KeepsTurnRoom old new = min old.spare TURN_EVENTS ≤ new.spare
 
 -- ---- what a download is given
 

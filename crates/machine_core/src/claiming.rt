@@ -1,38 +1,35 @@
 // Claims of what was offered, and their open blocks.
 ghost use Rattle.std.specs.Prelude.{◌≡◌, ◌≤◌, ◌<◌, ◌+◌, ◌^◌, IfOk, OnErr, OnOk, vec_capacity, vec_len};
 ghost use Rattle.dl_history.specs.Accounts.{with_claim};
-ghost use Rattle.machine_core.specs.Claiming.{AreOpenRuns, IsClaimAt, IsClaimUnder, KeepsMarkRoom, KeepsTurnRoom, MayBeGivenClaim, StaysGiven};
+ghost use Rattle.machine_core.specs.Claiming.{AreOpenRuns, IsClaimAt, IsClaimUnder, KeepsMarkRoom, MayBeGivenClaim, StaysGiven};
 ghost use Rattle.machine_core.specs.Journals.{room_in};
 ghost use Rattle.machine_core.specs.MachineViews.{Appends, IsNext};
 ghost use Rattle.machine_core.specs.RunLegal.{next_number};
 ghost use Rattle.machine_core.specs.TurnRooms.{IsRoomierEntry, IsRoomierRun};
-ghost use Rattle.machine_core.specs.declared.journal.TheConstants.{MAX_EVENTS};
 
 use crate::entries::Entry;
-use crate::{Event, Journal, Machine, TURN_EVENTS};
+use crate::{Event, Journal, Machine};
 use dl_history::{accounts_match_events, histories_are_sound};
 use dl_kinds::{Claim, Gid, Moment, Run, plan_laws};
 use one_download::{OneDownload, steps_match_events};
 use piece_table::NewRuns;
 use std::alloc::AllocError;
 
-// Makes room for some events, a claim and its home.
+// Makes room for one more event, and for a claim and its home.
 fn make_room(
     journal: &mut Journal,
-    events: usize,
     entry: &mut Entry,
     homes: &mut Vec<Gid>,
 ) -> Result<(), AllocError>
-    requires { events ≤ MAX_EVENTS }
     ensures events { journal.new.events.items ≡ journal.old.events.items }
     ensures room { room_in journal.old ≤ room_in journal.new }
     ensures entry { IsRoomierEntry entry.old entry.new }
     ensures homes { homes.new.items ≡ homes.old.items }
-    ensures ok_events { OnOk result (events ≤ room_in journal.new) }
+    ensures ok_events { OnOk result (room_in journal.old + 1 ≤ room_in journal.new) }
     ensures ok_claim { OnOk result (1 ≤ entry.new.state.spare) }
     ensures ok_home { OnOk result (vec_len homes.new < vec_capacity homes.new) }
 {
-    journal.reserve(events)?;
+    journal.reserve_one()?;
     entry.state.reserve_claim()?;
     homes.reserve(1)
 }
@@ -52,8 +49,7 @@ fn give(state: &mut OneDownload, claim: Claim)
 
 impl Machine {
     /// What a download offered is claimed by a worker: blocks, or with the empty run at 0 the length. The answer is
-    /// the number of the claim. It takes the memory of its own event, so there stays room for a turn where there was.
-    /// An Err changes nothing but room.
+    /// the number of the claim. It takes the memory of its own event. An Err changes nothing but room.
     pub fn claimed(
         &mut self,
         gid: Gid,
@@ -67,7 +63,7 @@ impl Machine {
         ensures event { IfOk result (λ id.
             Appends self.old self.new (IsClaimUnder id gid worker mirror run victim now)) }
         ensures number { IfOk result (λ id. id ≡ next_number self.old.past) }
-        ensures room { KeepsTurnRoom self.old self.new }
+        ensures room { self.old.spare ≤ self.new.spare }
         ensures mark_room { KeepsMarkRoom self.old self.new }
         ensures same { OnErr result (IsRoomierRun self.old self.new) }
     {
@@ -76,13 +72,7 @@ impl Machine {
         accounts_match_events();
         steps_match_events();
         let place = self.place(gid).unwrap();
-        let events = TURN_EVENTS as usize + self.doors as usize + 2;
-        make_room(
-            &mut self.journal,
-            events,
-            &mut self.entries[place],
-            &mut self.homes,
-        )?;
+        make_room(&mut self.journal, &mut self.entries[place], &mut self.homes)?;
         let id = self.homes.len() as u64;
         let claim = Claim {
             id,

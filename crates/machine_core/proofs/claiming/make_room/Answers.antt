@@ -1,5 +1,5 @@
 use Rattle.machine_core.proofs.Widening.{same_entry}
 use Rattle.machine_core.proofs.claiming.make_room.Goals as goal
 
-pub returns-in_err-reserve-clause-entry : goal.returns-in_err-reserve-clause-entry
-returns-in_err-reserve-clause-entry c = same_entry c.args.entry.now
+pub returns-in_err-reserve_one-clause-entry : goal.returns-in_err-reserve_one-clause-entry
+returns-in_err-reserve_one-clause-entry c = same_entry c.args.entry.now

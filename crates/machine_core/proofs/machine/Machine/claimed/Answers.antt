@@ -87,7 +87,7 @@ invariant_of-self-2 c =
     c.add.new.self.events.items c.make_room.new.homes.items c.push_reserved.new.self.items _ _ seen h
     c.make_room.ensures.entry c.make_room.ensures.room c.index_mut-entry.ensures.value c.requires
     (omega (arith, c.len-id.ensures, c.make_room.new.homes.ok.0, long))
-    c.give.ensures.account c.give.ensures.rest (omega (arith, enough)) c.make_room.ensures.events c.add.ensures.events
+    c.give.ensures.account c.give.ensures.rest enough c.make_room.ensures.events c.add.ensures.events
     c.make_room.ensures.homes c.push_reserved.ensures.items c.add.ensures.room
 
 pub returns-clause-event : goal.returns-clause-event
