@@ -14,4 +14,5 @@ pub mod MachineParts
 pub mod Reads
 pub mod Openings
 pub mod DownloadWants
+pub mod Clashes
 pub mod TurnRooms

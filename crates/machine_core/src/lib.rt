@@ -3,6 +3,7 @@
 #![tactic(auto)]
 
 mod calls;
+mod clashes;
 mod ends;
 mod entries;
 mod events;
