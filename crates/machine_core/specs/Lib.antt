@@ -17,6 +17,7 @@ pub mod CallParts
 pub mod Reads
 pub mod Openings
 pub mod DownloadWants
+pub mod Clashes
 pub mod TurnRooms
 pub mod KeptOffers
 pub mod Claiming

@@ -9,6 +9,7 @@ mod calls;
 mod changes;
 mod choosing;
 mod claiming;
+mod clashes;
 mod ends;
 mod entries;
 mod events;
