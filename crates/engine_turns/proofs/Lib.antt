@@ -1,0 +1,4 @@
+pub mod Turned
+pub mod Once
+pub mod Going
+pub mod Idle

@@ -1,0 +1,12 @@
+pub mod Told
+pub mod Levels
+pub mod Phases
+pub mod Standings
+pub mod ClaimRows
+pub mod SealRows
+pub mod CallRows
+pub mod NextRows
+pub mod RunTurns
+pub mod TurnLaws
+pub mod WorkedTurns
+pub mod RunLaws

@@ -1,0 +1,78 @@
+-- Worked turns, and what they are to say.
+use Rattle.std.specs.Prelude.{◌≡◌, ℕ, true, List, [], ◌∷◌}
+use Rattle.dl_kinds.specs.declared.runs.Moment.{Moment}
+use Rattle.piece_table.specs.declared.giver.Giver.TheVariants.{Mixed}
+use Rattle.turn_desk.specs.declared.turn.Stamp.{Stamp}
+use Rattle.verify_piece.specs.Seals.{PieceBytes}
+use Rattle.machine_core.specs.WorkedRuns.{added_uri, gid_at, key_of_first, one_at_once}
+use Rattle.machine_core.specs.declared.calls.Call.{Call}
+use Rattle.machine_core.specs.declared.calls.Call.TheVariants.{Pause, TellActive, Unpause}
+use Rattle.machine_core.specs.declared.events.Event.{Event}
+use Rattle.machine_core.specs.declared.events.Event.TheVariants.{Called, Settled}
+use Rattle.machine_core.specs.declared.handed.Handed.{Handed}
+use Rattle.engine_turns.specs.Told.{RunTurn, handed_in, latest_moment}
+use Rattle.engine_turns.specs.declared.operations.Grant.TheVariants.{Hash}
+use Rattle.engine_turns.specs.declared.operations.Operation.{Operation}
+use Rattle.engine_turns.specs.declared.operations.Operation.TheVariants.{Next, Seal}
+use Rattle.engine_turns.specs.declared.operations.Operation.TheVariants as operation
+use Rattle.engine_turns.specs.declared.operations.Said.{Said}
+use Rattle.engine_turns.specs.declared.operations.Said.TheVariants.{Done, Grant, Idle, NoMemory, Void}
+
+abbrev pub moment_at : ℕ → Moment
+moment_at ms = record { 0 = ms }
+
+abbrev pub no_stamp : Stamp
+no_stamp = record { time = 0; faults = 0 }
+
+abbrev pub turn_with : Operation → Said → List Event → RunTurn
+turn_with op said events =
+    record {
+      pass = 0;
+      rank = 0;
+      place = 0;
+      before = no_stamp;
+      op = op;
+      answer = record { said = said; back = [] };
+      events = events;
+      after = no_stamp;
+    }
+
+abbrev pub call_turn : Call → ℕ → RunTurn
+call_turn call ms = turn_with (operation.Call 0 call (moment_at ms)) Idle (Called 0 call (moment_at ms) ∷ [])
+
+-- ---- one piece, two workers
+
+abbrev pub adding_turn : RunTurn
+adding_turn = turn_with (operation.Call 0 TellActive (moment_at 0)) Idle (added_uri ∷ [])
+
+abbrev pub handing_turn : ℕ → RunTurn
+handing_turn worker = turn_with (Next worker (moment_at 5)) (Grant (Hash (gid_at 1) 0 [])) []
+
+abbrev pub sealed_piece : PieceBytes
+sealed_piece = record { piece = 0; bytes = [] }
+
+abbrev pub seal_turn : Said → List Event → RunTurn
+seal_turn said events = turn_with (Seal (gid_at 1) sealed_piece (moment_at 3)) said events
+
+abbrev pub handed_piece : Handed
+handed_piece = record { gid = gid_at 1; piece = 0 }
+
+abbrev pub handed_out_turns : List RunTurn
+handed_out_turns = handing_turn 0 ∷ adding_turn ∷ []
+
+abbrev pub paused_turns : List RunTurn
+paused_turns = call_turn (Pause key_of_first) 6 ∷ handed_out_turns
+
+abbrev pub handed_again_turns : List RunTurn
+handed_again_turns = handing_turn 1 ∷ call_turn (Unpause key_of_first) 7 ∷ paused_turns
+
+pub record WorkedTurns : Type 0 where
+  pub out : handed_in one_at_once handed_out_turns ≡ handed_piece ∷ []
+  pub paused : handed_in one_at_once paused_turns ≡ []
+  pub again : handed_in one_at_once handed_again_turns ≡ handed_piece ∷ []
+  pub sealed : handed_in one_at_once
+      (seal_turn Done (Settled (gid_at 1) 0 true Mixed ∷ []) ∷ handed_again_turns)
+      ≡ []
+  pub void : handed_in one_at_once (seal_turn Void [] ∷ handed_again_turns) ≡ []
+  pub starved : handed_in one_at_once (seal_turn NoMemory [] ∷ handed_again_turns) ≡ handed_piece ∷ []
+  pub latest : latest_moment (seal_turn Void [] ∷ handed_again_turns) ≡ 7

@@ -1,0 +1,23 @@
+// What holds of the turns of every run.
+ghost use Rattle.engine_turns.specs.RunLaws.{ActiveAreGoing, InactiveAreIdle};
+ghost use Rattle.engine_turns.specs.TurnLaws.{HandedAreActive, MomentsNeverFall, TurnsAppend};
+ghost use Rattle.engine_turns.specs.WorkedTurns.{WorkedTurns};
+
+/// Turns append their events to the history; the pieces that they hand out are of active downloads; the moment of a turn is
+/// that of no earlier one at least. It does nothing when it runs.
+pub fn turns_tell_runs()
+    ensures appended { TurnsAppend }
+    ensures handed { HandedAreActive }
+    ensures moments { MomentsNeverFall }
+{}
+
+/// What the definitions say of the worked turns.
+pub fn worked_turns_are_told()
+    ensures { WorkedTurns }
+{}
+
+/// A download that ended is never active again, and no claim stands of one that isn't active. It does nothing when it runs.
+pub fn active_downloads_are_going()
+    ensures going { ActiveAreGoing }
+    ensures idle { InactiveAreIdle }
+{}

@@ -1,0 +1,10 @@
+//! The turns of a run: what may be asked of it, what it answers, and what a turn may do by the turns before it.
+#![tactic(auto)]
+
+mod laws;
+mod limits;
+mod operations;
+
+pub use laws::{active_downloads_are_going, turns_tell_runs, worked_turns_are_told};
+pub use limits::{MAX_ALLOWANCE, MAX_DELIVERY, MAX_ENTRIES};
+pub use operations::{Answer, FetchGrant, Grant, Operation, Said};
