@@ -13,7 +13,7 @@ use Rattle.machine_core.specs.declared.calls.Call.{Call}
 use Rattle.machine_core.specs.declared.events.Event.{Event}
 use Rattle.machine_core.specs.declared.events.Event.TheVariants.{Called, Left, Stopped}
 use Rattle.engine_turns.specs.Phases.{Outcome, Over, SavesPhase, Starved, TurnStart, Went}
-use Rattle.engine_turns.specs.Standings.{AnswersUnlessStarved, Standing}
+use Rattle.engine_turns.specs.Standings.{AnswersUnlessStarved, RunStanding}
 use Rattle.engine_turns.specs.Told.{history_after}
 use Rattle.engine_turns.specs.declared.operations.Said.{Said}
 use Rattle.engine_turns.specs.declared.operations.Said.TheVariants.{Done, Replied}
@@ -54,7 +54,7 @@ is_starved Went = false
 is_starved Over = false
 is_starved Starved = true
 
-pub record CallRow (at : TurnStart) (s : Standing) (session : ℕ) (call : Call) (events : List Event) (said : Said)
+pub record CallRow (at : TurnStart) (s : RunStanding) (session : ℕ) (call : Call) (events : List Event) (said : Said)
     : Type 0 where
   pub saves : List Event
   pub cut : events ≡ Called session call at.now ∷ saves
@@ -71,7 +71,7 @@ abbrev pub left_events : ℕ → List Event
 left_events zero = []
 left_events (suc doors) = Left ∷ []
 
-abbrev pub LeaveRow : TurnStart → Standing → List Event → Said → Type 0
+abbrev pub LeaveRow : TurnStart → RunStanding → List Event → Said → Type 0
 LeaveRow at s events said = (events ≡ left_events (doors_left at.start s.past)) × (said ≡ Done)
 
 -- ---- the stop
@@ -85,7 +85,7 @@ pub record IsSavedLast (start : RunStart) (past : List Event) (gid : Gid) : Type
   pub going : has_stopped_in start past gid ≡ false
   pub unsaved : HasUnsaved start past gid
 
-pub record StopRow (at : TurnStart) (s : Standing) (events : List Event) (said : Said) : Type 0 where
+pub record StopRow (at : TurnStart) (s : RunStanding) (events : List Event) (said : Said) : Type 0 where
   pub saves : List Event
   pub cut : events ≡ stop_events (list_any is_stop s.past) ++ saves
   pub those : List Gid

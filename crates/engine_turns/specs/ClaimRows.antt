@@ -25,7 +25,7 @@ use Rattle.machine_core.specs.declared.ends.End.TheVariants as end
 use Rattle.machine_core.specs.declared.events.Event.{Event}
 use Rattle.machine_core.specs.declared.events.Event.TheVariants.{Cleared, Ended, Landed, Lost, Sized}
 use Rattle.engine_turns.specs.Phases.{AllRightPhase, AndThen, ByHistory, DeadPhase, EndingOr, IfElse, JustEnd, JustEvent, LandingsPhase, NoEvent, Outcome, Phase, SavePhase, TurnStart}
-use Rattle.engine_turns.specs.Standings.{AnswersOnly, AnswersUnlessStarved, Standing, levels_in}
+use Rattle.engine_turns.specs.Standings.{AnswersOnly, AnswersUnlessStarved, RunStanding, levels_in}
 use Rattle.engine_turns.specs.declared.limits.TheConstants.{MAX_ALLOWANCE, MAX_DELIVERY}
 use Rattle.engine_turns.specs.declared.operations.Said.{Said}
 use Rattle.engine_turns.specs.declared.operations.Said.TheVariants.{Allow, Done, Hold, Kept, Void}
@@ -33,7 +33,7 @@ use Rattle.engine_turns.specs.declared.operations.Said.TheVariants.{Allow, Done,
 -- ---- credits
 
 -- of both buckets the lesser credit, and the longer wait
-abbrev pub turn_credit : TurnStart → Standing → Gid → Credit
+abbrev pub turn_credit : TurnStart → RunStanding → Gid → Credit
 turn_credit at s gid = gid_credit (queue_in at.start s.past).added (levels_in s) at.now.0 gid
 
 -- ---- blocks are delivered
@@ -100,7 +100,7 @@ blocks_of_runs [] = 0
 blocks_of_runs (run ∷ runs) = run.count + blocks_of_runs runs
 
 -- told are the blocks that were counted in this turn, and those that weren't open
-pub record IsKept (at : TurnStart) (s : Standing) (download : Download) (claim : Claim) (run : Run)
+pub record IsKept (at : TurnStart) (s : RunStanding) (download : Download) (claim : Claim) (run : Run)
     (events : List Event) (said : Said) : Type 0 where
   pub runs : List Run
   pub open_runs : AreOpenIn (own_of at.start s.past download.gid) claim run runs
@@ -110,7 +110,7 @@ pub record IsKept (at : TurnStart) (s : Standing) (download : Download) (claim :
   pub repeats : repeated + blocks_of_runs runs ≡ run.count
   pub answer : AnswersUnlessStarved (Kept (blocks_landed events) repeated) outcome said
 
-abbrev pub DeliverRow : TurnStart → Standing → Run → List ℕ → Download → Claim → List Event → Said → Type 0
+abbrev pub DeliverRow : TurnStart → RunStanding → Run → List ℕ → Download → Claim → List Event → Said → Type 0
 DeliverRow at s run bytes download claim events said =
     (IsDelivery (known_lengths at.start s.past download.gid) claim run bytes
     × IsKept at s download claim run events said)
@@ -120,15 +120,15 @@ DeliverRow at s run bytes download claim events said =
 -- ---- more bytes are asked for
 
 -- what is let go: of what is wanted, as much as both buckets let go, and never more than so much
-abbrev pub allowance : TurnStart → Standing → Gid → ℕ → ℕ
+abbrev pub allowance : TurnStart → RunStanding → Gid → ℕ → ℕ
 allowance at s gid want = min want (min MAX_ALLOWANCE (turn_credit at s gid).bytes)
 
-abbrev pub more_said : TurnStart → Standing → Gid → (want credit : ℕ) → Said
+abbrev pub more_said : TurnStart → RunStanding → Gid → (want credit : ℕ) → Said
 more_said at s gid zero credit = Void
 more_said at s gid (suc want) zero = Hold (turn_credit at s gid).wait
 more_said at s gid (suc want) (suc credit) = Allow (allowance at s gid (suc want))
 
-abbrev pub MoreRow : TurnStart → Standing → ℕ → Download → Claim → List Event → Said → Type 0
+abbrev pub MoreRow : TurnStart → RunStanding → ℕ → Download → Claim → List Event → Said → Type 0
 MoreRow at s want download claim events said =
     AnswersOnly (more_said at s download.gid want (turn_credit at s download.gid).bytes) events said
 
@@ -150,7 +150,7 @@ LossPhase at past download claim mark piece =
     (AndThen (sole_phase download.gid piece (is_sole_in (own_of at.start past download.gid) piece))
     (DeadPhase at download piece))
 
-abbrev pub LoseRow : TurnStart → Standing → Mark → Download → Claim → List Event → Said → Type 0
+abbrev pub LoseRow : TurnStart → RunStanding → Mark → Download → Claim → List Event → Said → Type 0
 LoseRow at s mark download claim events said =
     (outcome : Outcome)
     × LossPhase at s.past download claim mark (lost_piece at.start s.past download.gid claim) s.past events outcome
@@ -167,11 +167,11 @@ TellingPhase download claim total =
     AndThen (JustEvent (Sized download.gid claim.id total))
     (IfElse (IsTooLongFor download total) (JustEnd (Ended download.gid (end.TooLarge total))) NoEvent)
 
-abbrev pub IsTold : TurnStart → Standing → ℕ → Download → Claim → List Event → Said → Type 0
+abbrev pub IsTold : TurnStart → RunStanding → ℕ → Download → Claim → List Event → Said → Type 0
 IsTold at s total download claim events said =
     (outcome : Outcome) × TellingPhase download claim total s.past events outcome × (said ≡ Done)
 
-abbrev pub SizedRow : TurnStart → Standing → ℕ → Download → Claim → List Event → Said → Type 0
+abbrev pub SizedRow : TurnStart → RunStanding → ℕ → Download → Claim → List Event → Said → Type 0
 SizedRow at s total download claim events said =
     ((is_probe claim ≡ true) × IsTold at s total download claim events said)
     ⊎ ((is_probe claim ≡ false) × AnswersOnly Void events said)

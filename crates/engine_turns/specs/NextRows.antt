@@ -24,8 +24,8 @@ use Rattle.machine_core.specs.declared.offers.Offer.TheVariants as offer
 use Rattle.machine_core.specs.declared.offers.Offered.{Offered}
 use Rattle.machine_core.specs.declared.offers.Offered.TheVariants as offered
 use Rattle.engine_turns.specs.ClaimRows.{allowance}
-use Rattle.engine_turns.specs.Phases.{AndThen, EndingOr, IsFault, NoEvent, OpeningPhase, Outcome, SettlingPhase, TurnStart}
-use Rattle.engine_turns.specs.Standings.{AnswersOnly, AnswersUnlessStarved, Standing, levels_in}
+use Rattle.engine_turns.specs.Phases.{AndThen, EndingOr, DiskFaultEnds, NoEvent, OpeningPhase, Outcome, SettlingPhase, TurnStart}
+use Rattle.engine_turns.specs.Standings.{AnswersOnly, AnswersUnlessStarved, RunStanding, levels_in}
 use Rattle.engine_turns.specs.declared.limits.TheConstants.{MAX_ALLOWANCE}
 use Rattle.engine_turns.specs.declared.operations.FetchGrant.{FetchGrant}
 use Rattle.engine_turns.specs.declared.operations.Grant.TheVariants.{Fetch, Hash, Probe}
@@ -45,20 +45,20 @@ abbrev pub HasNoClash : RunStart → List Event → Download → Type 0
 HasNoClash start past download = (how : End) → IsClash start past download how → ⊥
 
 -- the store opens it, and it ends where each wanted piece is verified
-abbrev pub IsOpening : TurnStart → Standing → Download → List Event → Said → Type 0
-IsOpening at s download events said =
+abbrev pub IsOpeningTurn : TurnStart → RunStanding → Download → List Event → Said → Type 0
+IsOpeningTurn at s download events said =
     (outcome : Outcome) × AndThen (OpeningPhase at download.gid) (EndingOr at download NoEvent) s.past events outcome
     × AnswersUnlessStarved Done outcome said
 
 -- it ends by a clash
-abbrev pub IsClashed : TurnStart → Standing → Download → List Event → Said → Type 0
+abbrev pub IsClashed : TurnStart → RunStanding → Download → List Event → Said → Type 0
 IsClashed at s download events said =
     (how : End) × IsClash at.start s.past download how × (events ≡ Ended download.gid how ∷ []) × (said ≡ Done)
 
-abbrev pub OpenRow : TurnStart → Standing → Download → List Event → Said → Type 0
+abbrev pub OpenRow : TurnStart → RunStanding → Download → List Event → Said → Type 0
 OpenRow at s download events said =
     IsClashed at s download events said
-    ⊎ (HasNoClash at.start s.past download × IsOpening at s download events said)
+    ⊎ (HasNoClash at.start s.past download × IsOpeningTurn at s download events said)
 
 -- ---- a full piece
 
@@ -71,16 +71,16 @@ pub record IsHashGrant (lengths : PayloadLengths) (gid : Gid) (piece : ℕ) (eve
 
 -- the disk failed, and the download ends
 abbrev pub IsFaulted : TurnStart → Gid → List Event → Said → Type 0
-IsFaulted at gid events said = IsFault at gid events × (said ≡ Done)
+IsFaulted at gid events said = DiskFaultEnds at gid events × (said ≡ Done)
 
 -- without digests it counts as right at once
-abbrev pub CountsAsRight : TurnStart → Standing → Download → ℕ → List Event → Said → Type 0
+abbrev pub CountsAsRight : TurnStart → RunStanding → Download → ℕ → List Event → Said → Type 0
 CountsAsRight at s download piece events said =
     (outcome : Outcome)
     × AndThen (SettlingPhase at download piece true) (EndingOr at download NoEvent) s.past events outcome
     × AnswersUnlessStarved Done outcome said
 
-abbrev pub whole_row : TurnStart → Standing → Download → ℕ → Bool → List Event → Said → Type 0
+abbrev pub whole_row : TurnStart → RunStanding → Download → ℕ → Bool → List Event → Said → Type 0
 whole_row at s download piece true events said =
     IsHashGrant (known_lengths at.start s.past download.gid) download.gid piece events said
     ⊎ IsFaulted at download.gid events said ⊎ AnswersOnly NoMemory events said
@@ -110,7 +110,7 @@ pub record IsJobOf (lengths : PayloadLengths) (subject : Subject) (mirror : ℕ)
   pub parts : job.parts ≡ asked_parts_of subject job.plan mirror run
 
 -- blocks are claimed of a mirror, and as many bytes let go as may be
-pub record IsFetchGrant (at : TurnStart) (s : Standing) (worker : ℕ) (download : Download) (mirror : ℕ) (run : Run)
+pub record IsFetchGrant (at : TurnStart) (s : RunStanding) (worker : ℕ) (download : Download) (mirror : ℕ) (run : Run)
     (victim : Option ℕ) (events : List Event) (said : Said) : Type 0 where
   pub grant : FetchGrant
   pub claimed : events ≡ Claimed download.gid (offered_claim mirror run victim grant.claim worker at.now.0) ∷ []
@@ -126,7 +126,7 @@ pub record IsProbing (at : TurnStart) (worker : ℕ) (download : Download) (mirr
   pub claimed : events ≡ Claimed download.gid (offered_claim mirror no_blocks None id worker at.now.0) ∷ []
   pub is : said ≡ Grant (Probe id download.gid (mirror_url download.subject mirror))
 
-abbrev pub OfferRow : TurnStart → Standing → ℕ → Download → Offer → List Event → Said → Type 0
+abbrev pub OfferRow : TurnStart → RunStanding → ℕ → Download → Offer → List Event → Said → Type 0
 OfferRow at s worker download (offer.Whole piece) events said =
     whole_row at s download piece (is_listed download.subject) events said
 OfferRow at s worker download (offer.Blocks mirror run victim) events said =
@@ -136,33 +136,34 @@ OfferRow at s worker download (offer.Probe mirror) events said = IsProbing at wo
 -- ---- the whole
 
 -- what the active downloads offer while these pieces are handed out, each with its credit
-abbrev pub offers_in : TurnStart → Standing → Offered → Type 0
+abbrev pub offers_in : TurnStart → RunStanding → Offered → Type 0
 offers_in at s offered =
     IsOffered (IsOffer s.handed at.start s.past at.now.0)
     (active_credits (queue_in at.start s.past) (levels_in s) at.now.0) offered
 
 -- the first offer that its download's credit affords is carried out
-pub record IsOfferGiven (at : TurnStart) (s : Standing) (worker : ℕ) (events : List Event) (said : Said) : Type 0 where
-  pub download : Download
-  pub added : download_in at.start s.past download.gid ≡ Some download
-  pub offer : Offer
-  pub is : offers_in at s (offered.Next download.gid offer)
-  pub row : OfferRow at s worker download offer events said
+pub record IsOfferGiven (at : TurnStart) (s : RunStanding) (worker : ℕ) (events : List Event) (said : Said) : Type 0
+  where
+    pub download : Download
+    pub added : download_in at.start s.past download.gid ≡ Some download
+    pub offer : Offer
+    pub is : offers_in at s (offered.Next download.gid offer)
+    pub row : OfferRow at s worker download offer events said
 
-abbrev pub IsHolding : TurnStart → Standing → List Event → Said → Type 0
+abbrev pub IsHolding : TurnStart → RunStanding → List Event → Said → Type 0
 IsHolding at s events said = (wait : ℕ) × offers_in at s (offered.Held wait) × AnswersOnly (Hold wait) events said
 
-abbrev pub IsIdling : TurnStart → Standing → List Event → Said → Type 0
+abbrev pub IsIdling : TurnStart → RunStanding → List Event → Said → Type 0
 IsIdling at s events said = offers_in at s offered.Idle × AnswersOnly Idle events said
 
 -- the download to be opened next goes before all offers
-pub record IsOpeningNext (at : TurnStart) (s : Standing) (events : List Event) (said : Said) : Type 0 where
+pub record IsOpeningNext (at : TurnStart) (s : RunStanding) (events : List Event) (said : Said) : Type 0 where
   pub download : Download
   pub added : download_in at.start s.past download.gid ≡ Some download
   pub is : next_to_open at.start s.past ≡ Some download.gid
   pub row : OpenRow at s download events said
 
-abbrev pub NextRow : TurnStart → Standing → ℕ → List Event → Said → Type 0
+abbrev pub NextRow : TurnStart → RunStanding → ℕ → List Event → Said → Type 0
 NextRow at s worker events said =
     IsOpeningNext at s events said
     ⊎ ((next_to_open at.start s.past ≡ None)

@@ -67,7 +67,7 @@ abbrev pub BreaksOff : Phase → List Event → List Event → Outcome → Type 
 BreaksOff P past events outcome = P past events outcome × (outcome ≢ Went)
 
 -- all of the first part came, and then the second one
-pub record GoesOn (P Q : Phase) (past events : List Event) (outcome : Outcome) : Type 0 where
+pub record ContinuesWith (P Q : Phase) (past events : List Event) (outcome : Outcome) : Type 0 where
   pub front : List Event
   pub rest : List Event
   pub cut : events ≡ front ++ rest
@@ -75,7 +75,7 @@ pub record GoesOn (P Q : Phase) (past events : List Event) (outcome : Outcome) :
   pub second : Q (history_after past front) rest outcome
 
 abbrev pub AndThen : Phase → Phase → Phase
-AndThen P Q past events outcome = BreaksOff P past events outcome ⊎ GoesOn P Q past events outcome
+AndThen P Q past events outcome = BreaksOff P past events outcome ⊎ ContinuesWith P Q past events outcome
 
 -- a part that the history before it decides
 abbrev pub ByHistory : (List Event → Phase) → Phase
@@ -88,19 +88,19 @@ IfElse Holds P Q past events outcome = (Holds × P past events outcome) ⊎ ((Ho
 -- ---- parts with calls of the disk
 
 -- a fault of the disk: the download ends with its count
-abbrev pub IsFault : TurnStart → Gid → List Event → Type 0
-IsFault at gid events = (count : ℕ) × IsRisen at count × (events ≡ Ended gid (end.Disk count) ∷ [])
+abbrev pub DiskFaultEnds : TurnStart → Gid → List Event → Type 0
+DiskFaultEnds at gid events = (count : ℕ) × IsRisen at count × (events ≡ Ended gid (end.Disk count) ∷ [])
 
 -- calls of the disk, and then these events
 abbrev pub AfterDisk : TurnStart → Gid → List Event → Phase
 AfterDisk at gid due past events Went = events ≡ due
-AfterDisk at gid due past events Over = IsFault at gid events
+AfterDisk at gid due past events Over = DiskFaultEnds at gid events
 AfterDisk at gid due past events Starved = events ≡ []
 
 -- calls of the disk, and then the end of the download
 abbrev pub EndAfterDisk : TurnStart → Gid → End → Phase
 EndAfterDisk at gid how past events Went = ⊥
-EndAfterDisk at gid how past events Over = (events ≡ Ended gid how ∷ []) ⊎ IsFault at gid events
+EndAfterDisk at gid how past events Over = (events ≡ Ended gid how ∷ []) ⊎ DiskFaultEnds at gid events
 EndAfterDisk at gid how past events Starved = events ≡ []
 
 abbrev pub SavePhase : TurnStart → Gid → Phase

@@ -13,7 +13,7 @@ use Rattle.engine_turns.specs.ClaimRows.{DeliverRow, LoseRow, MoreRow, SizedRow}
 use Rattle.engine_turns.specs.NextRows.{NextRow}
 use Rattle.engine_turns.specs.Phases.{TurnStart}
 use Rattle.engine_turns.specs.SealRows.{SealRow}
-use Rattle.engine_turns.specs.Standings.{AnswersOnly, OfClaim, Standing, standing_after}
+use Rattle.engine_turns.specs.Standings.{AnswersOnly, OfClaim, RunStanding, standing_after}
 use Rattle.engine_turns.specs.Told.{RunTurn, history_of, moment_in}
 use Rattle.engine_turns.specs.declared.limits.TheConstants.{MAX_ENTRIES}
 use Rattle.engine_turns.specs.declared.operations.Operation.{Operation}
@@ -60,7 +60,7 @@ takes_memory operation.Leave = false
 takes_memory (operation.Stop now) = false
 takes_memory op = true
 
-abbrev pub OperationRow : TurnStart → Standing → Operation → List Event → Said → Type 0
+abbrev pub OperationRow : TurnStart → RunStanding → Operation → List Event → Said → Type 0
 OperationRow at s (operation.Call session call now) = CallRow at s session call
 OperationRow at s (operation.Next worker now) = NextRow at s worker
 OperationRow at s (operation.Deliver claim run bytes now) = OfClaim at s claim (DeliverRow at s run bytes)
@@ -83,16 +83,16 @@ brought_bytes op = []
 abbrev pub turn_start : RunStart → List RunTurn → RunTurn → TurnStart
 turn_start start told t = record { start = start; now = moment_in told t.op; faults = t.before.faults }
 
-abbrev pub IsAnswered : RunStart → List RunTurn → RunTurn → Option Said → Type 0
-IsAnswered start told t (Some said) = AnswersOnly said t.events t.answer.said
-IsAnswered start told t None =
+abbrev pub IsTurnAnswered : RunStart → List RunTurn → RunTurn → Option Said → Type 0
+IsTurnAnswered start told t (Some said) = AnswersOnly said t.events t.answer.said
+IsTurnAnswered start told t None =
     ((takes_memory t.op ≡ true) × AnswersOnly NoMemory t.events t.answer.said)
     ⊎ OperationRow (turn_start start told t) (standing_after start told) t.op t.events t.answer.said
 
 -- the turn may come after these, of which the newest is the first
 pub record MayComeAfter (start : RunStart) (told : List RunTurn) (t : RunTurn) : Type 0 where
   pub back : t.answer.back ≡ brought_bytes t.op
-  pub answered : IsAnswered start told t (answer_before start (history_of told) t.op)
+  pub answered : IsTurnAnswered start told t (answer_before start (history_of told) t.op)
   pub counts : (gid : Gid) (count : ℕ) → Contains t.events (Ended gid (end.Disk count)) → count ≤ t.after.faults
 
 -- .. with the oldest turn first, as a desk lists them

@@ -8,7 +8,7 @@ use Rattle.machine_core.specs.RunLegal.{download_in}
 use Rattle.machine_core.specs.Starts.{Download, Subject, Listed, Unlisted}
 use Rattle.machine_core.specs.declared.events.Event.{Event}
 use Rattle.engine_turns.specs.Phases.{AfterDisk, AndThen, EndingOr, NoEvent, Outcome, Phase, SettlingPhase, TurnStart}
-use Rattle.engine_turns.specs.Standings.{AnswersOnly, AnswersUnlessStarved, Standing}
+use Rattle.engine_turns.specs.Standings.{AnswersOnly, AnswersUnlessStarved, RunStanding}
 use Rattle.engine_turns.specs.declared.operations.Said.{Said}
 use Rattle.engine_turns.specs.declared.operations.Said.TheVariants.{Done, Void}
 
@@ -24,7 +24,7 @@ SealPhase at download sealed =
     (AndThen (SettlingPhase at download sealed.piece (has_listed_digest download.subject sealed))
     (EndingOr at download NoEvent))
 
-pub record IsSettled (at : TurnStart) (s : Standing) (gid : Gid) (sealed : PieceBytes) (events : List Event)
+pub record IsSettled (at : TurnStart) (s : RunStanding) (gid : Gid) (sealed : PieceBytes) (events : List Event)
     (said : Said) : Type 0 where
   pub download : Download
   pub added : download_in at.start s.past gid ≡ Some download
@@ -33,7 +33,7 @@ pub record IsSettled (at : TurnStart) (s : Standing) (gid : Gid) (sealed : Piece
   pub answer : AnswersUnlessStarved Done outcome said
 
 -- void where the piece isn't handed out, or the disk doesn't have its bytes
-abbrev pub SealRow : TurnStart → Standing → Gid → PieceBytes → List Event → Said → Type 0
+abbrev pub SealRow : TurnStart → RunStanding → Gid → PieceBytes → List Event → Said → Type 0
 SealRow at s gid sealed events said =
     AnswersOnly Void events said
     ⊎ ((is_handed_out s.handed gid sealed.piece ≡ true) × IsSettled at s gid sealed events said)

@@ -16,13 +16,13 @@ use Rattle.engine_turns.specs.Told.{RunTurn, handed_in, history_of}
 use Rattle.engine_turns.specs.declared.operations.Said.{Said}
 use Rattle.engine_turns.specs.declared.operations.Said.TheVariants.{NoMemory, Void}
 
-pub record Standing : Type 0 where
+pub record RunStanding : Type 0 where
   pub past : List Event  -- the history, the newest event first
   pub handed : List Handed  -- the pieces that workers compare now
   pub overall : Level  -- the bucket of all downloads
   pub own : List Level  -- those of the downloads, in the order of adding
 
-abbrev pub standing_after : RunStart → List RunTurn → Standing
+abbrev pub standing_after : RunStart → List RunTurn → RunStanding
 standing_after start told =
     record {
       past = history_of told;
@@ -31,7 +31,7 @@ standing_after start told =
       own = own_levels start told;
     }
 
-abbrev pub levels_in : Standing → RunLevels
+abbrev pub levels_in : RunStanding → RunLevels
 levels_in s = record { overall = s.overall; own = s.own; room = 0 }
 
 -- ---- claims
@@ -59,7 +59,7 @@ AnswersUnlessStarved usual Over said = said ≡ usual
 AnswersUnlessStarved usual Starved said = said ≡ NoMemory
 
 -- what a turn does with a claim that stands; nothing, where none stands under the number
-abbrev pub OfClaim : TurnStart → Standing → ℕ → (Download → Claim → List Event → Said → Type 0) → List Event → Said
+abbrev pub OfClaim : TurnStart → RunStanding → ℕ → (Download → Claim → List Event → Said → Type 0) → List Event → Said
     → Type 0
 OfClaim at s id Row events said =
     (HasNoHome at.start s.past id × AnswersOnly Void events said)
