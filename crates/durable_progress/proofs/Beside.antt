@@ -16,7 +16,7 @@ use Rattle.resume_core.specs.Wants.{control_name}
 use Rattle.resume_core.proofs.Filed.{files_same}
 use Rattle.resume_core.proofs.Fitted.{has_same}
 use Rattle.resume_core.proofs.Same.{give_same, sound_same, agrees_same, agrees_seen}
-use Rattle.durable_progress.specs.Sharing.{names_of_want, share_names}
+use Rattle.resume_core.specs.Sharing.{names_of_want, share_names}
 use Rattle.durable_progress.specs.SharingLaws.{ChangesBeside}
 
 true_not_false : {P : Type 0} (a : Bool) → a ≡ true → a ≡ false → P

@@ -7,7 +7,7 @@ use Rattle.dl_history.specs.Listings.{Listing}
 use Rattle.resume_core.specs.States.{StaysSound}
 use Rattle.resume_core.specs.Steps.{IsFinished}
 use Rattle.durable_progress.specs.Held.{IsHeld, AreHeld, IsHeldByEither}
-use Rattle.durable_progress.specs.Sharing.{share_names}
+use Rattle.resume_core.specs.Sharing.{share_names}
 
 -- it is held in every image
 abbrev pub IsHeldNow : Want → Listing → DiskState → Type 0

@@ -1,6 +1,5 @@
 pub mod Held
 pub mod Promises
-pub mod Sharing
 pub mod HeldLaws
 pub mod HeldSteps
 pub mod PromiseLaws

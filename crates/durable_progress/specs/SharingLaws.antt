@@ -5,7 +5,7 @@ use Rattle.payload_files.specs.Payload.{HasFiles}
 use Rattle.control_file.specs.declared.want.Want.{Want}
 use Rattle.resume_core.specs.Resume.{Sound, Agrees, GiveSame}
 use Rattle.resume_core.specs.Steps.{SameBesides, SameFor}
-use Rattle.durable_progress.specs.Sharing.{share_names}
+use Rattle.resume_core.specs.Sharing.{share_names}
 
 -- the wants share no name, and nothing changes but files of the first
 pub record ChangesBeside (want other : Want) (old new : Files) : Type 0 where

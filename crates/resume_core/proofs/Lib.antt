@@ -19,6 +19,7 @@ pub mod Same
 pub mod Saved
 pub mod Saving
 pub mod Savings
+pub mod Shares
 pub mod Standing
 pub mod Stretched
 pub mod Stretching

@@ -10,6 +10,7 @@ pub mod Rows
 pub mod RunLaws
 pub mod Runs
 pub mod SaveLaws
+pub mod Sharing
 pub mod States
 pub mod Steps
 pub mod StretchLaws

@@ -17,6 +17,7 @@ mod refusing;
 mod resuming;
 mod rows;
 mod runs;
+mod sharing;
 mod surveying;
 mod whole_files;
 
@@ -31,3 +32,4 @@ pub use progress::save;
 pub use refusing::OpenErr;
 pub use resuming::resume;
 pub use runs::{read_piece, write_run};
+pub use sharing::shares_name;
