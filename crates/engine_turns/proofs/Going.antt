@@ -189,7 +189,7 @@ added_on g start replay subject settings position own own' o same = by (refusal 
     own_new un here =
         let is : gid ≡ g = ap (λ (n : ℕ). record { 0 = n }) (eqb-true gid.0 g.0 here) in
         let un_g : was_added replay.queue.added g ≡ false = subst (λ (h : Gid). was_added replay.queue.added h ≡
-            false) is un in
+        false) is un in
         let none = o.unadded un_g in
         let count = add_more g gid options (not (number_value options num.Pause == 0)) position replay.queue in
         let one : in_active g gid ≡ 1 = ap is_one here in
@@ -290,7 +290,7 @@ download_are start replay subject settings position are = by (refusal replay.que
         → AddedAre (with_download start replay subject settings position)
     by None is =
         rw is (ap (λ (xs : List Added). xs ++ added_as added ∷ []) are ∙ sym (map-append added_as replay.downloads
-            (added ∷ [])))
+        (added ∷ [])))
     by (Some e) is = rw is are
 
 call_are : (start : RunStart) (replay : Replay) (asked : Call) → AddedAre replay → AddedAre (after_call start
@@ -376,7 +376,7 @@ call_on g start replay call.UnpauseAll own own' o same =
 call_on g start replay (call.ChangeGlobalOption options) own own' o same =
     let limit = number_value (with_settings replay.global options) num.MaxConcurrentDownloads in
     goes_on g replay.queue (after replay.queue (SetLimit limit)) own own' o (set_limit_less g limit replay.queue)
-        refl same
+    refl same
 call_on g start replay (call.ChangePosition key position how) own own' o same =
     keyed_on g replay key (λ gid. ChangePosition gid position how) own own' o
     (λ gid. move_less g gid position how replay.queue)
@@ -440,7 +440,7 @@ ended_on g start past gid how may o = by (is_same_gid g gid) refl
         })
     by false is =
         rw is (goes_on g q (after q (stop_of gid how)) (own_of start past g) (own_of start past g) o (stops g).less
-            added refl)
+        added refl)
 
 once : (g : Gid) (start : RunStart) (past : List Event) → IsLegal start past
     → Once g (queue_in start past) (own_of start past g)
@@ -481,7 +481,7 @@ once g start (Ended gid how ∷ past) legal = ended_on g start past gid how lega
 once g start (Left ∷ past) legal = once g start past legal.0
 once g start (Stopped ∷ past) legal =
     stays g (replay_of start past) (own_of start past g) (own_of start (Stopped ∷ past) g) (once g start past
-        legal.0) refl
+    legal.0) refl
 
 pub active_going : ActiveAreGoing
 active_going start past gid legal active = by (is_ended (own_of start past gid)) refl

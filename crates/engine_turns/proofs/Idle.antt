@@ -84,7 +84,7 @@ landed_open : (own : List OwnEvent) (id mirror : ℕ) (run : Run) (c : Claim) (b
     → is_open_since (Lands id mirror run ∷ own) c b ≡ true → is_open_since own c b ≡ true
 landed_open own id mirror run c b h =
     let parts = and_true (is_in b c.run) (not (list_any (lands_block b) (since (grants_claim c.id) (Lands id mirror
-        run ∷ own)))) h in
+    run ∷ own)))) h in
     rw (parts.0, not_or (is_in b run) (list_any (lands_block b) (since (grants_claim c.id) own)) parts.1) refl
 
 or_weaker : (x y z : Bool) → (y ≡ true → z ≡ true) → (x || y) ≡ true → (x || z) ≡ true
@@ -101,13 +101,13 @@ landed_standing own id mirror run c h =
       or_weaker (is_probe c) (is_some (first_open_since (Lands id mirror run ∷ own) c)) (is_some (first_open_since
           own c))
           (found_more (is_open_since own c) (is_open_since (Lands id mirror run ∷ own) c) (landed_open own id
-              mirror run c) (blocks_in c.run)) parts.1,
+          mirror run c) (blocks_in c.run)) parts.1,
     ) refl
 
 -- a claim that fails, or whose probe tells a length, stands no longer
 ended_standing : (own : List OwnEvent) (x : OwnEvent) (c : Claim) (ends : Bool)
     → (not (ends || list_any (ends_claim c.id) (since (grants_claim c.id) own)) && (is_probe c || is_some
-        (first_open_since own c))) ≡ true
+    (first_open_since own c))) ≡ true
     → is_standing own c ≡ true
 ended_standing own x c ends h =
     let rest = is_probe c || is_some (first_open_since own c) in
@@ -122,7 +122,7 @@ own_idle own (Opens verified blocks now) plain none = none
 own_idle own (Grants claim) plain none = absurd cc
 own_idle own (Lands id mirror run) plain none =
     none_of (is_standing own) (is_standing (Lands id mirror run ∷ own)) (landed_standing own id mirror run)
-        (granted_claims own) none
+    (granted_claims own) none
 own_idle own (Settles piece right giver) plain none = none
 own_idle own (Clears piece) plain none = none
 own_idle own (Loses id mirror piece mark) plain none =
@@ -164,16 +164,16 @@ More g old new = sum_by (in_active g) old.active ≤ sum_by (in_active g) new.ac
 risen_more : (g : Gid) (q changed : QueueLists) → More g q changed → More g q (moved_up changed)
 risen_more g q changed more =
     let joined = sum_by-append (in_active g) changed.active (risen (changed.limit - length changed.active)
-        changed.waiting) in
+    changed.waiting) in
     omega arith
 
 stop_more : (g gid : Gid) (end : Ending) (q : QueueLists) → (gid.0 == g.0) ≡ false
     → More g q (unless_refused (by_status is_unfinished (status_of q gid)) (moved_up (stopped_from (status_of q
-        gid) gid end q)) q)
+    gid) gid end q)) q)
 stop_more g gid end q apart =
     by_status_of q gid
     (λ (st : Option Status). More g q (unless_refused (by_status is_unfinished st) (moved_up (stopped_from st gid
-        end q)) q))
+    end q)) q))
     (record {
       active = λ within.
           risen_more g q (stopped_from (Some status.Active) gid end q)
@@ -233,7 +233,7 @@ claimed_idle : (g : Gid) (start : RunStart) (past : List Event) (gid : Gid) (cla
 claimed_idle g start past gid claim may true is un none =
     let same : gid ≡ g = ap (λ (n : ℕ). record { 0 = n }) (eqb-true gid.0 g.0 is) in
     let active : is_active_in start past g ≡ true = subst (λ (h : Gid). is_active_in start past h ≡ true) same
-        may.active in
+    may.active in
     absurd cc
 claimed_idle g start past gid claim may false is un none = rw is none
 
@@ -248,7 +248,7 @@ pub inactive_idle : InactiveAreIdle
 inactive_idle start [] g legal un = refl
 inactive_idle start (Called session asked now ∷ past) g legal un =
     called_idle g start past (Called session asked now) asked (halts_by start past (Called session asked now) asked
-        g) refl
+    g) refl
     (inactive_idle start past g legal.0) un
 inactive_idle start (Opened gid verified blocks now ∷ past) g legal un =
     with_idle g gid (Opens verified blocks now) (own_of start past g) refl (inactive_idle start past g legal.0 un)

@@ -38,7 +38,7 @@ times g q = sum_by (in_active g) q.active + sum_by (in_waiting g) q.waiting
 
 rises_on : (g : Gid) (n : ℕ) (w : Queued) (ws : List Queued) (b : Bool) → w.paused ≡ b
     → sum_by (in_active g) (risen (suc n) ws) + sum_by (in_waiting g) (left_waiting (suc n) ws) ≡ sum_by
-        (in_waiting g) ws
+    (in_waiting g) ws
     → sum_by (in_active g) (risen n ws) + sum_by (in_waiting g) (left_waiting n ws) ≡ sum_by (in_waiting g) ws
     → sum_by (in_active g) (risen (suc n) (w ∷ ws)) + sum_by (in_waiting g) (left_waiting (suc n) (w ∷ ws))
     ≡ sum_by (in_waiting g) (w ∷ ws)
@@ -274,7 +274,7 @@ pub move_less : (g gid : Gid) (position : ℤ) (how : How) (q : QueueLists) → 
 move_less g gid position how q =
     by_status_of q gid
     (λ (st : Option Status). Less g q (unless_refused (by_status is_in_waiting st) (moved_up (effect q
-        (ChangePosition gid position how))) q))
+    (ChangePosition gid position how))) q))
     (record {
       active = λ within. omega arith;
       paused = λ within. moves within;
@@ -290,8 +290,11 @@ move_less g gid position how q =
         let up = moved g (effect q (ChangePosition gid position how)) in
         let put = sum_by-insert (in_waiting g) (remove q.waiting (queued_place gid q.waiting))
         (target_of q.waiting gid position how) there in
-        let taken = sum_by-remove (in_waiting g) q.waiting (queued_place gid q.waiting) (record { gid = gid; paused
-            = false }) within in
+        let taken = sum_by-remove (in_waiting g) q.waiting (queued_place gid q.waiting) (record {
+          gid = gid;
+          paused
+              = false;
+        }) within in
         omega arith
 
     refused : (e : Ending) → Less g q (unless_refused (by_status is_in_waiting (Some (ended_status e)))

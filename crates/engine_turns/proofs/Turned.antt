@@ -45,4 +45,4 @@ handed_active start (t ∷ before) =
     let all = handed_by t.answer.said ++ handed_in start before in
     All-weaker (λ (h : Handed). stays_out start t past h ≡ true) (λ (h : Handed). is_active_in start past h.gid ≡ true)
     (λ h out. left_of (is_active_in start past h.gid) (not (takes_back t h)) out) (filter (stays_out start t past)
-        all) (filter_passes (stays_out start t past) all)
+    all) (filter_passes (stays_out start t past) all)
