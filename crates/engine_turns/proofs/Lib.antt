@@ -2,3 +2,4 @@ pub mod Turned
 pub mod Once
 pub mod Going
 pub mod Idle
+pub mod Worked

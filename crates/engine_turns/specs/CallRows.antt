@@ -1,13 +1,13 @@
 -- What is done by a call, where a door leaves, and at the stop: the progress of the downloads concerned is saved.
-use Rattle.std.specs.Prelude.{◌≡◌, ◌≢◌, ◌⊎◌, ℕ, zero, suc, Bool, true, false, List, [], ◌∷◌, ◌++◌, length, map}
+use Rattle.std.specs.Prelude.{◌≡◌, ◌⊎◌, ℕ, zero, suc, Bool, true, false, List, [], ◌∷◌, ◌++◌, length, map}
 use Rattle.std.specs.List.{list_any}
 use Rattle.dl_kinds.specs.declared.gid.Gid.{Gid}
-use Rattle.dl_history.specs.Listings.{last_listing, listing_in}
 use Rattle.dl_history.specs.PayloadParts.{is_ended, is_opened}
 use Rattle.machine_core.specs.Answers.{applied_by}
 use Rattle.machine_core.specs.OwnParts.{own_of}
+use Rattle.machine_core.specs.Reads.{IsSavedIn}
 use Rattle.machine_core.specs.Replays.{is_active_in, replay_of}
-use Rattle.machine_core.specs.RunLegal.{doors_left, has_stopped_in, is_stop, known_lengths}
+use Rattle.machine_core.specs.RunLegal.{doors_left, has_stopped_in, is_stop}
 use Rattle.machine_core.specs.Starts.{Download, RunStart}
 use Rattle.machine_core.specs.declared.calls.Call.{Call}
 use Rattle.machine_core.specs.declared.events.Event.{Event}
@@ -32,9 +32,7 @@ gids_in start past = map (λ (download : Download). download.gid) (replay_of sta
 pub record HasUnsaved (start : RunStart) (past : List Event) (gid : Gid) : Type 0 where
   pub opened : is_opened (own_of start past gid) ≡ true
   pub going : is_ended (own_of start past gid) ≡ false
-  pub unsaved : last_listing (known_lengths start past gid).total (known_lengths start past gid).piece_len
-      (own_of start past gid)
-      ≢ listing_in (known_lengths start past gid).total (known_lengths start past gid).piece_len (own_of start past gid)
+  pub unsaved : ¬ IsSavedIn start past gid
 
 -- ---- a call
 

@@ -1,6 +1,6 @@
 -- What is done for a claim that stands: its blocks are delivered, more bytes are asked for, it is lost, or its probe
 -- told a length.
-use Rattle.std.specs.Prelude.{◌≡◌, ◌≢◌, ◌⊎◌, ℕ, zero, suc, ◌+◌, ◌-◌, ◌≤◌, ◌<◌, ◌*◌, min, All, AllPairs, Bool, true, false, Contains, Some, List, [], ◌∷◌, length}
+use Rattle.std.specs.Prelude.{◌≡◌, ◌≢◌, ◌⊎◌, ℕ, zero, suc, ◌+◌, ◌-◌, ◌≤◌, ◌<◌, ◌*◌, min, All, AllPairs, Bool, true, false, Contains, Some, List, [], ◌∷◌, length, sum_by}
 use Rattle.dl_kinds.specs.Plan.{IsPlan, block_end, block_start, pieces_of}
 use Rattle.dl_kinds.specs.declared.claims.Claim.{Claim}
 use Rattle.dl_kinds.specs.declared.gid.Gid.{Gid}
@@ -11,11 +11,11 @@ use Rattle.dl_history.specs.HistoryLaws.{IsFullIn}
 use Rattle.dl_history.specs.Listings.{last_saved}
 use Rattle.dl_history.specs.OwnEvents.{OwnEvent}
 use Rattle.dl_history.specs.PayloadParts.{is_sole_in}
-use Rattle.dl_history.specs.StandingClaims.{first_open_since, is_open_since, is_probe, piece_of_first}
+use Rattle.dl_history.specs.StandingClaims.{first_open_since, is_probe, piece_of_first}
 use Rattle.option_set.specs.Values.{number_value}
 use Rattle.option_set.specs.declared.kinds.Num.TheVariants.{AutoSaveInterval, PieceLength}
-use Rattle.piece_table.specs.NewRuns.{AreRunsOf}
 use Rattle.machine_core.specs.Choices.{options_now}
+use Rattle.machine_core.specs.Claiming.{AreOpenIn}
 use Rattle.machine_core.specs.Offers.{Credit, gid_credit}
 use Rattle.machine_core.specs.OwnParts.{PayloadLengths, own_of}
 use Rattle.machine_core.specs.Replays.{queue_in}
@@ -46,10 +46,6 @@ pub record IsDelivery (lengths : PayloadLengths) (claim : Claim) (run : Run) (by
   pub last : run.first + run.count ≤ claim.run.first + claim.run.count
   pub len : block_start lengths.piece_len run.first + length bytes
       ≡ block_end lengths.total lengths.piece_len (run.first + run.count - 1)
-
--- the maximal runs of those blocks of the run that are open in the claim
-abbrev pub AreOpenIn : List OwnEvent → Claim → Run → List Run → Type 0
-AreOpenIn own claim run runs = AreRunsOf (λ block. is_open_since own claim block ≡ true) run runs
 
 -- it is full now, and wasn't before
 abbrev pub IsFilled : PayloadLengths → (before own : List OwnEvent) → ℕ → Type 0
@@ -90,14 +86,9 @@ DeliveryPhase at before download claim runs =
     (AndThen (filled_phase at before download (is_listed download.subject))
     (EndingOr at download (DueSavePhase at download)))
 
-abbrev pub blocks_landed : List Event → ℕ
-blocks_landed [] = 0
-blocks_landed (Landed gid claim mirror run now ∷ events) = run.count + blocks_landed events
-blocks_landed (e ∷ events) = blocks_landed events
-
-abbrev pub blocks_of_runs : List Run → ℕ
-blocks_of_runs [] = 0
-blocks_of_runs (run ∷ runs) = run.count + blocks_of_runs runs
+abbrev pub blocks_in_event : Event → ℕ
+blocks_in_event (Landed gid claim mirror run now) = run.count
+blocks_in_event e = 0
 
 -- told are the blocks that were counted in this turn, and those that weren't open
 pub record IsKept (at : TurnStart) (s : RunStanding) (download : Download) (claim : Claim) (run : Run)
@@ -107,8 +98,8 @@ pub record IsKept (at : TurnStart) (s : RunStanding) (download : Download) (clai
   pub outcome : Outcome
   pub is : DeliveryPhase at s.past download claim runs s.past events outcome
   pub repeated : ℕ
-  pub repeats : repeated + blocks_of_runs runs ≡ run.count
-  pub answer : AnswersUnlessStarved (Kept (blocks_landed events) repeated) outcome said
+  pub repeats : repeated + sum_by (λ (open_run : Run). open_run.count) runs ≡ run.count
+  pub answer : AnswersUnlessStarved (Kept (sum_by blocks_in_event events) repeated) outcome said
 
 abbrev pub DeliverRow : TurnStart → RunStanding → Run → List ℕ → Download → Claim → List Event → Said → Type 0
 DeliverRow at s run bytes download claim events said =

@@ -1,5 +1,5 @@
 -- What the buckets of a run hold, by its turns.
-use Rattle.std.specs.Prelude.{ℕ, ◌==◌, Option, Some, None, List, [], ◌∷◌, if◌then◌else◌, length, map}
+use Rattle.std.specs.Prelude.{ℕ, ◌==◌, Option, Some, None, List, [], ◌∷◌, if◌then◌else◌, length, map, filter}
 use Rattle.std.specs.Option.{is_some}
 use Rattle.dl_kinds.specs.declared.gid.Gid.{Gid}
 use Rattle.dl_history.specs.StandingClaims.{stands_in}
@@ -43,14 +43,9 @@ spending_of (gid ∷ gids) bytes = Some (record { gid = gid; bytes = bytes })
 
 -- the downloads of which a claim stands under this number: one at most
 abbrev pub homes_of : RunStart → List Event → ℕ → List Gid
-homes_of start past id = homes_among (downloads_of start past)
-  where
-    with_home : Download → List Gid → List Gid
-    with_home download gids = if stands_in (own_of start past download.gid) id then download.gid ∷ gids else gids
-
-    homes_among : List Download → List Gid
-    homes_among [] = []
-    homes_among (download ∷ downloads) = with_home download (homes_among downloads)
+homes_of start past id =
+    map (λ (download : Download). download.gid)
+    (filter (λ (download : Download). stands_in (own_of start past download.gid) id) (downloads_of start past))
 
 abbrev pub spent_by : RunStart → List Event → Operation → Said → Option Spending
 spent_by start past op (Grant (Fetch grant)) = Some (record { gid = grant.gid; bytes = grant.allow })

@@ -5,7 +5,6 @@ use Rattle.dl_kinds.specs.declared.gid.Gid.{Gid}
 use Rattle.dl_kinds.specs.declared.marks.Mark.{Mark}
 use Rattle.dl_kinds.specs.declared.runs.Moment.{Moment}
 use Rattle.dl_kinds.specs.declared.runs.Run.{Run}
-use Rattle.dl_history.specs.Listings.{ListsNone, last_listing}
 use Rattle.dl_history.specs.PayloadParts.{is_verified_in, sources_in}
 use Rattle.option_set.specs.Values.{text_of_word}
 use Rattle.option_set.specs.declared.kinds.Word.TheVariants.{Checksum}
@@ -13,6 +12,7 @@ use Rattle.piece_table.specs.Changes.{IsGiver}
 use Rattle.piece_table.specs.Progress.{piece_part}
 use Rattle.piece_table.specs.declared.giver.Giver.{Giver}
 use Rattle.machine_core.specs.OwnParts.{own_of}
+use Rattle.machine_core.specs.Reads.{IsUnlistedIn}
 use Rattle.machine_core.specs.RunLegal.{IsDeadIn, known_lengths}
 use Rattle.machine_core.specs.Starts.{Download, RunStart}
 use Rattle.machine_core.specs.Wanted.{wanted_pieces}
@@ -129,13 +129,6 @@ FindingPhase at gid piece right past events Went =
     (giver : Giver) × IsGiverIn at.start past gid piece giver × (events ≡ Settled gid piece right giver ∷ [])
 FindingPhase at gid piece right past events Over = ⊥
 FindingPhase at gid piece right past events Starved = ⊥
-
--- the last save, or the opening where there is none, lists no block of the piece
-abbrev pub IsUnlistedIn : RunStart → List Event → Gid → ℕ → Type 0
-IsUnlistedIn start past gid piece =
-    let lengths = known_lengths start past gid in
-    ListsNone lengths.total lengths.piece_len
-    (last_listing lengths.total lengths.piece_len (own_of start past gid)) piece
 
 -- a save without the piece, where the last one lists a block of it
 abbrev pub UnlistingPhase : TurnStart → Gid → ℕ → Phase

@@ -32,7 +32,8 @@ pub record IsSettled (at : TurnStart) (s : RunStanding) (gid : Gid) (sealed : Pi
   pub is : SealPhase at download sealed s.past events outcome
   pub answer : AnswersUnlessStarved Done outcome said
 
--- void where the piece isn't handed out, or the disk doesn't have its bytes
+-- Of a piece that isn't handed out a seal is void. Of one that is, it is void where the disk has other bytes: whether it has
+-- is for what is said of the disk.
 abbrev pub SealRow : TurnStart → RunStanding → Gid → PieceBytes → List Event → Said → Type 0
 SealRow at s gid sealed events said =
     AnswersOnly Void events said

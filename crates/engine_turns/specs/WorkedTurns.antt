@@ -1,22 +1,25 @@
 -- Worked turns, and what they are to say.
-use Rattle.std.specs.Prelude.{◌≡◌, ℕ, true, List, [], ◌∷◌}
+use Rattle.std.specs.Prelude.{◌≡◌, ℕ, true, false, List, [], ◌∷◌}
 use Rattle.dl_kinds.specs.declared.runs.Moment.{Moment}
+use Rattle.dl_queue.specs.declared.kinds.QueueErr.TheVariants.{NotFound}
 use Rattle.piece_table.specs.declared.giver.Giver.TheVariants.{Mixed}
 use Rattle.turn_desk.specs.declared.turn.Stamp.{Stamp}
 use Rattle.verify_piece.specs.Seals.{PieceBytes}
 use Rattle.machine_core.specs.WorkedRuns.{added_uri, gid_at, key_of_first, one_at_once}
+use Rattle.machine_core.specs.declared.applied.Applied.TheVariants.{Refused}
 use Rattle.machine_core.specs.declared.calls.Call.{Call}
 use Rattle.machine_core.specs.declared.calls.Call.TheVariants.{Pause, TellActive, Unpause}
 use Rattle.machine_core.specs.declared.events.Event.{Event}
-use Rattle.machine_core.specs.declared.events.Event.TheVariants.{Called, Settled}
+use Rattle.machine_core.specs.declared.events.Event.TheVariants.{Called, Settled, Stopped}
 use Rattle.machine_core.specs.declared.handed.Handed.{Handed}
+use Rattle.engine_turns.specs.RunTurns.{MayComeAfter}
 use Rattle.engine_turns.specs.Told.{RunTurn, handed_in, latest_moment}
 use Rattle.engine_turns.specs.declared.operations.Grant.TheVariants.{Hash}
 use Rattle.engine_turns.specs.declared.operations.Operation.{Operation}
-use Rattle.engine_turns.specs.declared.operations.Operation.TheVariants.{Next, Seal}
+use Rattle.engine_turns.specs.declared.operations.Operation.TheVariants.{Leave, More, Next, Pulse, Seal, Stop}
 use Rattle.engine_turns.specs.declared.operations.Operation.TheVariants as operation
 use Rattle.engine_turns.specs.declared.operations.Said.{Said}
-use Rattle.engine_turns.specs.declared.operations.Said.TheVariants.{Done, Grant, Idle, NoMemory, Void}
+use Rattle.engine_turns.specs.declared.operations.Said.TheVariants.{Allow, Done, Finished, Grant, Idle, NoMemory, Replied, Void}
 
 abbrev pub moment_at : ℕ → Moment
 moment_at ms = record { 0 = ms }
@@ -76,3 +79,29 @@ pub record WorkedTurns : Type 0 where
   pub void : handed_in one_at_once (seal_turn Void [] ∷ handed_again_turns) ≡ []
   pub starved : handed_in one_at_once (seal_turn NoMemory [] ∷ handed_again_turns) ≡ handed_piece ∷ []
   pub latest : latest_moment (seal_turn Void [] ∷ handed_again_turns) ≡ 7
+
+-- ---- a run in which nothing happened, without a console, and the same with a download that is active
+
+abbrev pub stop_turn : RunTurn
+stop_turn = turn_with (Stop (moment_at 4)) Done (Stopped ∷ [])
+
+abbrev pub more_granted : RunTurn
+more_granted = turn_with (More 7 100 (moment_at 2)) (Allow 100) []
+
+abbrev pub pause_turn : RunTurn
+pause_turn =
+    turn_with (operation.Call 0 (Pause key_of_first) (moment_at 6)) (Replied 0 (Refused NotFound) false)
+    (Called 0 (Pause key_of_first) (moment_at 6) ∷ [])
+
+pub record WorkedRows : Type 0 where
+  pub rests : MayComeAfter one_at_once [] (turn_with Pulse Finished [])
+  pub no_work : MayComeAfter one_at_once [] (turn_with (Next 0 (moment_at 2)) Finished [])
+  pub goes_on : MayComeAfter one_at_once (adding_turn ∷ []) (turn_with Pulse Idle [])
+  pub no_claim : MayComeAfter one_at_once [] (turn_with (More 7 100 (moment_at 2)) Void [])
+  pub no_door : MayComeAfter one_at_once [] (turn_with Leave Done [])
+  pub refused : MayComeAfter one_at_once [] pause_turn
+  pub stops : MayComeAfter one_at_once [] stop_turn
+  pub is_over : MayComeAfter one_at_once (stop_turn ∷ adding_turn ∷ []) (turn_with Pulse Finished [])
+  -- and there is no other answer
+  pub not_idle : ¬ MayComeAfter one_at_once [] (turn_with Pulse Idle [])
+  pub not_granted : ¬ MayComeAfter one_at_once [] more_granted

@@ -1,7 +1,7 @@
 // What holds of the turns of every run.
 ghost use Rattle.engine_turns.specs.RunLaws.{ActiveAreGoing, InactiveAreIdle};
 ghost use Rattle.engine_turns.specs.TurnLaws.{HandedAreActive, MomentsNeverFall, TurnsAppend};
-ghost use Rattle.engine_turns.specs.WorkedTurns.{WorkedTurns};
+ghost use Rattle.engine_turns.specs.WorkedTurns.{WorkedRows, WorkedTurns};
 
 /// Turns append their events to the history; the pieces that they hand out are of active downloads; the moment of a turn is
 /// that of no earlier one at least. It does nothing when it runs.
@@ -13,7 +13,8 @@ pub fn turns_tell_runs()
 
 /// What the definitions say of the worked turns.
 pub fn worked_turns_are_told()
-    ensures { WorkedTurns }
+    ensures handed { WorkedTurns }
+    ensures rows { WorkedRows }
 {}
 
 /// A download that ended is never active again, and no claim stands of one that isn't active. It does nothing when it runs.

@@ -17,12 +17,12 @@ use Rattle.metainfo.specs.declared.meta.Meta.{Meta}
 use Rattle.option_set.specs.Values.{OptionValues}
 use Rattle.option_set.specs.declared.setting.Assigned.{Assigned}
 use Rattle.machine_core.specs.Answers.{adding_answer, applied_in, call_answer}
-use Rattle.machine_core.specs.CallParts.{AreHaltedWhere, CallParts, HasMirrors, IsAddition, IsApplied, IsEntryAdded, IsNewEntry, KeepMarkRooms, add_call, called_state, has_active, leaves_active, with_call_parts}
+use Rattle.machine_core.specs.CallParts.{AreHaltedWhere, CallParts, HasMirrors, IsAddition, IsApplied, IsEntryAdded, IsNewEntry, KeepMarkRooms, add_call, called_state, leaves_active, with_call_parts}
 use Rattle.machine_core.specs.Choices.{options_now}
 use Rattle.machine_core.specs.LawfulCalls.{IsLawful, IsLawfulTorrent}
 use Rattle.machine_core.specs.MachineParts.{KeepsQueue, KeepsRun, MachineState, kept_room, subject_of_call}
 use Rattle.machine_core.specs.OwnParts.{halts_by, is_shutdown}
-use Rattle.machine_core.specs.Replays.{Replay, after_call, is_refused, next_gid, replay_of, with_call, with_download, with_settings}
+use Rattle.machine_core.specs.Replays.{Replay, after_call, has_active, is_refused, next_gid, replay_of, with_call, with_download, with_settings}
 use Rattle.machine_core.specs.RunLegal.{MayFollow}
 use Rattle.machine_core.specs.Starts.{RunStart, Download, Subject, Listed, Unlisted}
 use Rattle.machine_core.specs.declared.applied.Applied.{Applied}

@@ -13,9 +13,9 @@ use Rattle.dl_queue.specs.Lists.{QueueLists}
 use Rattle.dl_queue.specs.declared.kinds.Added.{Added}
 use Rattle.dl_history.specs.Accounts.{after_halt}
 use Rattle.one_download.specs.DownloadViews.{DownloadView, StaysUnmarked}
-use Rattle.machine_core.specs.CallParts.{AreHaltedTo, AreHaltedWhere, IsHaltedIf, StandInOrder, has_active, leaves_active}
+use Rattle.machine_core.specs.CallParts.{AreHaltedTo, AreHaltedWhere, IsHaltedIf, StandInOrder, leaves_active}
 use Rattle.machine_core.specs.MachineParts.{IsHalted}
-use Rattle.machine_core.specs.Replays.{is_same_gid}
+use Rattle.machine_core.specs.Replays.{has_active, is_same_gid}
 use Rattle.machine_core.specs.declared.entries.Entry.{Entry}
 use Rattle.machine_core.proofs.Leaving.{StayActive}
 use Rattle.machine_core.proofs.Lists.{element_at, found, slice_get-set_other, slice_get-set_same}

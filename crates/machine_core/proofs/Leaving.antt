@@ -16,8 +16,7 @@ use Rattle.dl_queue.specs.Rising.{moved_up, risen}
 use Rattle.dl_queue.specs.declared.kinds.Ending.{Ending}
 use Rattle.dl_queue.specs.declared.kinds.QueueErr.{QueueErr}
 use Rattle.dl_queue.specs.declared.kinds.Queued.{Queued}
-use Rattle.machine_core.specs.CallParts.{has_active}
-use Rattle.machine_core.specs.Replays.{is_same_gid}
+use Rattle.machine_core.specs.Replays.{has_active, is_same_gid}
 use Rattle.machine_core.proofs.Lists.{found}
 use Rattle.machine_core.proofs.Parts.{gid_is}
 

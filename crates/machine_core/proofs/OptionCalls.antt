@@ -17,11 +17,11 @@ use Rattle.option_set.specs.Values.{OptionValues, number_value, with_setting}
 use Rattle.option_set.specs.declared.kinds.Num.TheVariants as num
 use Rattle.option_set.specs.declared.setting.Assigned.{Assigned}
 use Rattle.machine_core.specs.Answers.{keyed_answer}
-use Rattle.machine_core.specs.CallParts.{AreHaltedWhere, AreSetWhere, CallParts, IsApplied, StandInOrder, has_active, set_if, with_call_parts}
+use Rattle.machine_core.specs.CallParts.{AreHaltedWhere, AreSetWhere, CallParts, IsApplied, StandInOrder, set_if, with_call_parts}
 use Rattle.machine_core.specs.Choices.{is_keyed, options_now}
 use Rattle.machine_core.specs.MachineParts.{KeepsDownload, subject_of_event}
 use Rattle.machine_core.specs.OwnParts.{PayloadLengths, halted_where, halts_by, own_of}
-use Rattle.machine_core.specs.Replays.{is_same_gid, keyed_gid, queue_in, replay_of, with_settings}
+use Rattle.machine_core.specs.Replays.{has_active, is_same_gid, keyed_gid, queue_in, replay_of, with_settings}
 use Rattle.machine_core.specs.RunLegal.{known_lengths}
 use Rattle.machine_core.specs.Starts.{Download}
 use Rattle.machine_core.specs.declared.applied.Applied.{Applied}

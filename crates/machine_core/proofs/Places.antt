@@ -17,9 +17,8 @@ use Rattle.dl_queue.specs.declared.kinds.Ending.TheVariants as ending
 use Rattle.dl_queue.specs.declared.kinds.QueueErr.{QueueErr}
 use Rattle.dl_queue.specs.declared.kinds.QueueErr.TheVariants.{NotFound}
 use Rattle.dl_queue.specs.declared.kinds.Queued.{Queued}
-use Rattle.machine_core.specs.CallParts.{has_active}
 use Rattle.machine_core.specs.MachineParts.{added_as}
-use Rattle.machine_core.specs.Replays.{gid_number, is_free_number}
+use Rattle.machine_core.specs.Replays.{gid_number, has_active, is_free_number}
 use Rattle.machine_core.specs.Starts.{Download}
 
 same_below : (n k : ℕ) (t : Bool) → nat_lt n k ≡ t → nat_lt n k ≡ nat_lt (1 + n) (suc k)

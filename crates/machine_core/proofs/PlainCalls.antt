@@ -13,8 +13,8 @@ use Rattle.dl_queue.specs.Places.{status_of}
 use Rattle.dl_queue.specs.declared.kinds.Added.{Added}
 use Rattle.dl_queue.specs.declared.kinds.How.{How}
 use Rattle.machine_core.specs.Answers.{applied_in, call_answer, keyed_answer}
-use Rattle.machine_core.specs.CallParts.{AreHaltedWhere, ComesTo, IsPlainCall, StandInOrder, has_active, leaves_active, queue_keyed}
-use Rattle.machine_core.specs.Replays.{Replay, is_same_gid, keyed_gid, with_call_of, with_keyed}
+use Rattle.machine_core.specs.CallParts.{AreHaltedWhere, ComesTo, IsPlainCall, StandInOrder, leaves_active, queue_keyed}
+use Rattle.machine_core.specs.Replays.{Replay, has_active, is_same_gid, keyed_gid, with_call_of, with_keyed}
 use Rattle.machine_core.specs.Starts.{RunStart}
 use Rattle.machine_core.specs.declared.applied.Applied.{Applied}
 use Rattle.machine_core.specs.declared.applied.Applied.TheVariants.{Fine, Moved, Named}

@@ -16,7 +16,7 @@ use Rattle.machine_core.specs.Answers.{applied_by, applied_in, call_answer}
 use Rattle.machine_core.specs.Choices.{mirror_urls, options_now}
 use Rattle.machine_core.specs.MachineParts.{IsHalted, KeepsRun, MachineState, added_as, kept_room}
 use Rattle.machine_core.specs.OwnParts.{is_shutdown}
-use Rattle.machine_core.specs.Replays.{Replay, after_call, is_same_gid, next_gid, with_settings}
+use Rattle.machine_core.specs.Replays.{Replay, after_call, has_active, is_same_gid, next_gid, with_settings}
 use Rattle.machine_core.specs.RunLegal.{MayFollow, mirrors_by, tries_in}
 use Rattle.machine_core.specs.Starts.{RunStart, Download, Subject}
 use Rattle.machine_core.specs.declared.applied.Applied.{Applied}
@@ -28,9 +28,6 @@ use Rattle.machine_core.specs.declared.events.Event.{Event}
 use Rattle.machine_core.specs.declared.events.Event.TheVariants.{Called}
 
 -- ---- the active list
-
-abbrev pub has_active : QueueLists → Gid → Bool
-has_active queue gid = list_any (is_same_gid gid) queue.active
 
 -- it is active before and not after
 abbrev pub leaves_active : QueueLists → QueueLists → Gid → Bool

@@ -5,8 +5,7 @@ use Rattle.dl_kinds.specs.declared.claims.Claim.{Claim}
 use Rattle.dl_kinds.specs.declared.gid.Gid.{Gid}
 use Rattle.dl_kinds.specs.declared.runs.Moment.{Moment}
 use Rattle.dl_kinds.specs.declared.runs.Run.{Run}
-use Rattle.dl_kinds.specs.declared.status.Status.{Status}
-use Rattle.dl_kinds.specs.declared.status.Status.TheVariants.{Active}
+use Rattle.dl_history.specs.OwnEvents.{OwnEvent}
 use Rattle.dl_history.specs.PayloadParts.{is_opened}
 use Rattle.dl_history.specs.StandingClaims.{is_open_since}
 use Rattle.one_download.specs.DownloadViews.{DownloadView, IsClaimOf, IsProbeAt, is_opened_by}
@@ -24,10 +23,6 @@ use Rattle.machine_core.specs.declared.handed.Handed.{Handed}
 use Rattle.machine_core.specs.declared.offers.Offer.TheVariants.{Whole, Blocks, Probe}
 use Rattle.machine_core.specs.declared.offers.Offered.{Offered}
 use Rattle.machine_core.specs.declared.offers.Offered.TheVariants.{Next}
-
-abbrev pub is_active_status : Option Status → Bool
-is_active_status (Some Active) = true
-is_active_status other = false
 
 -- ---- openings
 
@@ -90,8 +85,12 @@ pub record StaysGiven (old new : DownloadView) : Type 0 where
 
 -- ---- open blocks
 
+-- the maximal runs of those blocks of a run that are open in the claim
+abbrev pub AreOpenIn : List OwnEvent → Claim → Run → List Run → Type 0
+AreOpenIn own claim run runs = AreRunsOf (λ block. is_open_since own claim block ≡ true) run runs
+
 -- the runs of the blocks of a run that are open in the claim under the number; none, where none stands
 pub record AreOpenRuns (m : MachineView) (id : ℕ) (run : Run) (runs : List Run) : Type 0 where
   pub stands : (gid : Gid) (claim : Claim) → StandsUnder m id gid claim
-      → AreRunsOf (λ block. is_open_since (own_of m.start m.past gid) claim block ≡ true) run runs
+      → AreOpenIn (own_of m.start m.past gid) claim run runs
   pub none : StandsNowhere m id → runs ≡ []

@@ -44,16 +44,22 @@ abbrev pub IsPieceOfGid : MachineView → Gid → ℕ → Type 0
 IsPieceOfGid m gid piece = piece < pieces_of (lengths_of_gid m gid).total (lengths_of_gid m gid).piece_len
 
 -- the last save, or the opening where there is none, lists no block of the piece
+abbrev pub IsUnlistedIn : RunStart → List Event → Gid → ℕ → Type 0
+IsUnlistedIn start past gid piece =
+    let l = known_lengths start past gid in
+    ListsNone l.total l.piece_len (last_listing l.total l.piece_len (own_of start past gid)) piece
+
 abbrev pub IsPieceUnlisted : MachineView → Gid → ℕ → Type 0
-IsPieceUnlisted m gid piece =
-    let l = lengths_of_gid m gid in
-    ListsNone l.total l.piece_len (last_listing l.total l.piece_len (own_of_gid m gid)) piece
+IsPieceUnlisted m gid piece = IsUnlistedIn m.start m.past gid piece
 
 -- a save would list what the last one does
+abbrev pub IsSavedIn : RunStart → List Event → Gid → Type 0
+IsSavedIn start past gid =
+    let l = known_lengths start past gid in
+    last_listing l.total l.piece_len (own_of start past gid) ≡ listing_in l.total l.piece_len (own_of start past gid)
+
 abbrev pub IsAllSaved : MachineView → Gid → Type 0
-IsAllSaved m gid =
-    let l = lengths_of_gid m gid in
-    last_listing l.total l.piece_len (own_of_gid m gid) ≡ listing_in l.total l.piece_len (own_of_gid m gid)
+IsAllSaved m gid = IsSavedIn m.start m.past gid
 
 -- no mirror of the download has a try left for the piece, and this is its last mark that counts
 pub record IsDeadPiece (m : MachineView) (gid : Gid) (piece : ℕ) (mark : Mark) : Type 0 where

@@ -163,5 +163,8 @@ replay_of start (e ∷ before) = replay_of start before
 abbrev pub queue_in : RunStart → List Event → QueueLists
 queue_in start past = (replay_of start past).queue
 
+abbrev pub has_active : QueueLists → Gid → Bool
+has_active queue gid = list_any (is_same_gid gid) queue.active
+
 abbrev pub is_active_in : RunStart → List Event → Gid → Bool
-is_active_in start past gid = list_any (is_same_gid gid) (queue_in start past).active
+is_active_in start past gid = has_active (queue_in start past) gid

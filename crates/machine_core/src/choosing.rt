@@ -2,7 +2,7 @@
 ghost use Rattle.std.specs.Prelude.{◌≡◌, ◌≤◌, true, IfNone, IfOk, IfSome, find, length};
 ghost use Rattle.one_download.specs.DownloadViews.{is_opened_by};
 ghost use Rattle.segment_claim.specs.declared.limits.TheConstants.{MAX_SPLIT};
-ghost use Rattle.machine_core.specs.Claiming.{IsOfferedNow, MayBeTaken, is_active_status, next_to_open};
+ghost use Rattle.machine_core.specs.Claiming.{IsOfferedNow, MayBeTaken, next_to_open};
 ghost use Rattle.machine_core.specs.KeptOffers.{HasHosts, HasNoneToHand, HaveHosts, IsFirstToHand, IsGidOffer, IsKeptOffer, IsKeptProbeOffer, IsOpenedKeptOffer, is_sized_entry, is_torrent_at, is_waiting_to_open, opens_next, split_by};
 ghost use Rattle.machine_core.specs.Offers.{IsOffered, active_credits, affords, least_wait};
 ghost use Rattle.machine_core.specs.Reads.{downloads_in};
@@ -12,10 +12,11 @@ ghost use Rattle.machine_core.specs.TurnRooms.{EachActiveHas, HasClaimRoom, IsRo
 ghost use Rattle.machine_core.specs.declared.offers.Offer.{Offer as DownloadOffer};
 
 use crate::entries::Entry;
+use crate::pausing::is_active;
 use crate::spares::reserve_claims;
 use crate::{HandedPieces, Journal, Machine, Offer, Offered};
 use dl_history::{accounts_match_events, histories_are_sound};
-use dl_kinds::{BLOCK_LEN, Gid, Moment, Status, plan_laws};
+use dl_kinds::{BLOCK_LEN, Gid, Moment, plan_laws};
 use dl_queue::Queue;
 use one_download::{Choice, Split, steps_match_events};
 use option_set::{Num, Options};
@@ -208,21 +209,12 @@ fn first_offer(
     }
 }
 
-fn is_active_status(status: Option<Status>) -> bool
-    ensures { result ≡ is_active_status status }
-{
-    match status {
-        Some(Status::Active) => true,
-        _ => false,
-    }
-}
-
 impl Machine {
     /// Whether a download is active.
     pub fn is_active(&self, gid: Gid) -> bool
         ensures { result ≡ is_active_in self.now.start self.now.past gid }
     {
-        is_active_status(self.status(gid))
+        is_active(&self.queue, gid)
     }
 
     /// The first active download whose length is known and that isn't opened.

@@ -2,8 +2,8 @@
 ghost use Rattle.std.specs.Prelude.{◌≡◌, ◌&&◌, not};
 ghost use Rattle.dl_queue.specs.Calls.{QueueCall, after};
 ghost use Rattle.machine_core.specs.Answers.{call_answer, keyed_answer};
-ghost use Rattle.machine_core.specs.CallParts.{AreHaltedWhere, StandInOrder, has_active, leaves_active, queue_keyed};
-ghost use Rattle.machine_core.specs.Replays.{is_same_gid, keyed_gid};
+ghost use Rattle.machine_core.specs.CallParts.{AreHaltedWhere, StandInOrder, leaves_active, queue_keyed};
+ghost use Rattle.machine_core.specs.Replays.{has_active, is_same_gid, keyed_gid};
 ghost use Rattle.machine_core.specs.declared.applied.Applied.TheVariants as applied;
 
 use crate::Applied;
@@ -12,7 +12,8 @@ use crate::keyed::{answered, find_keyed};
 use dl_kinds::{Gid, GidKey, Status};
 use dl_queue::Queue;
 
-fn is_active(queue: &Queue, gid: Gid) -> bool
+/// Whether a download is active.
+pub(crate) fn is_active(queue: &Queue, gid: Gid) -> bool
     ensures { result ≡ has_active queue.now gid }
 {
     match queue.status(gid) {

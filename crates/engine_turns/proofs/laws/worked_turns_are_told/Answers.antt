@@ -1,6 +1,8 @@
-use Rattle.std.proofs.Common.{refl}
+use Rattle.engine_turns.proofs.Worked.{worked_rows, worked_turns}
 use Rattle.engine_turns.proofs.laws.worked_turns_are_told.Goals as goal
 
-pub returns : goal.returns
-returns c =
-    record { out = refl; paused = refl; again = refl; sealed = refl; void = refl; starved = refl; latest = refl }
+pub returns-clause-handed : goal.returns-clause-handed
+returns-clause-handed c = worked_turns
+
+pub returns-clause-rows : goal.returns-clause-rows
+returns-clause-rows c = worked_rows

@@ -1,4 +1,5 @@
-use Rattle.machine_core.specs.CallParts.{AreHaltedTo, has_active}
+use Rattle.machine_core.specs.Replays.{has_active}
+use Rattle.machine_core.specs.CallParts.{AreHaltedTo}
 use Rattle.machine_core.proofs.pausing.halt_active.Given as goal
 
 abbrev pub invariant-loop-at : goal.invariant-loop-at

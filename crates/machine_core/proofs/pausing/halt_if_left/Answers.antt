@@ -1,8 +1,8 @@
 use Rattle.std.proofs.Common.{sym, ◌∙◌, rules}
 use Rattle.std.specs.Prelude.{◌&&◌, not}
-use Rattle.machine_core.specs.CallParts.{has_active}
 use Rattle.machine_core.proofs.CallHalts.{entry_at_place, left_by, none_by_gid, one_by_gid}
 use Rattle.machine_core.proofs.pausing.halt_if_left.Goals as goal
+use Rattle.machine_core.specs.Replays.{has_active}
 
 pub returns-in-Some : goal.returns-in-Some
 returns-in-Some c =

@@ -1,10 +1,10 @@
 use Rattle.std.proofs.Common.{sym, ◌∙◌, rules}
 use Rattle.dl_kinds.specs.contracts.status.Status.{the_type}
 use Rattle.dl_kinds.specs.declared.status.Status.TheVariants.{Active}
-use Rattle.machine_core.specs.CallParts.{has_active}
 use Rattle.machine_core.proofs.Places.{active_by, decided, no_status, none_active_by}
 use Rattle.machine_core.proofs.pausing.is_active.Goals as goal
 use denote.Enum.Bare.{same_false, same_true}
+use Rattle.machine_core.specs.Replays.{has_active}
 
 pub returns-in-Ok : goal.returns-in-Ok
 returns-in-Ok c =
