@@ -1,6 +1,6 @@
 -- What is done for a claim that stands: its blocks are delivered, more bytes are asked for, it is lost, or its probe
 -- told a length.
-use Rattle.std.specs.Prelude.{◌≡◌, ◌≢◌, ◌⊎◌, ℕ, zero, suc, ◌+◌, ◌-◌, ◌≤◌, ◌<◌, ◌*◌, min, All, AllPairs, Bool, true, false, Contains, Some, List, [], ◌∷◌, length, sum_by}
+use Rattle.std.specs.Prelude.{◌≡◌, ◌≢◌, ◌⊎◌, ℕ, zero, suc, ◌+◌, ◌-◌, ◌≤◌, ◌<◌, ◌*◌, min, All, AllPairs, Bool, true, false, Contains, Some, List, length, sum_by}
 use Rattle.dl_kinds.specs.Plan.{IsPlan, block_end, block_start, pieces_of}
 use Rattle.dl_kinds.specs.declared.claims.Claim.{Claim}
 use Rattle.dl_kinds.specs.declared.gid.Gid.{Gid}

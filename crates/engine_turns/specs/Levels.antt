@@ -1,5 +1,5 @@
 -- What the buckets of a run hold, by its turns.
-use Rattle.std.specs.Prelude.{ℕ, ◌==◌, Option, Some, None, List, [], ◌∷◌, if◌then◌else◌, length, map, filter}
+use Rattle.std.specs.Prelude.{ℕ, ◌==◌, Option, Some, None, List, [], ◌∷◌, if◌then◌else◌, map, filter}
 use Rattle.std.specs.Option.{is_some}
 use Rattle.dl_kinds.specs.declared.gid.Gid.{Gid}
 use Rattle.dl_history.specs.StandingClaims.{stands_in}

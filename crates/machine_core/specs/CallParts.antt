@@ -1,6 +1,5 @@
 -- What a call makes of the parts of a machine.
 use Rattle.std.specs.Prelude.{◌≡◌, ◌<◌, ◌≤◌, ◌&&◌, ◌||◌, ◌++◌, ◌+◌, ◌==◌, ℕ, Bool, true, false, not, Option, Some, None, List, [], ◌∷◌, length, map, slice_get}
-use Rattle.std.specs.List.{list_any}
 use Rattle.dl_kinds.specs.declared.gid.Gid.{Gid}
 use Rattle.dl_kinds.specs.declared.runs.Moment.{Moment}
 use Rattle.dl_history.specs.Accounts.{new_account}
@@ -16,7 +15,7 @@ use Rattle.machine_core.specs.Answers.{applied_by, applied_in, call_answer}
 use Rattle.machine_core.specs.Choices.{mirror_urls, options_now}
 use Rattle.machine_core.specs.MachineParts.{IsHalted, KeepsRun, MachineState, added_as, kept_room}
 use Rattle.machine_core.specs.OwnParts.{is_shutdown}
-use Rattle.machine_core.specs.Replays.{Replay, after_call, has_active, is_same_gid, next_gid, with_settings}
+use Rattle.machine_core.specs.Replays.{Replay, after_call, has_active, next_gid, with_settings}
 use Rattle.machine_core.specs.RunLegal.{MayFollow, mirrors_by, tries_in}
 use Rattle.machine_core.specs.Starts.{RunStart, Download, Subject}
 use Rattle.machine_core.specs.declared.applied.Applied.{Applied}
