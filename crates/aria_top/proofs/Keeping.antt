@@ -1,6 +1,6 @@
 -- What stays over several calls.
-use Rattle.std.proofs.Common.{List, ℕ, refl, ◌∙◌}
-use Rattle.dl_disk.specs.Calls.{Stays, Looks}
+use Rattle.std.proofs.Common.{List, refl, ◌∙◌}
+use Rattle.dl_disk.specs.Calls.{Stays}
 use Rattle.dl_disk.specs.Files.{Files, IsSame}
 use Rattle.dl_disk.specs.Passes.{Performs, image_before}
 use Rattle.dl_disk.specs.State.{DiskState}

@@ -1,7 +1,7 @@
 -- What a fetch holds back, and what its losses tell.
 use Rattle.std.proofs.Common.{◌≡◌, ◌≤◌, arith, ℕ, List, Option, Some, None, IfSome, Result, Ok, Err, refl, sym, ◌∙◌}
 use Rattle.dl_words.specs.Counts.{Rose}
-use Rattle.link_source.specs.Streams.{Stream}
+use Rattle.link_source.specs.Exchanges.{Exchange}
 use Rattle.reply_reader.specs.declared.loss.Loss.{Loss}
 use Rattle.reply_reader.specs.declared.loss.Loss.TheVariants as losses
 use Rattle.request_chain.specs.Chains.{TellsLoss}
@@ -31,7 +31,7 @@ link_held None before now counts = tt
 link_held (Some loss) before now counts = link_cause loss before now counts
 
 -- what a loss tells is how it ended
-pub tells_ending : (parts : List JobPart) (used : List Stream) (bytes : List ℕ) (faults : ℕ) (loss : Loss) → TellsLoss parts used bytes faults loss → IfSome (ending_of loss) (EndsIn parts used)
+pub tells_ending : (parts : List JobPart) (used : List Exchange) (bytes : List ℕ) (faults : ℕ) (loss : Loss) → TellsLoss parts used bytes faults loss → IfSome (ending_of loss) (EndsIn parts used)
 tells_ending parts used bytes faults (losses.Link count) (fetched, same) = (bytes, fetched)
 tells_ending parts used bytes faults losses.NotFound fetched = (bytes, fetched)
 tells_ending parts used bytes faults (losses.Refused status code) fetched = (bytes, fetched)

@@ -21,7 +21,6 @@ use Rattle.request_chain.specs.Fetched.{Fetched}
 use Rattle.request_chain.specs.Plans.{unusable}
 use Rattle.request_chain.specs.Plans.{Open as MoreIsDue, Lost as LossCame}
 use Rattle.aria_top.specs.Askings.{asked_part, piece_parts, piece_count, start_of, size_of}
-use Rattle.aria_top.specs.Payload.{here}
 use Rattle.aria_top.specs.Worked.{WorkEnding, Done, Open, Lost, WorkedFrom, IsQuiet}
 
 -- a URL is usable or not

@@ -4,7 +4,7 @@ use Rattle.std.specs.Prelude.{String}
 use Rattle.std.specs.declared.alloc.Global.{Global}
 use Rattle.dl_words.specs.Counts.{Rose}
 use Rattle.dl_disk.specs.Files.{Files}
-use Rattle.link_source.specs.Streams.{Stream}
+use Rattle.link_source.specs.Exchanges.{Exchange}
 use Rattle.request_chain.specs.Fetched.{FetchedIsOne}
 use Rattle.metainfo.specs.Info.{Info, IsSound}
 use Rattle.metainfo.specs.Rules.{metainfo_of, IsMetaOfSome}
@@ -59,11 +59,11 @@ refused_disk file info Metainfo says stop = ⊎_elim
 refused_disk file info Disk says stop = refl
 
 -- no stream was gained
-pub quiet_tells : FetchedIsOne → (info : Info) (streams : List Stream) (refusal : Refusal) (r before now : ℕ) → IsSound info → refusal ≡ Disk
+pub quiet_tells : FetchedIsOne → (info : Info) (streams : List Exchange) (refusal : Refusal) (r before now : ℕ) → IsSound info → refusal ≡ Disk
     → (r ≡ refusal_status refusal) ⊎ (r ≡ 40) → TellsWork info (gained streams streams) r before now
 quiet_tells law info streams refusal r before now sound disk told =
     let is : (r ≡ 17) ⊎ (r ≡ 40) = subst (λ (d : Refusal). (r ≡ refusal_status d) ⊎ (r ≡ 40)) disk told in
-    subst (λ (s : List Stream). TellsWork info s r before now) (sym (gained_is streams streams [] refl))
+    subst (λ (s : List Exchange). TellsWork info s r before now) (sym (gained_is streams streams [] refl))
     (tells_of law info [] 0 17 r before now (ended_unread info (Rose before now) sound) (⊎_elim (λ e. inl e) (λ e. inr (inl e)) is))
 
 -- the line of a disk that failed

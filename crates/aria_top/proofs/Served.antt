@@ -3,7 +3,7 @@ use Rattle.std.proofs.Common.{◌≡◌, ◌∙◌, ⊎_elim, ℕ, List, [], ◌
 use Rattle.std.specs.Prelude.{IfSome, MatchResult}
 use Rattle.link_source.specs.Link.{LinkState}
 use Rattle.link_source.specs.Mirrors.{Content}
-use Rattle.link_source.specs.Streams.{Stream}
+use Rattle.link_source.specs.Exchanges.{Exchange}
 use Rattle.metainfo.specs.Info.{Info}
 use Rattle.reply_reader.specs.declared.loss.Loss.{Loss}
 use Rattle.reply_reader.specs.declared.loss.Loss.TheVariants as losses
@@ -25,7 +25,7 @@ content_on a b c first then good =
     then (subst (λ (content : Content). content.bad ≡ []) (sym same) good) ∙ same
 
 module _ (law : GoodMirrorsServe) (content : Content) (link : LinkState) (parts : List JobPart) (bytes : List ℕ) (good : content.bad ≡ []) (given : AreGiven content parts bytes)
-    (gained : List Stream) (has : GainedAnswers content link gained) where
+    (gained : List Exchange) (has : GainedAnswers content link gained) where
   -- nothing that is served is lost
   none_lost : (loss : Loss) → EndsIn parts gained (Lost loss) → ⊥
   none_lost loss (came, fetched) = ⊎_elim (λ (e : Lost loss ≡ Open). cc) (λ (e, same). let both : Lost loss ≡ Done = e in cc)

@@ -2,7 +2,7 @@
 use Rattle.std.proofs.Common.{◌≡◌, ◌≢◌, ◌<◌, ◌≤◌, ◌⊎◌, inl, inr, ⊎_elim, ℕ, List, [], Option, Some, None, IfSome, IsSomeAnd, refl, sym, ◌∙◌, subst, arith}
 use Rattle.dl_words.specs.Counts.{Rose}
 use Rattle.dl_disk.specs.Files.{Files}
-use Rattle.link_source.specs.Streams.{Stream}
+use Rattle.link_source.specs.Exchanges.{Exchange}
 use Rattle.metainfo.specs.Info.{Info, IsSound}
 use Rattle.reply_reader.specs.declared.loss.Loss.{Loss}
 use Rattle.reply_reader.specs.declared.loss.Loss.TheVariants as losses
@@ -34,7 +34,7 @@ Fits (Lost loss) status = ((status ≡ loss_status loss) × IsLossStatus status)
 Fits Digest status = status ≡ 32
 
 -- the work ended, and this is its status; Cause is that the link failed
-pub record Ended (info : Info) (streams : List Stream) (pieces status : ℕ) (Cause : Type 0) : Type 0 where
+pub record Ended (info : Info) (streams : List Exchange) (pieces status : ℕ) (Cause : Type 0) : Type 0 where
   pub right : ℕ
   pub ending : WorkEnding
   pub worked : Worked info streams right ending
@@ -51,7 +51,7 @@ quiet_fits (Lost loss) quiet = inr (refl, quiet)
 quiet_fits Digest quiet = absurd quiet
 
 -- the ending that a loss tells has its status
-ended_lost : (info : Info) (streams : List Stream) (pieces : ℕ) (loss : Loss) (Cause : Type 0) → (IsLinkFailure (LostFailure loss) → Cause) → IsLossStatus (loss_status loss)
+ended_lost : (info : Info) (streams : List Exchange) (pieces : ℕ) (loss : Loss) (Cause : Type 0) → (IsLinkFailure (LostFailure loss) → Cause) → IsLossStatus (loss_status loss)
     → IfSome (work_ending loss) (Worked info streams pieces) → Ended info streams pieces (loss_status loss) Cause
 unfolding Fits
 ended_lost info streams pieces (losses.Link count) Cause cause known worked =
@@ -71,7 +71,7 @@ ended_lost info streams pieces losses.Redirects Cause cause known worked =
 ended_lost info streams pieces losses.NoMemory Cause cause known worked = absurd (omega (arith, known))
 
 -- where memory wasn't wanting
-pub ended : (info : Info) (streams : List Stream) (pieces : ℕ) (failure : Option Failure) (Cause : Type 0) → IfSome failure (λ f. IsLinkFailure f → Cause) → IfSome failure IsKnownFailure
+pub ended : (info : Info) (streams : List Exchange) (pieces : ℕ) (failure : Option Failure) (Cause : Type 0) → IfSome failure (λ f. IsLinkFailure f → Cause) → IfSome failure IsKnownFailure
     → WorkLost info streams pieces failure → Ended info streams pieces (work_status failure) Cause ⊎ (work_status failure ≡ 40)
 unfolding Fits
 ended info streams pieces None Cause cause known worked = inl record { right = pieces; ending = Done; worked = worked; fits = inl refl; no_more = omega arith; all = λ _. refl; link = λ e _. absurd (omega arith) }
@@ -128,7 +128,7 @@ digest_told status r fits told = subst (λ (s : ℕ). Reported s r) fits told
 not_small : (r m : ℕ) → (r ≡ 40) ⊎ (r ≡ 41) → r ≡ m → m < 40 → ⊥
 not_small r m is same low = ⊎_elim (λ e. absurd (omega arith)) (λ e. absurd (omega arith)) is
 
-module _ (law : FetchedIsOne) (info : Info) (streams : List Stream) where
+module _ (law : FetchedIsOne) (info : Info) (streams : List Exchange) where
   -- what fits the ending of the work
   at_ending : (pieces status right : ℕ) (ending : WorkEnding) (Cause : Type 0) → Ended info streams pieces status Cause → Worked info streams right ending → Fits ending status
   at_ending pieces status right ending Cause end worked =
@@ -172,7 +172,7 @@ no_cause None = tt
 no_cause (Some failure) = λ _. tt
 
 -- how many pieces were right, where there is a summary
-pub counts_right : (info : Info) (streams : List Stream) (pieces : ℕ) (failure : Option Failure) (r : ℕ) → IfSome failure IsKnownFailure → WorkLost info streams pieces failure → r ≡ work_status failure → r ≢ 40
+pub counts_right : (info : Info) (streams : List Exchange) (pieces : ℕ) (failure : Option Failure) (r : ℕ) → IfSome failure IsKnownFailure → WorkLost info streams pieces failure → r ≡ work_status failure → r ≢ 40
     → CountsRight info streams r pieces
 counts_right info streams pieces failure r known lost same not_memory = ⊎_elim
     (λ end. record { right = end.right; ending = end.ending; worked = end.worked; no_more = end.no_more; all = λ other. end.all (λ e. other (same ∙ e)) })

@@ -8,7 +8,7 @@ use Rattle.hex.specs.Hex.{encode_lower}
 use Rattle.dl_words.specs.Counts.{Rose}
 use Rattle.dl_disk.specs.Files.{Files}
 use Rattle.dl_disk.specs.State.{DiskState}
-use Rattle.link_source.specs.Streams.{Stream}
+use Rattle.link_source.specs.Exchanges.{Exchange}
 use Rattle.metainfo.specs.Info.{Info}
 use Rattle.aria_top.specs.Askings.{piece_count}
 use Rattle.reply_reader.specs.declared.loss.Loss.{Loss}
@@ -78,15 +78,15 @@ pub record TellsMetainfo (file : Option (List ℕ)) (status before now : ℕ) : 
   pub unusable : IsUnusable file → (status ≡ 26) ⊎ (status ≡ 40) ⊎ Rose before now
 
 -- the streams that a link gained, the oldest first
-abbrev pub gained : List Stream → List Stream → List Stream
+abbrev pub gained : List Exchange → List Exchange → List Exchange
 gained before now = reverse (take (length now - length before) now)
 
 -- the streams from before stay, under those that were gained
-abbrev pub KeepsStreams : List Stream → List Stream → Type 0
+abbrev pub KeepsStreams : List Exchange → List Exchange → Type 0
 KeepsStreams before now = now ≡ reverse (gained before now) ++ before
 
 -- What a status tells of the streams that were used for the work. The counts are those of the link's faults.
-pub record TellsWork (info : Info) (streams : List Stream) (status before now : ℕ) : Type 0 where
+pub record TellsWork (info : Info) (streams : List Exchange) (status before now : ℕ) : Type 0 where
   pub done : status ≡ 0 → (right : ℕ) × Worked info streams right Done
   pub lost_only : IsLossStatus status → ((status ≡ 6) × Rose before now)
       ⊎ ((right : ℕ) × (loss : Loss) × (loss_status loss ≡ status) × Worked info streams right (Lost loss))
@@ -97,7 +97,7 @@ pub record TellsWork (info : Info) (streams : List Stream) (status before now : 
   pub digest : (right : ℕ) → Worked info streams right Digest → Reported 32 status
 
 -- What the streams tell of how many pieces were written: those that came right, and where the disk failed no more.
-pub record CountsRight (info : Info) (streams : List Stream) (status pieces : ℕ) : Type 0 where
+pub record CountsRight (info : Info) (streams : List Exchange) (status pieces : ℕ) : Type 0 where
   pub right : ℕ
   pub ending : WorkEnding
   pub worked : Worked info streams right ending

@@ -10,9 +10,9 @@ ghost use Rattle.aria_top.specs.Askings.{asked_part, piece_parts, start_of, size
 ghost use Rattle.aria_top.specs.Ends.{loss_status, IsLossStatus, IsLinkLoss};
 ghost use Rattle.aria_top.specs.Fetched.{FetchEnds, IsFetching, IsLost};
 ghost use Rattle.fetch_session.specs.Blocks.{cut};
-ghost use Rattle.fetch_session.specs.Fetches.{fetch_plan, rest_of, ready_of, lost_of, IsFetch, MayStep};
+ghost use Rattle.fetch_session.specs.Fetches.{fetch_plan, rest_of, ready_of, lost_of, IsFetch, MayBegin, MayStep};
 ghost use Rattle.link_source.specs.Link.{LinkState};
-ghost use Rattle.link_source.specs.Streams.{Stream};
+ghost use Rattle.link_source.specs.Exchanges.{Exchange};
 ghost use Rattle.span_map.specs.declared.jobs.Job.{Job};
 ghost use Rattle.aria_top.specs.Payload.{IsFetchable};
 ghost use Rattle.aria_top.specs.Serving.{KeepsContent, ServesFetch};
@@ -94,7 +94,7 @@ const ALLOW: u32 = 1_048_576;
 // Puts the ready blocks at the end of the piece.
 fn hand_on(fetch: &mut Fetch, piece: &mut Vec<u8>) -> Result<(), NoMemory>
     requires { 0 < (ready_of fetch.old).count }
-    ensures takes { OnOk result ((job : Job) (used : List Stream) → IsFetch job used piece.old.items fetch.old → IsFetch job used piece.new.items fetch.new) }
+    ensures takes { OnOk result ((job : Job) (used : List Exchange) → IsFetch job used piece.old.items fetch.old → IsFetch job used piece.new.items fetch.new) }
     ensures place { OnOk result (cut (fetch_plan fetch.old) (rest_of fetch.old).first + length piece.new.items
         ≡ cut (fetch_plan fetch.old) (rest_of fetch.new).first + length piece.old.items) }
     ensures plan { fetch_plan fetch.new ≡ fetch_plan fetch.old }
@@ -119,8 +119,8 @@ fn fetch_on<L: Links>(
 ) -> Result<bool, Loss>
     requires none_ready { (ready_of fetch.old).count ≡ 0 }
     requires may { IsTrue L.tells → MayStep fetch.old (L.state link.old) }
-    ensures goes_on { IsTrue L.tells → (job : Job) (before : List Stream) → IsFetching job before (L.state link.old).streams piece.old.items fetch.old
-        → MatchResult result (λ _. IsFetching job before (L.state link.new).streams piece.new.items fetch.new) (IsLost job.parts before (L.state link.new).streams) }
+    ensures goes_on { IsTrue L.tells → (job : Job) (before : List Exchange) → IsFetching job before (L.state link.old).exchanges piece.old.items fetch.old
+        → MatchResult result (λ _. IsFetching job before (L.state link.new).exchanges piece.new.items fetch.new) (IsLost job.parts before (L.state link.new).exchanges) }
     ensures all { result ≡ Ok true → (rest_of fetch.new).count ≡ 0 }
     ensures place { OnOk result (cut (fetch_plan fetch.old) (rest_of fetch.old).first + length piece.new.items
         ≡ cut (fetch_plan fetch.old) (rest_of fetch.new).first + length piece.old.items) }
@@ -130,8 +130,8 @@ fn fetch_on<L: Links>(
     ensures held { OnOk result (IfSome (lost_of fetch.new) (λ loss. IsLinkLoss loss → Rose (L.faults link.old) (L.faults link.new))) }
     ensures link { IfErr result (λ loss. IsLinkLoss loss → (lost_of fetch.old ≡ Some loss) ⊎ Rose (L.faults link.old) (L.faults link.new)) }
     ensures known { IfErr result IsKnownLoss }
-    ensures answered { IsTrue L.tells → (job : Job) (before : List Stream)
-        → IsFetching job before (L.state link.old).streams piece.old.items fetch.old
+    ensures answered { IsTrue L.tells → (job : Job) (before : List Exchange)
+        → IsFetching job before (L.state link.old).exchanges piece.old.items fetch.old
         → KeepsAnswers before (L.state link.old) (L.state link.new) }
     ensures may { OnOk result (IsTrue L.tells → MayStep fetch.new (L.state link.new)) }
     ensures later { L.faults link.old ≤ L.faults link.new }
@@ -157,13 +157,14 @@ fn fill<L: Links>(
     requires none_ready { (ready_of fetch.old).count ≡ 0 }
     requires none_lost { lost_of fetch.old ≡ None }
     requires may { IsTrue L.tells → MayStep fetch.old (L.state link.old) }
-    ensures ends { IsTrue L.tells → (job : Job) → IsFetch job [] [] fetch.old → FetchEnds job.parts (L.state link.old).streams (L.state link.new).streams result piece.new.items }
+    ensures ends { IsTrue L.tells → (job : Job) → IsFetch job [] [] fetch.old → FetchEnds job.parts (L.state link.old).exchanges (L.state link.new).exchanges result piece.new.items }
     ensures len { OnOk result (cut (fetch_plan fetch.old) (rest_of fetch.old).first + length piece.new.items
         ≡ cut (fetch_plan fetch.old) ((rest_of fetch.old).first + (rest_of fetch.old).count)) }
     ensures link { IfErr result (λ loss. IsLinkLoss loss → Rose (L.faults link.old) (L.faults link.new)) }
     ensures known { IfErr result IsKnownLoss }
+    ensures may { OnOk result (IsTrue L.tells → MayStep fetch.new (L.state link.new)) }
     ensures answered { IsTrue L.tells → (job : Job) → IsFetch job [] [] fetch.old
-        → IsAnswered (L.state link.old).content (L.state link.old).streams (L.state link.new) }
+        → IsAnswered (L.state link.old).content (L.state link.old).exchanges (L.state link.new) }
     ensures later { L.faults link.old ≤ L.faults link.new }
 {
     'turns: for _ in 0..u64::MAX {
@@ -187,7 +188,9 @@ pub fn fetch_piece<L: Links>(
 ) -> Result<FetchRoom, Loss>
     requires fetchable { IsFetchable (info_of meta.now) }
     requires within { number < meta.now.plan.pieces }
-    ensures ends { IsTrue L.tells → FetchEnds (piece_parts (info_of meta.now) number) (L.state link.old).streams (L.state link.new).streams result piece.new.items }
+    requires may { IsTrue L.tells → MayBegin room (L.state link.old) }
+    ensures may { IfOk result (λ room. IsTrue L.tells → MayBegin room (L.state link.new)) }
+    ensures ends { IsTrue L.tells → FetchEnds (piece_parts (info_of meta.now) number) (L.state link.old).exchanges (L.state link.new).exchanges result piece.new.items }
     ensures len { OnOk result (length piece.new.items ≡ size_of (info_of meta.now) number) }
     ensures served { IsTrue L.tells → (L.state link.old).content.bad ≡ [] → (bytes : List ℕ) → GivesAll (L.state link.old).content (piece_parts (info_of meta.now) number) bytes
         → ServesFetch result piece.new.items bytes }

@@ -44,8 +44,8 @@ fn fetch_and_report<D: Disk, L: Links, O: Sink>(
 ) -> u8
     requires { IsFetchable (info_of meta.now) }
     ensures known { IsEnd result }
-    ensures work { IsTrue L.tells → TellsWork (info_of meta.now) (gained (L.state link.old).streams (L.state link.new).streams) result (L.faults link.old) (L.faults link.new) }
-    ensures streams { IsTrue L.tells → KeepsStreams (L.state link.old).streams (L.state link.new).streams }
+    ensures work { IsTrue L.tells → TellsWork (info_of meta.now) (gained (L.state link.old).exchanges (L.state link.new).exchanges) result (L.faults link.old) (L.faults link.new) }
+    ensures streams { IsTrue L.tells → KeepsStreams (L.state link.old).exchanges (L.state link.new).exchanges }
     ensures served { IsTrue L.tells → Serves (L.state link.old).content (info_of meta.now)
         → (result ≡ 0) ⊎ (result ≡ 40) ⊎ Rose (D.faults disk.old) (D.faults disk.new) ⊎ Rose (L.faults link.old) (L.faults link.new) ⊎ Rose (O.faults out.old) (O.faults out.new) }
     ensures done { result ≡ 0 → IsTrue D.tells → PayloadStands (info_of meta.now) (D.state disk.new) }
@@ -56,7 +56,7 @@ fn fetch_and_report<D: Disk, L: Links, O: Sink>(
     ensures sink { result ≡ 41 → Rose (O.faults out.old) (O.faults out.new) }
     ensures summary { result ≢ 40 → result ≢ 41 → IsTrue D.tells → IsTrue O.tells
         → Summarized gids (info_of meta.now) result (D.state disk.new).seen
-        (λ pieces. IsTrue L.tells → CountsRight (info_of meta.now) (gained (L.state link.old).streams (L.state link.new).streams) result pieces)
+        (λ pieces. IsTrue L.tells → CountsRight (info_of meta.now) (gained (L.state link.old).exchanges (L.state link.new).exchanges) result pieces)
         (O.taken out.old) (O.taken out.new) }
 {
     // The same streams determine one result.
@@ -79,8 +79,8 @@ fn run_named<D: Disk, L: Links, O: Sink>(
     ensures metainfo { IsTrue D.tells → TellsMetainfo ((D.state disk.old).seen name.now) result (D.faults disk.old) (D.faults disk.new) }
     ensures says { IsEnd result → result ≢ 40 → result ≢ 17 → result ≢ 3 → IsTrue D.tells → (info : Info) × Says ((D.state disk.old).seen name.now) info }
     ensures work { IsTrue D.tells → IsTrue L.tells → (info : Info) → Says ((D.state disk.old).seen name.now) info
-        → TellsWork info (gained (L.state link.old).streams (L.state link.new).streams) result (L.faults link.old) (L.faults link.new) }
-    ensures streams { IsTrue L.tells → KeepsStreams (L.state link.old).streams (L.state link.new).streams }
+        → TellsWork info (gained (L.state link.old).exchanges (L.state link.new).exchanges) result (L.faults link.old) (L.faults link.new) }
+    ensures streams { IsTrue L.tells → KeepsStreams (L.state link.old).exchanges (L.state link.new).exchanges }
     ensures served { IsTrue D.tells → IsTrue L.tells → (info : Info) → Says ((D.state disk.old).seen name.now) info → Serves (L.state link.old).content info
         → (result ≡ 0) ⊎ (result ≡ 40) ⊎ Rose (D.faults disk.old) (D.faults disk.new) ⊎ Rose (L.faults link.old) (L.faults link.new) ⊎ Rose (O.faults out.old) (O.faults out.new) }
     ensures done { result ≡ 0 → IsTrue D.tells → (info : Info) → Says ((D.state disk.old).seen name.now) info
@@ -101,7 +101,7 @@ fn run_named<D: Disk, L: Links, O: Sink>(
         → Told (O.taken out.old) (O.taken out.new) (error_line 17) (O.faults out.old) (O.faults out.new) }
     ensures summary { result ≢ 40 → result ≢ 41 → IsTrue D.tells → IsTrue O.tells → (info : Info) → Says ((D.state disk.old).seen name.now) info
         → Summarized gids info result (D.state disk.new).seen
-        (λ pieces. IsTrue L.tells → CountsRight info (gained (L.state link.old).streams (L.state link.new).streams) result pieces)
+        (λ pieces. IsTrue L.tells → CountsRight info (gained (L.state link.old).exchanges (L.state link.new).exchanges) result pieces)
         (O.taken out.old) (O.taken out.new)
         ⊎ ((result ≡ 17) × Told (O.taken out.old) (O.taken out.new) (error_line 17) (O.faults out.old) (O.faults out.new)) }
 {
@@ -143,9 +143,9 @@ pub fn run<D: Disk, L: Links, O: Sink>(
     ensures says { IsEnd result.status → result.status ≢ 40 → result.status ≢ 17 → result.status ≢ 3 → IsTrue D.tells
         → (info : Info) × IsToFetch words.now (D.state disk).seen info }
     ensures work { IsTrue D.tells → IsTrue L.tells → (info : Info) → IsToFetch words.now (D.state disk).seen info
-        → TellsWork info (gained (at_first (λ link. (L.state link).streams) [] links.items) (at_first (λ link. (L.state link).streams) [] result.links.items)) result.status
+        → TellsWork info (gained (at_first (λ link. (L.state link).exchanges) [] links.items) (at_first (λ link. (L.state link).exchanges) [] result.links.items)) result.status
         (at_first L.faults 0 links.items) (at_first L.faults 0 result.links.items) }
-    ensures streams { IsTrue L.tells → KeepsStreams (at_first (λ link. (L.state link).streams) [] links.items) (at_first (λ link. (L.state link).streams) [] result.links.items) }
+    ensures streams { IsTrue L.tells → KeepsStreams (at_first (λ link. (L.state link).exchanges) [] links.items) (at_first (λ link. (L.state link).exchanges) [] result.links.items) }
     ensures other_links { drop 1 result.links.items ≡ drop 1 links.items }
 
     // What the mirrors serve comes, unless something outside fails.
@@ -182,7 +182,7 @@ pub fn run<D: Disk, L: Links, O: Sink>(
         → (info : Info) → IsToFetch words.now (D.state disk).seen info
         → Summarized gids info result.status (D.state result.disk).seen
         (λ pieces. IsTrue L.tells
-        → CountsRight info (gained (at_first (λ link. (L.state link).streams) [] links.items) (at_first (λ link. (L.state link).streams) [] result.links.items)) result.status pieces)
+        → CountsRight info (gained (at_first (λ link. (L.state link).exchanges) [] links.items) (at_first (λ link. (L.state link).exchanges) [] result.links.items)) result.status pieces)
         (O.taken out.old) (O.taken out.new)
         ⊎ ((result.status ≡ 17) × Told (O.taken out.old) (O.taken out.new) (error_line 17) (O.faults out.old) (O.faults out.new)) }
 {

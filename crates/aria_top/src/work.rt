@@ -1,8 +1,9 @@
 // The work on a payload: its pieces are fetched in order, and each is written once it is right.
-ghost use Rattle.std.specs.Prelude.{◌≡◌, ◌≤◌, ◌<◌, ◌+◌, ◌⊎◌, None, Some, IsTrue, IfErr, IfSome, OnOk, OnErr, IsErrOf, length};
+ghost use Rattle.std.specs.Prelude.{◌≡◌, ◌≤◌, ◌<◌, ◌+◌, ◌⊎◌, None, Some, IsTrue, IfErr, IfOk, IfSome, OnOk, OnErr, IsErrOf, length};
 ghost use Rattle.dl_words.specs.Counts.{Rose};
 ghost use Rattle.sha1.specs.Sha1.{sha1};
 ghost use Rattle.dl_kinds.specs.Causes.{HasCause};
+ghost use Rattle.fetch_session.specs.Fetches.{MayBegin};
 ghost use Rattle.metainfo.specs.Info.{info_of};
 ghost use Rattle.payload_files.specs.Changes.{KeepsOthers};
 ghost use Rattle.payload_files.specs.Names.{HasFolders};
@@ -49,9 +50,11 @@ fn fetch_right<L: Links>(
 ) -> Result<FetchRoom, Failure>
     requires fetchable { IsFetchable (info_of meta.now) }
     requires within { piece < meta.now.plan.pieces }
+    requires may { IsTrue L.tells → MayBegin room (L.state link.old) }
+    ensures may { IfOk result (λ room. IsTrue L.tells → MayBegin room (L.state link.new)) }
     ensures len { OnOk result (length into.new.items ≡ size_of (info_of meta.now) piece) }
     ensures right { OnOk result (sha1 into.new.items ≡ digest_of (info_of meta.now) piece) }
-    ensures ends { IsTrue L.tells → PieceEnds (info_of meta.now) piece (L.state link.old).streams (L.state link.new).streams result }
+    ensures ends { IsTrue L.tells → PieceEnds (info_of meta.now) piece (L.state link.old).exchanges (L.state link.new).exchanges result }
     ensures served { IsTrue L.tells → GivesPiece (L.state link.old).content (info_of meta.now) piece → IfErr result IsOfOutside }
     ensures serving { IsTrue L.tells → KeepsContent (L.state link.old).content (L.state link.new).content }
     ensures disk { IsErrOf result Disk → ⊥ }
@@ -79,7 +82,9 @@ fn complete_piece<D: Disk, L: Links>(
 ) -> Result<FetchRoom, Failure>
     requires fetchable { IsFetchable (info_of meta.now) }
     requires within { piece < meta.now.plan.pieces }
-    ensures ends { IsTrue L.tells → PieceEnds (info_of meta.now) piece (L.state link.old).streams (L.state link.new).streams result }
+    requires may { IsTrue L.tells → MayBegin room (L.state link.old) }
+    ensures may { IfOk result (λ room. IsTrue L.tells → MayBegin room (L.state link.new)) }
+    ensures ends { IsTrue L.tells → PieceEnds (info_of meta.now) piece (L.state link.old).exchanges (L.state link.new).exchanges result }
     ensures served { IsTrue L.tells → GivesPiece (L.state link.old).content (info_of meta.now) piece → IfErr result IsOfOutside }
     ensures serving { IsTrue L.tells → KeepsContent (L.state link.old).content (L.state link.new).content }
     ensures known { IfErr result IsKnownFailure }
@@ -119,7 +124,8 @@ fn complete_pieces<D: Disk, L: Links>(
 ) -> Progress
     requires fetchable { IsFetchable (info_of meta.now) }
     requires lengths { IsTrue D.tells → HasFiles here meta.now.layout (D.state disk.old).seen }
-    ensures ends { IsTrue L.tells → WorkEnds (info_of meta.now) (L.state link.old).streams (L.state link.new).streams result.pieces result.failure }
+    requires may { IsTrue L.tells → MayBegin room (L.state link.old) }
+    ensures ends { IsTrue L.tells → WorkEnds (info_of meta.now) (L.state link.old).exchanges (L.state link.new).exchanges result.pieces result.failure }
     ensures served { IsTrue L.tells → Serves (L.state link.old).content (info_of meta.now) → IfSome result.failure IsOfOutside }
     ensures known { IfSome result.failure IsKnownFailure }
     ensures link { IfSome result.failure (λ failure. IsLinkFailure failure → Rose (L.faults link.old) (L.faults link.new)) }
@@ -170,7 +176,7 @@ fn make_last<D: Disk>(alloc: Global, disk: &mut D, meta: &Meta) -> Progress
 fn complete<D: Disk, L: Links>(alloc: Global, disk: &mut D, link: &mut L, meta: &Meta) -> Progress
     requires fetchable { IsFetchable (info_of meta.now) }
     requires lengths { IsTrue D.tells → HasFiles here meta.now.layout (D.state disk.old).seen }
-    ensures ends { IsTrue L.tells → WorkEnds (info_of meta.now) (L.state link.old).streams (L.state link.new).streams result.pieces result.failure }
+    ensures ends { IsTrue L.tells → WorkEnds (info_of meta.now) (L.state link.old).exchanges (L.state link.new).exchanges result.pieces result.failure }
     ensures served { IsTrue L.tells → Serves (L.state link.old).content (info_of meta.now) → IfSome result.failure IsOfOutside }
     ensures known { IfSome result.failure IsKnownFailure }
     ensures link { IfSome result.failure (λ failure. IsLinkFailure failure → Rose (L.faults link.old) (L.faults link.new)) }
@@ -217,7 +223,7 @@ pub fn fetch_payload<D: Disk, L: Links>(
     meta: &Meta,
 ) -> Progress
     requires { IsFetchable (info_of meta.now) }
-    ensures ends { IsTrue L.tells → WorkEnds (info_of meta.now) (L.state link.old).streams (L.state link.new).streams result.pieces result.failure }
+    ensures ends { IsTrue L.tells → WorkEnds (info_of meta.now) (L.state link.old).exchanges (L.state link.new).exchanges result.pieces result.failure }
     ensures served { IsTrue L.tells → Serves (L.state link.old).content (info_of meta.now) → IfSome result.failure IsOfOutside }
     ensures known { IfSome result.failure IsKnownFailure }
     ensures link { IfSome result.failure (λ failure. IsLinkFailure failure → Rose (L.faults link.old) (L.faults link.new)) }

@@ -1,14 +1,14 @@
 -- How many bytes are fetched.
-use Rattle.std.proofs.Common.{◌≡◌, ◌≢◌, ℕ, ◌+◌, ◌-◌, ◌<◌, ◌≤◌, List, [], ◌∷◌, ◌++◌, length, Option, Some, None, All, refl, sym, ap, subst, inl, inr, arith, zero-le, ⊎_elim}
+use Rattle.std.proofs.Common.{◌≡◌, ◌≢◌, ℕ, ◌+◌, ◌-◌, ◌<◌, ◌≤◌, List, [], ◌∷◌, ◌++◌, length, Option, Some, None, All, refl, sym, ap, subst, inl, inr, arith, ⊎_elim}
 use Rattle.std.proofs.lemmas.Bool.{cases_lt, cond_both}
 use Rattle.std.proofs.lemmas.Bool.Decides.{nat_tests}
 use Rattle.std.proofs.lemmas.List.{length-append}
 use Rattle.std.proofs.lemmas.List.Elements.{All-head, All-tail}
 use Rattle.std.proofs.lemmas.List.Sums.{sum_by-cons}
 use Rattle.std.specs.Prelude.{nat_lt, nat_le}
-use Rattle.link_source.specs.Streams.{Stream}
+use Rattle.link_source.specs.Exchanges.{Exchange}
 use Rattle.span_map.specs.declared.jobs.JobPart.{JobPart}
-use Rattle.reply_reader.specs.Answers.{Turn, Due, Given, Away, Lost as LostTurn, Answer, without_bytes}
+use Rattle.reply_reader.specs.Answers.{Turn, Due, Given, Away, Lost as LostTurn, Answer}
 use Rattle.reply_reader.specs.Fills.{AnswerFills, AnswersFill}
 use Rattle.reply_reader.specs.declared.loss.Loss.{Loss}
 use Rattle.reply_reader.specs.declared.loss.Loss.TheVariants.{Redirects}
@@ -49,12 +49,12 @@ lost_not_done : (ending : FetchEnding) (loss : Loss) → ending ≡ Lost loss �
 lost_not_done ending loss is done = cc
 
 -- the parts fit over these streams, whatever is asked first
-abbrev FitOver : List Stream → Type 0
+abbrev FitOver : List Exchange → Type 0
 FitOver streams = (part : JobPart) (parts : List JobPart) (url : List ℕ) (count status : ℕ) (bytes : List ℕ) (ending : FetchEnding)
     → IsJobPart part → All IsJobPart parts → FetchedBy (Ask part parts url count status) streams bytes ending [] → Fits (part ∷ parts) bytes ending
 
 -- the parts, from the first on
-plan_fits : (streams : List Stream) → FitOver streams → (parts : List JobPart) (bytes : List ℕ) (ending : FetchEnding) → All IsJobPart parts
+plan_fits : (streams : List Exchange) → FitOver streams → (parts : List JobPart) (bytes : List ℕ) (ending : FetchEnding) → All IsJobPart parts
     → FetchedBy (plan_of parts) streams bytes ending [] → Fits parts bytes ending
 plan_fits streams fit [] bytes ending are fetched =
     let none : length bytes ≡ 0 = ap length fetched.0 in
@@ -62,7 +62,7 @@ plan_fits streams fit [] bytes ending are fetched =
 plan_fits streams fit (part ∷ parts) bytes ending are fetched =
     fit part parts part.url 0 0 bytes ending (All-head IsJobPart part parts are) (All-tail IsJobPart part parts are) fetched
 
-module _ (streams : List Stream) (fit : FitOver streams) (part : JobPart) (parts : List JobPart) (url : List ℕ) (count : ℕ) (is_part : IsJobPart part) (are : All IsJobPart parts) (more : List ℕ) (ending : FetchEnding) where
+module _ (streams : List Exchange) (fit : FitOver streams) (part : JobPart) (parts : List JobPart) (url : List ℕ) (count : ℕ) (is_part : IsJobPart part) (are : All IsJobPart parts) (more : List ℕ) (ending : FetchEnding) where
   -- where all came up to a place
   behind_fits : (got : List ℕ) (last : ℕ) → part.at ≤ last → last ≤ part.at + part.len - 1 → length got ≡ last + 1 - part.at
       → FetchedBy (plan_behind part parts last) streams more ending [] → Fits (part ∷ parts) (got ++ more) ending
@@ -118,37 +118,21 @@ module _ (streams : List Stream) (fit : FitOver streams) (part : JobPart) (parts
   turn_fits answer (LostTurn loss) is fills fetched =
       cut_short part parts answer.got more ending fetched.0 (lost_not_done ending loss fetched.1) (short_got answer fills (λ given. cc))
 
-no_size : (at len : ℕ) → 0 < len → 0 ≡ at + len - 1 + 1 - at → ⊥
-no_size at len some is = omega arith
-
--- a stream on which nothing was sent answers nothing
-nothing_fills : (part : JobPart) (answer : Answer) → IsJobPart part → answer ≡ without_bytes Due → AnswerFills (asked_of part) answer
-nothing_fills part answer is_part is =
-    let some : 0 < part.len = is_part.some in
-    let P : Answer → Type 0 = AnswerFills (asked_of part) in
-    subst P (sym is) (record {
-      few = zero-le;
-      given = λ last given. cc;
-      full = λ full. absurd (no_size part.at part.len some full);
-      away = λ status location away. refl;
-    })
-
 module _ (fill : AnswersFill) where
-  reply_fills : (part : JobPart) (url : List ℕ) (stream : Stream) (answer : Answer) → IsJobPart part → Replies url (asked_of part) stream answer → AnswerFills (asked_of part) answer
+  reply_fills : (part : JobPart) (url : List ℕ) (stream : Exchange) (answer : Answer) → IsJobPart part → Replies url (asked_of part) stream answer → AnswerFills (asked_of part) answer
   reply_fills part url stream answer is_part replies =
       let some : 0 < part.len = is_part.some in
-      elim replies [
-        | inl dialled ↦ nothing_fills part answer is_part dialled.1
-        | inr sent ↦ fill (asked_of part) stream.received stream.ended answer (omega arith) sent.1
-      ]
+      fill (asked_of part) stream.received stream.ended answer (omega arith) replies.1
 
-  fit_over : (streams : List Stream) → FitOver streams
+  fit_over : (streams : List Exchange) → FitOver streams
   fit_over [] part parts url count status bytes ending is_part are fetched =
       let some : 0 < part.len = is_part.some in
       let none : length bytes ≡ 0 = ap length fetched.0 in
       let not_done : ending ≢ Done = elim fetched.1 [ inl usable ↦ open_not_done ending usable.1 | inr lost ↦ lost_not_done ending (unusable status) lost.1 ] in
       cut_short part parts [] bytes ending fetched.0 not_done some
-  fit_over (stream ∷ streams) part parts url count status bytes ending is_part are fetched =
+  fit_over (stream ∷ streams) part parts url count status bytes ending is_part are (inl vain) =
+      fit_over streams part parts url count status bytes ending is_part are vain.1
+  fit_over (stream ∷ streams) part parts url count status bytes ending is_part are (inr fetched) =
       let answer : Answer = fetched.0 in
       let more : List ℕ = fetched.1 in
       let P : List ℕ → Type 0 = λ all. Fits (part ∷ parts) all ending in

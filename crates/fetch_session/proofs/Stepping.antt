@@ -8,7 +8,7 @@ use Rattle.dl_kinds.specs.Plan.{blocks_of}
 use Rattle.dl_kinds.specs.PlanLaws.{BlocksFollow}
 use Rattle.dl_kinds.specs.declared.plan.Plan.{Plan}
 use Rattle.dl_kinds.specs.declared.runs.Run.{Run}
-use Rattle.link_source.specs.Streams.{Stream}
+use Rattle.link_source.specs.Exchanges.{Exchange}
 use Rattle.span_map.specs.declared.jobs.Job.{Job}
 use Rattle.span_map.specs.declared.jobs.JobPart.{JobPart}
 use Rattle.reply_reader.specs.declared.loss.Loss.{Loss}
@@ -36,7 +36,7 @@ job_end job follow is =
     is.len ∙ cut_next job.plan (job.run.first + job.run.count - 1) follow (omega arith) ∙ ap (cut job.plan) at
 
 -- what a loss tells is some ending, in which not all came, and no other loss
-tells_ending : (parts : List JobPart) (used : List Stream) (bytes : List ℕ) (faults : ℕ) (loss : Loss) → loss ≢ NoMemory → TellsLoss parts used bytes faults loss
+tells_ending : (parts : List JobPart) (used : List Exchange) (bytes : List ℕ) (faults : ℕ) (loss : Loss) → loss ≢ NoMemory → TellsLoss parts used bytes faults loss
     → (ending : FetchEnding) × (ending ≢ Done) × Fetched parts used bytes ending [] × ((gone : Loss) → ending ≡ Lost gone → loss ≡ gone)
 tells_ending parts used bytes faults (Link count) not tells = (Open, λ e. cc, tells.0, λ gone is. cc)
 tells_ending parts used bytes faults NoMemory not tells = absurd (not refl)
@@ -51,7 +51,7 @@ tells_ending parts used bytes faults Redirects not tells = (Lost Redirects, λ e
 regroup : (a b c d : List ℕ) → ((a ++ b) ++ c) ++ d ≡ a ++ ((b ++ c) ++ d)
 regroup a b c d = simp append_assoc
 
-module _ (fits : FetchedFits) (parts : List JobPart) (are : All IsJobPart parts) (later : List Stream) (bytes waiting : List ℕ) (ending : FetchEnding) (fetched : Fetched parts later (bytes ++ waiting) ending []) where
+module _ (fits : FetchedFits) (parts : List JobPart) (are : All IsJobPart parts) (later : List Exchange) (bytes waiting : List ℕ) (ending : FetchEnding) (fetched : Fetched parts later (bytes ++ waiting) ending []) where
   -- where as many bytes came as the parts have, all came, and none waits
   whole_done : parts_len parts ≤ length bytes → (ending ≡ Done) × Fetched parts later bytes Done []
   whole_done whole =
@@ -75,7 +75,7 @@ module _ (fits : FetchedFits) (parts : List JobPart) (are : All IsJobPart parts)
       })) (λ (whole : parts_len parts ≤ length bytes). inl (whole_done whole).1) (cases_lt (length bytes) (parts_len parts))
 
 -- bytes that came are at the front of what the streams tell
-come_front : (parts : List JobPart) (used : List Stream) (handed held : List ℕ) (lost : Option Loss) (chain : Chain)
+come_front : (parts : List JobPart) (used : List Exchange) (handed held : List ℕ) (lost : Option Loss) (chain : Chain)
     → HasCome parts used (handed ++ held) lost chain → lost ≢ Some NoMemory → IsFrontOfFetched parts used handed
 come_front parts used handed held None chain (inl all) kept = record { behind = held; ending = Done; fetched = all }
 come_front parts used handed held None chain (inr more) kept = record {
@@ -89,7 +89,7 @@ come_front parts used handed held (Some loss) chain came kept =
     let told = tells_ending parts used (handed ++ held) came.1.0 loss (λ memory. kept (ap Some memory)) came.1.1 in
     record { behind = held; ending = told.0; fetched = told.2 }
 
-module _ (fits : FetchedFits) (follow : BlocksFollow) (job : Job) (used : List Stream) (handed : List ℕ) (old : Fetch) (is : IsFetch job used handed old) where
+module _ (fits : FetchedFits) (follow : BlocksFollow) (job : Job) (used : List Exchange) (handed : List ℕ) (old : Fetch) (is : IsFetch job used handed old) where
   -- how far what is held reaches
   reaches : (cut job.plan old.ready.first + length old.held.items ≡ run_start job.plan job.run + length (handed ++ old.held.items))
       × (run_start job.plan job.run + parts_len job.parts ≡ cut job.plan old.end)
@@ -115,7 +115,7 @@ module _ (fits : FetchedFits) (follow : BlocksFollow) (job : Job) (used : List S
       ready_is job.plan job.run old.end (length handed) (length came) (length old.held.items) old.ready follow plan_within is.end_is is.begun is.handed_is plan_ready le waits
 
 -- Where there is room.
-module _ (fits : FetchedFits) (follow : BlocksFollow) (job : Job) (used : List Stream) (handed : List ℕ) (old : Fetch) (is : IsFetch job used handed old)
+module _ (fits : FetchedFits) (follow : BlocksFollow) (job : Job) (used : List Exchange) (handed : List ℕ) (old : Fetch) (is : IsFetch job used handed old)
     (room : ℕ) (some_room : 0 < room) (has_room : cut old.plan old.ready.first + vec_len old.held + room ≡ cut old.plan (min (old.ready.first + 64) old.end)) where
   pub plan_room : cut job.plan old.ready.first + length old.held.items + room ≡ cut job.plan (min (old.ready.first + 64) old.end)
   plan_room =
@@ -154,7 +154,7 @@ module _ (fits : FetchedFits) (follow : BlocksFollow) (job : Job) (used : List S
       ]
 
   -- What stands after the call: the run and the blocks that were handed out are the same.
-  module _ (later : List Stream) (new : Fetch) (plan_is : new.plan ≡ old.plan) (end_is : new.end ≡ old.end) (first_is : new.ready.first ≡ old.ready.first) where
+  module _ (later : List Exchange) (new : Fetch) (plan_is : new.plan ≡ old.plan) (end_is : new.end ≡ old.end) (first_is : new.ready.first ≡ old.ready.first) where
     still_left : (rest_of new).count ≡ 0 → ⊥
     still_left none = let left = some_left in omega (arith, left, end_is, first_is, none)
 
@@ -222,10 +222,10 @@ or_stopped : (allow : ℕ) (got : Got) (lost : Option Loss) → (got.done ≡ tr
 or_stopped allow got lost (inl done) = inl done
 or_stopped allow got lost (inr most) = inr (inl most)
 
-module _ (fits : FetchedFits) (follow : BlocksFollow) (job : Job) (used : List Stream) (handed : List ℕ) (old : Fetch) (is : IsFetch job used handed old)
+module _ (fits : FetchedFits) (follow : BlocksFollow) (job : Job) (used : List Exchange) (handed : List ℕ) (old : Fetch) (is : IsFetch job used handed old)
     (room : ℕ) (some_room : 0 < room) (has_room : cut old.plan old.ready.first + vec_len old.held + room ≡ cut old.plan (min (old.ready.first + 64) old.end))
     (new : Fetch) (plan_is : new.plan ≡ old.plan) (end_is : new.end ≡ old.end) (first_is : new.ready.first ≡ old.ready.first)
-    (before now : List Stream) (faults allow : ℕ) (added : List ℕ) where
+    (before now : List Exchange) (faults allow : ℕ) (added : List ℕ) where
   -- a read that lost nothing
   pub steps_read : (got : Got) (read : ChainRead) → new.lost ≡ None → new.held.items ≡ old.held.items ++ added
       → ReadsChain job.parts before used (handed ++ old.held.items) now added room allow read new.chain
@@ -293,7 +293,7 @@ module _ (fits : FetchedFits) (follow : BlocksFollow) (job : Job) (used : List S
       }
 
   -- no more came than was allowed
-  few_lost : (later : List Stream) (taken : ℕ) → received_by later ≡ received_by used + taken → taken ≤ allow → received_by later ≤ received_by used + allow
+  few_lost : (later : List Exchange) (taken : ℕ) → received_by later ≡ received_by used + taken → taken ≤ allow → received_by later ≤ received_by used + allow
   few_lost later taken took few = omega (arith, took, few)
 
   -- a read that lost the rest, but not for want of memory: what stands then
@@ -357,7 +357,7 @@ module _ (fits : FetchedFits) (follow : BlocksFollow) (job : Job) (used : List S
     }
 
   -- memory ran out: nothing of what came then is kept
-  pub fails_memory : (loss : Loss) → loss ≡ NoMemory → (later : List Stream) → Gains before now later
+  pub fails_memory : (loss : Loss) → loss ≡ NoMemory → (later : List Exchange) → Gains before now later
       → received_by later ≤ received_by used + allow → new.lost ≡ Some loss → new.held.items ≡ old.held.items → new.ready.count ≡ 0
       → Fails job before used handed now allow loss new
   fails_memory loss memory later gains few lost_is held_is none =
@@ -379,8 +379,8 @@ module _ (fits : FetchedFits) (follow : BlocksFollow) (job : Job) (used : List S
         tells = tells;
       }
 
-module _ (fits : FetchedFits) (follow : BlocksFollow) (job : Job) (used : List Stream) (handed : List ℕ) (old : Fetch) (is : IsFetch job used handed old)
-    (before now : List Stream) (gains : Gains before now used) (allow : ℕ) where
+module _ (fits : FetchedFits) (follow : BlocksFollow) (job : Job) (used : List Exchange) (handed : List ℕ) (old : Fetch) (is : IsFetch job used handed old)
+    (before now : List Exchange) (gains : Gains before now used) (allow : ℕ) where
   -- the loss that is held back
   pub fails_held : (loss : Loss) → old.lost ≡ Some loss → old.ready.count ≡ 0 → Fails job before used handed now allow loss old
   fails_held loss lost_is none =
@@ -436,12 +436,12 @@ module _ (fits : FetchedFits) (follow : BlocksFollow) (job : Job) (used : List S
       }
 
 -- what was handed out is at the front of what the streams tell
-pub handed_front : (job : Job) (used : List Stream) (handed : List ℕ) (fetch : Fetch) → IsFetch job used handed fetch → fetch.lost ≢ Some NoMemory
+pub handed_front : (job : Job) (used : List Exchange) (handed : List ℕ) (fetch : Fetch) → IsFetch job used handed fetch → fetch.lost ≢ Some NoMemory
     → IsFrontOfFetched job.parts used handed
 handed_front job used handed fetch is kept = come_front job.parts used handed fetch.held.items fetch.lost fetch.chain is.came kept
 
 -- the second buffer came in
-pub same_fetch : (job : Job) (used : List Stream) (handed : List ℕ) (old new : Fetch) → SameButSpare old new → IsFetch job used handed old → IsFetch job used handed new
+pub same_fetch : (job : Job) (used : List Exchange) (handed : List ℕ) (old new : Fetch) → SameButSpare old new → IsFetch job used handed old → IsFetch job used handed new
 same_fetch job used handed old new same is =
     let first : new.ready.first ≡ old.ready.first = ap (λ (r : Run). r.first) same.ready in
     let C : Chain → Type 0 = λ chain. HasCome job.parts used (handed ++ old.held.items) old.lost chain in
@@ -459,8 +459,8 @@ same_fetch job used handed old new same is =
     }
 
 -- the streams are the same after the link was hung up
-pub steps_at : (job : Job) (before used : List Stream) (handed : List ℕ) (now new_now : List Stream) (allow : ℕ) (got : Got) (new : Fetch) → new_now ≡ now
+pub steps_at : (job : Job) (before used : List Exchange) (handed : List ℕ) (now new_now : List Exchange) (allow : ℕ) (got : Got) (new : Fetch) → new_now ≡ now
     → FetchSteps job before used handed now allow got new → FetchSteps job before used handed new_now allow got new
 steps_at job before used handed now new_now allow got new same steps =
-    let P : List Stream → Type 0 = λ streams. FetchSteps job before used handed streams allow got new in
+    let P : List Exchange → Type 0 = λ streams. FetchSteps job before used handed streams allow got new in
     subst P (sym same) steps

@@ -6,7 +6,7 @@ use Rattle.dl_kinds.specs.Plan.{blocks_of}
 use Rattle.dl_kinds.specs.PlanLaws.{BlocksFollow}
 use Rattle.dl_kinds.specs.declared.plan.Plan.{Plan}
 use Rattle.dl_kinds.specs.declared.runs.Run.{Run}
-use Rattle.link_source.specs.Streams.{Stream}
+use Rattle.link_source.specs.Exchanges.{Exchange}
 use Rattle.span_map.specs.declared.jobs.Job.{Job}
 use Rattle.span_map.specs.declared.jobs.JobPart.{JobPart}
 use Rattle.reply_reader.specs.declared.loss.Loss.{Loss}
@@ -78,12 +78,12 @@ begun_fetch job new follow is plan_is end_is first_is none_held none_lost chain 
     }
 
 -- where as many bytes came as the parts have, all came
-whole_come : (parts : List JobPart) (used : List Stream) (bytes : List ℕ) (lost : Option Loss) (chain : Chain) → parts_len parts ≤ length bytes → HasCome parts used bytes lost chain
+whole_come : (parts : List JobPart) (used : List Exchange) (bytes : List ℕ) (lost : Option Loss) (chain : Chain) → parts_len parts ≤ length bytes → HasCome parts used bytes lost chain
     → Fetched parts used bytes Done []
 whole_come parts used bytes None chain whole came = elim came [ inl all ↦ all | inr more ↦ absurd (let short : length bytes < parts_len parts = more.short in omega arith) ]
 whole_come parts used bytes (Some loss) chain whole came = absurd (let short : length bytes < parts_len parts = came.0 in omega arith)
 
-pub taken_fetch : (job : Job) (used : List Stream) (handed : List ℕ) (old new : Fetch) (blocks : List ℕ) → BlocksFollow
+pub taken_fetch : (job : Job) (used : List Exchange) (handed : List ℕ) (old new : Fetch) (blocks : List ℕ) → BlocksFollow
     → new.plan ≡ old.plan → new.end ≡ old.end → new.ready.first ≡ old.ready.first + old.ready.count → new.chain ≡ old.chain → new.lost ≡ old.lost
     → old.held.items ≡ blocks ++ new.held.items → cut old.plan old.ready.first + length blocks ≡ cut old.plan (old.ready.first + old.ready.count)
     → IsFetch job used handed old → IsFetch job used (handed ++ blocks) new

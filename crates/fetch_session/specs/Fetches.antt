@@ -3,7 +3,7 @@ use Rattle.std.specs.Prelude.{◌≡◌, ◌≢◌, ◌⊎◌, ◌<◌, ◌≤�
 use Rattle.dl_kinds.specs.declared.plan.Plan.{Plan}
 use Rattle.dl_kinds.specs.declared.runs.Run.{Run}
 use Rattle.link_source.specs.Link.{LinkState}
-use Rattle.link_source.specs.Streams.{Stream}
+use Rattle.link_source.specs.Exchanges.{Exchange}
 use Rattle.span_map.specs.declared.jobs.Job.{Job}
 use Rattle.span_map.specs.declared.jobs.JobPart.{JobPart}
 use Rattle.reply_reader.specs.declared.loss.Loss.{Loss}
@@ -11,12 +11,14 @@ use Rattle.reply_reader.specs.declared.loss.Loss.TheVariants.{NoMemory}
 use Rattle.request_chain.specs.Chains.{IsChain, Gains, HasBrought, TellsLoss, received_by}
 use Rattle.request_chain.specs.Fetched.{Fetched}
 use Rattle.request_chain.specs.Plans.{FetchEnding, Done, Lost}
+use Rattle.request_chain.specs.Rests.{RestsOn}
 use Rattle.request_chain.specs.Turns.{AsksFor, MayGoOn}
 use Rattle.request_chain.specs.declared.chain.Chain.{Chain}
 use Rattle.fetch_session.specs.Blocks.{cut, ready_blocks}
 use Rattle.span_map.specs.Jobs.{IsJob, parts_len, run_start}
 use Rattle.fetch_session.specs.declared.fetch.Fetch.{Fetch}
 use Rattle.fetch_session.specs.declared.fetch.Got.{Got}
+use Rattle.fetch_session.specs.declared.room.FetchRoom.{FetchRoom}
 
 abbrev pub fetch_plan : Fetch → Plan
 fetch_plan fetch = fetch.plan
@@ -33,10 +35,18 @@ ready_of fetch = fetch.ready
 abbrev pub lost_of : Fetch → Option Loss
 lost_of fetch = fetch.lost
 
--- where a step would go on with a reply, the link listens
-abbrev pub MayStep : Fetch → LinkState → Type 0
-MayStep fetch link =
-    lost_of fetch ≡ None → (ready_of fetch).count < (rest_of fetch).count → MayGoOn fetch.chain link
+-- where a fetch with this room would go on over the connection of the one before, the link is still open there
+abbrev pub MayBegin : FetchRoom → LinkState → Type 0
+MayBegin room link = RestsOn room.chain link
+
+-- where a step would go on with a reply or over that connection, the link is open there
+pub record MayStep (fetch : Fetch) (link : LinkState) : Type 0 where
+  pub steps : lost_of fetch ≡ None → (ready_of fetch).count < (rest_of fetch).count → MayGoOn fetch.chain link
+  pub rests : lost_of fetch ≡ None → RestsOn fetch.chain.room link
+
+-- the link is closed, or the next fetch may go on over its connection
+abbrev pub IsLetGo : Fetch → LinkState → Type 0
+IsLetGo fetch link = (link.peer ≡ None) ⊎ (fetch.chain.room.rests ≡ true)
 
 -- the next request of the fetch is for this URL
 abbrev pub AsksNext : Fetch → List ℕ → Type 0
@@ -56,19 +66,19 @@ abbrev pub IsShort : List JobPart → List ℕ → Type 0
 IsShort parts bytes = length bytes < parts_len parts
 
 -- The chain brings more behind these bytes, which the streams tell.
-pub record BringsMore (parts : List JobPart) (used : List Stream) (bytes : List ℕ) (chain : Chain) : Type 0 where
+pub record BringsMore (parts : List JobPart) (used : List Exchange) (bytes : List ℕ) (chain : Chain) : Type 0 where
   pub short : IsShort parts bytes
   pub chain_is : IsChain parts used bytes chain
   pub waiting : List ℕ
   pub brought : HasBrought parts used bytes waiting
 
 -- these bytes came over these streams: all, or the chain brings more, or the rest is lost
-abbrev pub HasCome : List JobPart → List Stream → List ℕ → Option Loss → Chain → Type 0
+abbrev pub HasCome : List JobPart → List Exchange → List ℕ → Option Loss → Chain → Type 0
 HasCome parts used bytes None chain = Fetched parts used bytes Done [] ⊎ BringsMore parts used bytes chain
 HasCome parts used bytes (Some loss) chain = IsShort parts bytes × ((count : ℕ) × TellsLoss parts used bytes count loss)
 
 -- The fetch of the job used these streams, the oldest first, and handed out these bytes of it.
-pub record IsFetch (job : Job) (used : List Stream) (handed : List ℕ) (fetch : Fetch) : Type 0 where
+pub record IsFetch (job : Job) (used : List Exchange) (handed : List ℕ) (fetch : Fetch) : Type 0 where
   pub is_job : IsJob job
   pub plan_is : fetch.plan ≡ job.plan
   pub end_is : fetch.end ≡ job.run.first + job.run.count
@@ -78,14 +88,14 @@ pub record IsFetch (job : Job) (used : List Stream) (handed : List ℕ) (fetch :
   pub all : (rest_of fetch).count ≡ 0 → Fetched job.parts used handed Done []
 
 -- the streams tell the bytes that were handed out, and more behind them
-pub record IsFrontOfFetched (parts : List JobPart) (used : List Stream) (handed : List ℕ) : Type 0 where
+pub record IsFrontOfFetched (parts : List JobPart) (used : List Exchange) (handed : List ℕ) : Type 0 where
   pub behind : List ℕ
   pub ending : FetchEnding
   pub fetched : Fetched parts used (handed ++ behind) ending []
 
 -- what a fetch handed out is at the front of what its streams tell, unless memory ran out
 abbrev pub HandedIsFetched : Type 0
-HandedIsFetched = (job : Job) (used : List Stream) (handed : List ℕ) (fetch : Fetch)
+HandedIsFetched = (job : Job) (used : List Exchange) (handed : List ℕ) (fetch : Fetch)
     → IsFetch job used handed fetch → lost_of fetch ≢ Some NoMemory → IsFrontOfFetched job.parts used handed
 
 -- A step ends where this many blocks are ready, where so many bytes came as are allowed, or where it holds back a loss.
@@ -93,8 +103,8 @@ abbrev pub IsStopped : ℕ → Got → Option Loss → Type 0
 IsStopped allow got lost = (got.ready.count ≡ 64) ⊎ (got.taken ≡ allow) ⊎ IsSome lost
 
 -- What a step gained: came is what came and wasn't handed out.
-pub record FetchSteps (job : Job) (before used : List Stream) (handed : List ℕ) (now : List Stream) (allow : ℕ) (got : Got) (new : Fetch) : Type 0 where
-  pub later : List Stream
+pub record FetchSteps (job : Job) (before used : List Exchange) (handed : List ℕ) (now : List Exchange) (allow : ℕ) (got : Got) (new : Fetch) : Type 0 where
+  pub later : List Exchange
   pub gains : Gains before now later
   pub is_fetch : IsFetch job later handed new
   pub came : List ℕ
@@ -109,8 +119,8 @@ pub record FetchSteps (job : Job) (before used : List Stream) (handed : List ℕ
   pub lost : (loss : Loss) → ending ≡ Lost loss → (lost_of new ≡ Some loss) ⊎ (got.ready.count ≡ 64) ⊎ (got.taken ≡ allow)
 
 -- What a step gained that lost the rest: no whole block came that wasn't handed out.
-pub record Fails (job : Job) (before used : List Stream) (handed : List ℕ) (now : List Stream) (allow : ℕ) (loss : Loss) (new : Fetch) : Type 0 where
-  pub later : List Stream
+pub record Fails (job : Job) (before used : List Exchange) (handed : List ℕ) (now : List Exchange) (allow : ℕ) (loss : Loss) (new : Fetch) : Type 0 where
+  pub later : List Exchange
   pub gains : Gains before now later
   pub is_fetch : IsFetch job later handed new
   pub few : received_by later ≤ received_by used + allow

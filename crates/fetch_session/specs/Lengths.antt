@@ -1,6 +1,6 @@
 -- How many bytes are fetched.
 use Rattle.std.specs.Prelude.{◌≡◌, ◌≤◌, ℕ, List, [], length, All}
-use Rattle.link_source.specs.Streams.{Stream}
+use Rattle.link_source.specs.Exchanges.{Exchange}
 use Rattle.span_map.specs.declared.jobs.JobPart.{JobPart}
 use Rattle.span_map.specs.Jobs.{IsJobPart, parts_len}
 use Rattle.request_chain.specs.Fetched.{Fetched}
@@ -14,5 +14,5 @@ pub record Fits (parts : List JobPart) (bytes : List ℕ) (ending : FetchEnding)
 
 -- where all of the parts were asked for over these streams
 abbrev pub FetchedFits : Type 0
-FetchedFits = (parts : List JobPart) (streams : List Stream) (bytes : List ℕ) (ending : FetchEnding)
+FetchedFits = (parts : List JobPart) (streams : List Exchange) (bytes : List ℕ) (ending : FetchEnding)
     → All IsJobPart parts → Fetched parts streams bytes ending [] → Fits parts bytes ending

@@ -1,9 +1,11 @@
 // A fetch of a run of blocks.
-ghost use Rattle.std.specs.Prelude.{◌≡◌, ◌↔◌, ◌<◌, ◌≤◌, ℕ, ◌+◌, ◌++◌, ◌∷◌, [], List, length, vec_len, vec_capacity, Some, None, Err, false, min, IsTrue, IsFalse, IsSome, IfSome, IfOk, IfErr, OnErr, MatchResult};
+ghost use Rattle.std.specs.Prelude.{◌≡◌, ◌↔◌, ◌<◌, ◌≤◌, ℕ, ◌+◌, ◌++◌, ◌∷◌, [], List, length, vec_len, vec_capacity, Some, None, Err, true, false, min, IsTrue, IsFalse, IsSome, IfSome, IfOk, IfErr, OnErr, MatchResult};
 ghost use Rattle.std.specs.Option.{ForSome, ForNone};
 ghost use Rattle.dl_kinds.specs.Plan.{blocks_of};
 ghost use Rattle.reply_reader.specs.Losses.{IsKnown};
 ghost use Rattle.fetch_session.specs.Blocks.{AreReady};
+ghost use Rattle.link_source.specs.Link.{LinkState};
+ghost use Rattle.request_chain.specs.Rests.{RestsOn};
 ghost use Rattle.fetch_session.specs.Known.{is_known};
 
 use crate::blocks::{cut, missing, take_front, whole_from};
@@ -12,7 +14,7 @@ use crate::room::{BUFFER, FetchRoom, make_buffer};
 use dl_kinds::{Blob, NoMemory, Plan, Run, plan_laws};
 use link_source::Links;
 use reply_reader::Loss;
-use request_chain::Chain;
+use request_chain::{Chain, ChainRoom};
 use span_map::Job;
 use std::alloc::Global;
 
@@ -50,7 +52,7 @@ pub struct Fetch {
 impl Fetch {
     ghost use Rattle.link_source.specs.Endpoint.{IsUsable};
     ghost use Rattle.link_source.specs.Link.{LinkState, closed};
-    ghost use Rattle.link_source.specs.Streams.{Stream};
+    ghost use Rattle.link_source.specs.Exchanges.{Exchange};
     ghost use Rattle.request_chain.specs.Chains.{Gains};
     ghost use Rattle.request_chain.specs.Answered.{KeepsAnswers};
     ghost use Rattle.request_chain.specs.Links.{CountsLinkLoss};
@@ -58,7 +60,7 @@ impl Fetch {
     ghost use Rattle.span_map.specs.declared.jobs.JobPart.{JobPart};
     ghost use Rattle.fetch_session.specs.Blocks.{cut};
     ghost use Rattle.span_map.specs.Jobs.{IsJob, run_end, run_start};
-    ghost use Rattle.fetch_session.specs.Fetches.{fetch_plan, rest_of, ready_of, lost_of, IsFetch, AsksNext, MayStep, SameButSpare, FetchSteps, Fails};
+    ghost use Rattle.fetch_session.specs.Fetches.{fetch_plan, rest_of, ready_of, lost_of, IsFetch, AsksNext, IsLetGo, MayBegin, MayStep, SameButSpare, FetchSteps, Fails};
 
     /// Begins the fetch of a run, with the parts of resources that are its bytes.
     pub fn begin(job: Job, room: FetchRoom) -> Fetch
@@ -68,7 +70,7 @@ impl Fetch {
         ensures rest { rest_of result ≡ job.run }
         ensures none_ready { (ready_of result).count ≡ 0 }
         ensures none_lost { lost_of result ≡ None }
-        ensures may { (link : LinkState) → MayStep result link }
+        ensures may { (link : LinkState) → MayBegin room link → MayStep result link }
         ensures own { (part : JobPart) (others : List JobPart) → job.parts ≡ part ∷ others
             → AsksNext result part.url }
         ensures first { cut job.plan job.run.first ≡ run_start job.plan job.run }
@@ -109,21 +111,23 @@ impl Fetch {
         }
     }
 
-    /// What stands after a step that took so many bytes. The link is hung up where all came.
+    /// What stands after a step that took so many bytes. The link is hung up where all came, unless its connection may
+    /// take another request.
     fn end_step<L: Links>(&self, link: &mut L, taken: u32) -> Got
         ensures ready { result.ready ≡ ready_of self.now }
         ensures taken { result.taken ≡ taken }
         ensures done { IsTrue result.done ↔ ((ready_of self.now).count ≡ (rest_of self.now).count) }
-        ensures closed { IsTrue result.done → IsTrue L.tells
-            → L.state link.new ≡ closed (L.state link.old) }
+        ensures closed { IsTrue result.done → IsTrue L.tells → IsLetGo self.now (L.state link.new) }
+        ensures kept { self.now.chain.room.rests ≡ true → link.new ≡ link.old }
         ensures same { IsFalse result.done → link.new ≡ link.old }
-        ensures streams { IsTrue L.tells → (L.state link.new).streams ≡ (L.state link.old).streams }
-        ensures answered { IsTrue L.tells → (before : List Stream)
+        ensures streams { IsTrue L.tells
+            → (L.state link.new).exchanges ≡ (L.state link.old).exchanges }
+        ensures answered { IsTrue L.tells → (before : List Exchange)
             → KeepsAnswers before (L.state link.old) (L.state link.new) }
         ensures faults { L.faults link.new ≡ L.faults link.old }
     {
         let got = self.got(taken);
-        if got.done {
+        if got.done && !self.chain.rests() {
             link.hang_up();
         }
         got
@@ -137,11 +141,13 @@ impl Fetch {
         requires none_ready { (ready_of self.old).count ≡ 0 }
         requires some { 0 < allow }
         requires may { IsTrue L.tells → MayStep self.old (L.state link.old) }
-        ensures reads { IsTrue L.tells → (job : Job) (before used : List Stream) (handed : List ℕ)
-            → IsFetch job used handed self.old → Gains before (L.state link.old).streams used
+        ensures reads { IsTrue L.tells → (job : Job) (before used : List Exchange) (handed : List ℕ)
+            → IsFetch job used handed self.old → Gains before (L.state link.old).exchanges used
             → MatchResult result
-            (λ got. FetchSteps job before used handed (L.state link.new).streams allow got self.new)
-            (λ loss. Fails job before used handed (L.state link.new).streams allow loss self.new) }
+            (λ got. FetchSteps job before used handed (L.state link.new).exchanges allow got
+            self.new)
+            (λ loss. Fails job before used handed (L.state link.new).exchanges allow loss
+            self.new) }
         ensures plan { fetch_plan self.new ≡ fetch_plan self.old }
         ensures rest { rest_of self.new ≡ rest_of self.old }
 
@@ -163,12 +169,13 @@ impl Fetch {
             → link.new ≡ link.old }
 
         // Over mirrors in memory each request had one answer: the true reply, or a bad answer that is used then.
-        ensures answered { IsTrue L.tells → (job : Job) (before used : List Stream) (handed : List ℕ)
-            → IsFetch job used handed self.old → Gains before (L.state link.old).streams used
+        ensures answered { IsTrue L.tells
+            → (job : Job) (before used : List Exchange) (handed : List ℕ)
+            → IsFetch job used handed self.old → Gains before (L.state link.old).exchanges used
             → KeepsAnswers before (L.state link.old) (L.state link.new) }
         ensures may { IsTrue L.tells → MayStep self.new (L.state link.new) }
         ensures closed { IfOk result (λ got. IsTrue got.done → 0 < got.ready.count
-            → IsTrue L.tells → (L.state link.new).listens ≡ false) }
+            → IsTrue L.tells → IsLetGo self.new (L.state link.new)) }
         ensures none_ready { OnErr result ((ready_of self.new).count ≡ 0) }
         ensures cause { lost_of self.old ≡ None
             → IfSome (lost_of self.new) (CountsLinkLoss (L.faults link.old) (L.faults link.new)) }
@@ -192,7 +199,7 @@ impl Fetch {
 
     /// Makes the buffer that wasn't given back.
     fn refill(&mut self, alloc: Global) -> Result<(), NoMemory>
-        ensures fetch { (job : Job) (used : List Stream) (handed : List ℕ)
+        ensures fetch { (job : Job) (used : List Exchange) (handed : List ℕ)
             → IsFetch job used handed self.old → IsFetch job used handed self.new }
         ensures shown { SameButSpare self.old self.new }
         ensures may { (link : LinkState) → MayStep self.old link → MayStep self.new link }
@@ -220,11 +227,13 @@ impl Fetch {
         requires may { IsTrue L.tells → MayStep self.old (L.state link.old) }
         requires room { cut self.old.plan self.old.ready.first + vec_len self.old.held + room
             ≡ cut self.old.plan (min (self.old.ready.first + 64) self.old.end) }
-        ensures reads { IsTrue L.tells → (job : Job) (before used : List Stream) (handed : List ℕ)
-            → IsFetch job used handed self.old → Gains before (L.state link.old).streams used
+        ensures reads { IsTrue L.tells → (job : Job) (before used : List Exchange) (handed : List ℕ)
+            → IsFetch job used handed self.old → Gains before (L.state link.old).exchanges used
             → MatchResult result
-            (λ got. FetchSteps job before used handed (L.state link.new).streams allow got self.new)
-            (λ loss. Fails job before used handed (L.state link.new).streams allow loss self.new) }
+            (λ got. FetchSteps job before used handed (L.state link.new).exchanges allow got
+            self.new)
+            (λ loss. Fails job before used handed (L.state link.new).exchanges allow loss
+            self.new) }
         ensures plan { fetch_plan self.new ≡ fetch_plan self.old }
         ensures rest { rest_of self.new ≡ rest_of self.old }
         ensures ready { IfOk result (λ got. got.ready ≡ ready_of self.new) }
@@ -238,12 +247,13 @@ impl Fetch {
         ensures refused { (url : List ℕ) → AsksNext self.old url → (IsUsable url → ⊥)
             → link.new ≡ link.old }
 
-        ensures answered { IsTrue L.tells → (job : Job) (before used : List Stream) (handed : List ℕ)
-            → IsFetch job used handed self.old → Gains before (L.state link.old).streams used
+        ensures answered { IsTrue L.tells
+            → (job : Job) (before used : List Exchange) (handed : List ℕ)
+            → IsFetch job used handed self.old → Gains before (L.state link.old).exchanges used
             → KeepsAnswers before (L.state link.old) (L.state link.new) }
         ensures may { IsTrue L.tells → MayStep self.new (L.state link.new) }
         ensures closed { IfOk result (λ got. IsTrue got.done → 0 < got.ready.count
-            → IsTrue L.tells → (L.state link.new).listens ≡ false) }
+            → IsTrue L.tells → IsLetGo self.new (L.state link.new)) }
         ensures none_ready { OnErr result ((ready_of self.new).count ≡ 0) }
         ensures cause { IfSome (lost_of self.new) (CountsLinkLoss (L.faults link.old) (L.faults link.new)) }
         ensures later { L.faults link.old ≤ L.faults link.new }
@@ -282,7 +292,7 @@ impl Fetch {
     /// The bytes of the ready blocks, in one of the buffers. It takes no memory.
     pub fn take_blocks(&mut self) -> Blob
         requires { 0 < (ready_of self.old).count }
-        ensures takes { (job : Job) (used : List Stream) (handed : List ℕ)
+        ensures takes { (job : Job) (used : List Exchange) (handed : List ℕ)
             → IsFetch job used handed self.old → IsFetch job used (handed ++ result) self.new }
         ensures may { (link : LinkState) → MayStep self.old link → MayStep self.new link }
         ensures len { run_start (fetch_plan self.old) (ready_of self.old) + length result
@@ -313,7 +323,7 @@ impl Fetch {
 
     /// Gives a buffer back. A blob that isn't one of the buffers is dropped. It takes no memory.
     pub fn give_back(&mut self, room: Blob)
-        ensures fetch { (job : Job) (used : List Stream) (handed : List ℕ)
+        ensures fetch { (job : Job) (used : List Exchange) (handed : List ℕ)
             → IsFetch job used handed self.old → IsFetch job used handed self.new }
         ensures may { (link : LinkState) → MayStep self.old link → MayStep self.new link }
         ensures plan { fetch_plan self.new ≡ fetch_plan self.old }
@@ -327,8 +337,10 @@ impl Fetch {
         }
     }
 
-    /// The room, for another fetch.
-    pub fn into_room(self) -> FetchRoom {
+    /// The room, for another fetch. After a loss that one begins on a connection of its own.
+    pub fn into_room(self) -> FetchRoom
+        ensures { (link : LinkState) → MayStep self link → MayBegin result link }
+    {
         let Fetch {
             plan: _,
             end: _,
@@ -336,12 +348,23 @@ impl Fetch {
             chain,
             held,
             spare,
-            lost: _,
+            lost,
         } = self;
         FetchRoom {
-            chain: chain.into_room(),
+            chain: room_behind(chain, lost),
             held,
             spare,
         }
+    }
+}
+
+// The room of a chain, which doesn't go on over its connection after a loss.
+fn room_behind(chain: Chain, lost: Option<Loss>) -> ChainRoom
+    ensures { (link : LinkState) → (lost ≡ None → RestsOn chain.room link) → RestsOn result link }
+{
+    let room = chain.into_room();
+    match lost {
+        Some(_) => room.without_connection(),
+        None => room,
     }
 }

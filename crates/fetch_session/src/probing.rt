@@ -1,7 +1,7 @@
 // How long a resource is.
 ghost use Rattle.std.specs.Prelude.{◌≡◌, ◌≤◌, List, ℕ, false, IsTrue, OnOk, IfErr, MatchResult};
 ghost use Rattle.link_source.specs.Endpoint.{IsUsable};
-ghost use Rattle.link_source.specs.Streams.{Stream};
+ghost use Rattle.link_source.specs.Exchanges.{Exchange};
 ghost use Rattle.reply_reader.specs.Losses.{IsKnown};
 ghost use Rattle.request_chain.specs.Answered.{KeepsAnswers};
 ghost use Rattle.request_chain.specs.Links.{CountsLinkLoss};
@@ -22,12 +22,12 @@ pub fn probe<L: Links>(
     room: &mut FetchRoom,
 ) -> Result<u64, Loss>
     ensures probes { IsTrue L.tells
-        → (used : List Stream) × Gains (L.state link.old).streams (L.state link.new).streams used
+        → (used : List Exchange) × Gains (L.state link.old).exchanges (L.state link.new).exchanges used
         × MatchResult result
         (λ total. Probed url.now used (Told total))
         (TellsProbeLoss url.now used (L.faults link.new)) }
     ensures link { IfErr result (CountsLinkLoss (L.faults link.old) (L.faults link.new)) }
-    ensures answered { IsTrue L.tells → (before : List Stream)
+    ensures answered { IsTrue L.tells → (before : List Exchange)
         → KeepsAnswers before (L.state link.old) (L.state link.new) }
     ensures closed { OnOk result (IsTrue L.tells → (L.state link.new).listens ≡ false) }
     // A URL that is no `http` URL is refused without a call of the link.

@@ -28,7 +28,12 @@ pub struct FetchRoom {
 }
 
 impl FetchRoom {
-    pub fn new(alloc: Global) -> Result<Self, NoMemory> {
+    ghost use Rattle.link_source.specs.Link.{LinkState};
+    ghost use Rattle.fetch_session.specs.Fetches.{MayBegin};
+
+    pub fn new(alloc: Global) -> Result<Self, NoMemory>
+        ensures { IfOk result (λ room. (link : LinkState) → MayBegin room link) }
+    {
         Ok(FetchRoom {
             chain: ChainRoom::new(alloc)?,
             held: make_buffer(alloc)?,

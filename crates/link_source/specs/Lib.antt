@@ -1,6 +1,7 @@
 pub mod BadAnswers
 pub mod Chunks
 pub mod Endpoint
+pub mod Exchanges
 pub mod Link
 pub mod MemLinks
 pub mod Memory
@@ -8,4 +9,3 @@ pub mod Mirrors
 pub mod Reading
 pub mod Replies
 pub mod Requests
-pub mod Streams

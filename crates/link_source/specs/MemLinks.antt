@@ -1,9 +1,9 @@
 -- What a link to mirrors in memory tells of itself.
-use Rattle.std.specs.Prelude.{◌≡◌, ◌⊎◌, ℕ, ◌+◌, ◌-◌, ◌^◌, min, false, List, [], Contains, None, Result, IsErrOf}
+use Rattle.std.specs.Prelude.{◌≡◌, ◌⊎◌, ℕ, ◌+◌, ◌-◌, ◌^◌, min, false, List, [], Contains, None, option_map, Result, IsErrOf}
 use Rattle.dl_kinds.specs.declared.outside.IoErr.{IoErr}
 use Rattle.dl_kinds.specs.declared.outside.IoErr.TheVariants.{NoMemory}
 use Rattle.link_source.specs.Link.{LinkState}
-use Rattle.link_source.specs.Memory.{contents_of}
+use Rattle.link_source.specs.Memory.{contents_of, peer_of}
 use Rattle.link_source.specs.Mirrors.{mirror_at}
 use Rattle.link_source.specs.declared.bad_answers.Bad.{Bad}
 use Rattle.link_source.specs.declared.memory.MemLinks.{MemLinks}
@@ -12,8 +12,9 @@ use Rattle.link_source.specs.declared.mirrors.MemMirror.{MemMirror}
 abbrev pub link_state : MemLinks → LinkState
 link_state links = record {
   content = contents_of links.mirrors.items links.bad.left.items links.bad.used.items;
-  streams = links.streams;
+  exchanges = links.exchanges;
   due = links.due;
+  peer = option_map peer_of links.peer;
   listens = links.listening;
 }
 
@@ -50,9 +51,10 @@ pub record IsNumberedCall {T : Type 0} (old new : MemLinks) (result : Result T I
 -- a link to these mirrors, with these bad answers, cut and numbers of failing calls, that had no call yet
 pub record IsNewLink (mirrors : List MemMirror) (bad : List Bad) (cut : ℕ) (failing : List ℕ) (links : MemLinks) : Type 0 where
   pub content : (link_state links).content ≡ contents_of mirrors bad []
-  pub streams : (link_state links).streams ≡ []
+  pub exchanges : (link_state links).exchanges ≡ []
   pub due : (link_state links).due ≡ []
-  pub closed : (link_state links).listens ≡ false
+  pub closed : (link_state links).peer ≡ None
+  pub unasked : (link_state links).listens ≡ false
   pub faults : link_faults links ≡ 0
   pub cut_is : cut_of links ≡ cut
   pub failing_are : failing_numbers links ≡ failing

@@ -3,12 +3,12 @@ use Rattle.std.specs.Prelude.{◌≡◌, ◌==◌, ◌&&◌, Bool, bytes_eq, ℕ
 use Rattle.link_source.specs.BadAnswers.{IsUsed, next_bad}
 use Rattle.link_source.specs.Mirrors.{Content, Mirror, HasReply, reply_of}
 use Rattle.link_source.specs.Replies.{Reply}
-use Rattle.link_source.specs.Streams.{Stream}
+use Rattle.link_source.specs.Exchanges.{Exchange}
 use Rattle.link_source.specs.declared.bad_answers.Bad.{Bad}
 use Rattle.link_source.specs.declared.mirrors.MemMirror.{MemMirror}
 use Rattle.link_source.specs.declared.replies.MemReply.{MemReply}
-use Rattle.link_source.specs.declared.streams.MemStream.{MemStream}
-use Rattle.link_source.specs.declared.streams.Sent.{Sent}
+use Rattle.link_source.specs.declared.exchanges.MemExchange.{MemExchange}
+use Rattle.link_source.specs.declared.exchanges.MemPeer.{MemPeer}
 
 abbrev pub mirror_of : MemMirror → Mirror
 mirror_of m = record { host = m.host; port = m.port; files = m.files.items; manner = m.manner }
@@ -42,13 +42,25 @@ GivesText mirrors left used host port bytes text mirror =
     (new_left new_used : List Bad) → UsesNext mirror left used new_left new_used
     → HasReply (contents_of mirrors left used) host port bytes text (contents_of mirrors new_left new_used)
 
-abbrev pub sent_of : Sent → ℕ × List ℕ
-sent_of sent = (sent.at, sent.bytes.items)
+-- so, where nothing was due; where something was, the mirror hangs up
+abbrev pub GivesTextBehind : List ℕ → List MemMirror → List Bad → List Bad → List ℕ → ℕ → List ℕ → List ℕ → Option ℕ → Type 0
+GivesTextBehind [] mirrors left used host port bytes text mirror = GivesText mirrors left used host port bytes text mirror
+GivesTextBehind (byte ∷ due) mirrors left used host port bytes text mirror = (text ≡ []) × (mirror ≡ None)
 
-abbrev pub stream_of : MemStream → Stream
-stream_of s = record { host = s.host; port = s.port; sent = map sent_of s.sent.items; received = s.received.items; ended = s.ended }
+abbrev pub peer_of : MemPeer → List ℕ × ℕ
+peer_of p = (p.host, p.port)
+
+abbrev pub exchange_of : MemExchange → Exchange
+exchange_of x = record {
+  host = x.host;
+  port = x.port;
+  request = x.request.items;
+  received = x.received.items;
+  ended = x.ended;
+  fresh = x.fresh;
+}
 
 -- the newest first
-abbrev pub and_older : Option MemStream → List MemStream → List Stream
-and_older None past = reverse (map stream_of past)
-and_older (Some newest) past = stream_of newest ∷ reverse (map stream_of past)
+abbrev pub and_older : Option MemExchange → List MemExchange → List Exchange
+and_older None past = reverse (map exchange_of past)
+and_older (Some newest) past = exchange_of newest ∷ reverse (map exchange_of past)

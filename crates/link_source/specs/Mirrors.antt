@@ -1,12 +1,11 @@
 -- What mirrors in memory hold, and how they answer requests for a part of a resource.
-use Rattle.std.specs.Prelude.{◌≡◌, ◌⊎◌, ◌==◌, ◌≤◌, ◌<◌, ◌^◌, ℕ, true, false, List, [], ◌∷◌, ◌++◌, Option, Some, None, find, position, option_map, option_and_then, ◌&&◌}
+use Rattle.std.specs.Prelude.{◌≡◌, ◌⊎◌, ◌==◌, ◌≤◌, ◌<◌, ◌^◌, ℕ, true, false, List, [], ◌∷◌, Option, Some, None, find, position, option_map, option_and_then, ◌&&◌}
 use Rattle.std.specs.Option.{option_map_or}
 use Rattle.std.specs.Str.{bytes_eq}
 use Rattle.link_source.specs.BadAnswers.{IsUsed, next_bad}
 use Rattle.link_source.specs.Endpoint.{host_value}
 use Rattle.link_source.specs.Replies.{Reply, bare_reply, text_under, not_found, moved, ranges_reply, whole_reply}
 use Rattle.link_source.specs.Requests.{Asks, request_of}
-use Rattle.link_source.specs.Streams.{Stream}
 use Rattle.link_source.specs.declared.bad_answers.Bad.{Bad}
 use Rattle.link_source.specs.declared.mirrors.MemFile.{MemFile}
 use Rattle.link_source.specs.declared.mirrors.MemFile.TheVariants.{Bytes, Moved}
@@ -90,8 +89,8 @@ AnswersRequests = (old new : Content) (host target reply : List ℕ) (port first
     → HasReply old host port (request_of (host_value host port) target first last) reply new
     → reply ≡ text_under (bad_at old host port) (reply_of old host port target first last)
 
--- the newest stream gets a reply to the bytes, behind what it has still to give
-abbrev pub AddsReply : List Stream → List ℕ → Content → Content → List ℕ → List ℕ → Type 0
-AddsReply [] bytes content new_content due new_due = ⊥
-AddsReply (newest ∷ older) bytes content new_content due new_due =
-    (reply : List ℕ) × HasReply content newest.host newest.port bytes reply new_content × (new_due ≡ due ++ reply)
+-- What is due where these bytes were sent to a host and a port, by what was due before. Where nothing was, it is their
+-- reply. Where something was, the mirror hangs up over it, and gives nothing more (RFC 9112 section 9.6).
+abbrev pub AddsReply : List ℕ → ℕ → List ℕ → Content → Content → List ℕ → List ℕ → Type 0
+AddsReply host port bytes content new_content [] new_due = HasReply content host port bytes new_due new_content
+AddsReply host port bytes content new_content (byte ∷ due) new_due = (new_due ≡ []) × (new_content ≡ content)

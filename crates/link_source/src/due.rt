@@ -1,7 +1,7 @@
 // What a stream has still to give.
-ghost use Rattle.std.specs.Prelude.{◌≡◌, ◌≤◌, ◌++◌, [], length, drop, IfOk};
+ghost use Rattle.std.specs.Prelude.{◌≡◌, ◌≤◌, ◌↔◌, [], length, drop, IsTrue};
 
-use std::alloc::{AllocError, Global};
+use std::alloc::Global;
 use std::marker::Model;
 
 /// Bytes that are given out from the front.
@@ -37,20 +37,17 @@ impl Due {
         &self.bytes[self.given..]
     }
 
-    /// The same with more behind it.
-    pub fn with(&self, alloc: Global, more: Vec<u8>) -> Result<Self, AllocError>
-        ensures { IfOk result (λ due. due ≡ self.now ++ more.items) }
+    /// All of the bytes.
+    pub fn of(bytes: Vec<u8>) -> Self
+        ensures { result ≡ bytes.items }
     {
-        let rest = self.bytes();
-        if rest.is_empty() {
-            return Ok(Due {
-                bytes: more,
-                given: 0,
-            });
-        }
-        let mut bytes = rest.to_vec(alloc)?;
-        bytes.extend_from_slice(&more)?;
-        Ok(Due { bytes, given: 0 })
+        Due { bytes, given: 0 }
+    }
+
+    pub fn is_empty(&self) -> bool
+        ensures { IsTrue result ↔ (self.now ≡ []) }
+    {
+        self.bytes().is_empty()
     }
 
     /// Gives so many bytes out.

@@ -1,10 +1,10 @@
 //! Links to mirrors: where a URL leads, what a link gives, and mirrors in memory.
 #![tactic(auto)]
 
-ghost use Rattle.std.specs.Prelude.{◌≡◌, ◌<◌, ◌≤◌, Bool, ℕ, true, length, IsTrue, IfOk, OnOk, OnErr};
+ghost use Rattle.std.specs.Prelude.{◌≡◌, ◌<◌, ◌≤◌, Bool, ℕ, true, length, IsTrue, IsSome, IfOk, OnOk, OnErr};
 ghost use Rattle.dl_kinds.specs.Causes.{HasCause};
 ghost use Rattle.link_source.specs.Link.{LinkState, Dials, Sends, Receives, closed};
-ghost use Rattle.link_source.specs.declared.streams.TheConstants.{MOST_RECEIVED};
+ghost use Rattle.link_source.specs.declared.exchanges.TheConstants.{MOST_RECEIVED};
 
 use dl_kinds::IoErr;
 
@@ -13,26 +13,26 @@ mod calls;
 mod chunks;
 mod due;
 mod endpoint;
+mod exchanges;
 mod laws;
 mod memory;
 mod mirrors;
 mod replies;
 mod requests;
-mod streams;
 
 pub use bad_answers::{Bad, BadKind};
 pub use endpoint::{EndErr, Endpoint, is_usable};
+pub use exchanges::MOST_RECEIVED;
 pub use laws::requests_are_read_once;
 pub use memory::MemLinks;
 pub use mirrors::{Manner, MemFile, MemMirror};
-pub use streams::MOST_RECEIVED;
 
-/// One connection at a time to a mirror. A call that answers `NoMemory` was not made: it leaves everything as it was.
+/// One connection at a time to a mirror, over which requests go one after the other. A call that answers `NoMemory` was not made: it leaves everything as it was.
 pub trait Links {
     /// Whether this kind of link tells its state. A real one can't: over it only the counts of faults are known.
     ghost tells: { Bool };
 
-    /// What the mirrors have, and what the streams gave and took.
+    /// What the mirrors have, and what the link gave and took.
     ghost state: { Self → LinkState };
 
     /// How often a call failed, up to 2^64 - 1.
@@ -42,22 +42,22 @@ pub trait Links {
     fn faults(&self) -> u64
         ensures { result ≡ faults self.now };
 
-    /// Opens a stream to a mirror, in place of the one before. The host is written as in an `Endpoint`.
+    /// Opens a connection to a mirror, in place of the one before. The host is written as in an `Endpoint`.
     fn dial(&mut self, host: &str, port: u16) -> Result<(), IoErr>
         ensures dialled { OnOk result (IsTrue tells
             → Dials host.now port (state self.old) (state self.new)) }
         ensures failed { OnErr result (IsTrue tells → state self.new ≡ state self.old) }
         ensures cause { HasCause (faults self.old) (faults self.new) result };
 
-    /// Sends all of the bytes on the newest stream, or none.
+    /// Sends a request, all of its bytes or none, and so begins an exchange.
     fn send(&mut self, bytes: &[u8]) -> Result<(), IoErr>
-        requires listens { IsTrue tells → (state self.old).listens ≡ true }
+        requires opened { IsTrue tells → IsSome (state self.old).peer }
         ensures sent { OnOk result (IsTrue tells
             → Sends bytes.now (state self.old) (state self.new)) }
         ensures failed { OnErr result (IsTrue tells → state self.new ≡ state self.old) }
         ensures cause { HasCause (faults self.old) (faults self.new) result };
 
-    /// Receives some bytes of the newest stream, and none only at its end.
+    /// Receives some bytes of the newest exchange, and none only at its end.
     fn recv(&mut self, into: &mut [u8]) -> Result<usize, IoErr>
         requires some { 0 < length into.old }
         requires few { length into.old ≤ MOST_RECEIVED }
@@ -68,7 +68,7 @@ pub trait Links {
         ensures failed { OnErr result (IsTrue tells → state self.new ≡ state self.old) }
         ensures cause { HasCause (faults self.old) (faults self.new) result };
 
-    /// Closes the newest stream. What it had still to give stays due.
+    /// Closes the connection. What the newest exchange had still to give stays due.
     fn hang_up(&mut self)
         ensures closed { IsTrue tells → state self.new ≡ closed (state self.old) }
         ensures faults { faults self.new ≡ faults self.old };

@@ -1,17 +1,18 @@
 // Links to mirrors in memory.
-ghost use Rattle.std.specs.Prelude.{◌≡◌, ◌≢◌, ◌<◌, [], true, IfOk};
+ghost use Rattle.std.specs.Prelude.{◌≡◌, ◌<◌, IfOk};
+ghost use Rattle.link_source.specs.Memory.{GivesTextBehind};
 
 use crate::Links;
 use crate::bad_answers::{Bad, BadAnswers};
 use crate::calls::Calls;
 use crate::due::Due;
-use crate::mirrors::{MemMirror, answer, is_unknown};
-use crate::streams::MemStreams;
+use crate::exchanges::{MemExchanges, MemPeer};
+use crate::mirrors::{Answered, MemMirror, answer, is_unknown, unanswered};
 use dl_kinds::{IoErr, NoMemory};
-use std::alloc::Global;
+use std::alloc::{AllocError, Global};
 
 /// A link to mirrors in memory. A dial to a host and a port that no mirror has is a fault. Each `send` is one whole
-/// request, and other bytes get no reply. A bad answer stands in the place of one reply of its mirror: of those left the
+/// request, and other bytes get no reply. A mirror hangs up over a request that comes before its last reply was taken. A bad answer stands in the place of one reply of its mirror: of those left the
 /// first is next.
 #[derive(Debug, Drop)]
 pub struct MemLinks {
@@ -20,15 +21,35 @@ pub struct MemLinks {
     bad: BadAnswers,
     cut: u32,
     calls: Calls,
-    streams: MemStreams,
-    listening: bool,
+    exchanges: MemExchanges,
     due: Due,
+    peer: Option<MemPeer>,
+    listening: bool,
     ghost cuts: { 0 < cut },
-    ghost dialled: { listening ≡ true → streams ≢ [] },
+}
+
+// What a peer answers to bytes: nothing, where its last reply wasn't taken whole.
+fn answer_behind(
+    alloc: Global,
+    due: &Due,
+    mirrors: &[MemMirror],
+    bad: &BadAnswers,
+    peer: &MemPeer,
+    bytes: &[u8],
+) -> Result<Answered, AllocError>
+    ensures { IfOk result (λ answered. GivesTextBehind due.now mirrors.now
+        bad.now.left.items bad.now.used.items peer.now.host peer.now.port bytes.now
+        answered.text.items answered.mirror) }
+{
+    if due.is_empty() {
+        answer(alloc, mirrors, bad, peer.host.as_str(), peer.port, bytes)
+    } else {
+        Ok(unanswered(alloc))
+    }
 }
 
 impl MemLinks {
-    ghost use Rattle.std.specs.Prelude.{◌↔◌, ◌⊎◌, IsTrue};
+    ghost use Rattle.std.specs.Prelude.{◌↔◌, ◌⊎◌, IsTrue, IsSome};
     ghost use Rattle.link_source.specs.MemLinks.{IsNewLink, IsNextToFail, IsUnknownHost, link_state};
 
     /// A link that gives at most `cut` bytes at once. The calls of the given numbers fail: `dial`, `send` and `recv`
@@ -49,9 +70,10 @@ impl MemLinks {
             bad: BadAnswers::new(alloc, bad)?,
             cut,
             calls: Calls::new(failing),
-            streams: MemStreams::new(alloc),
-            listening: false,
+            exchanges: MemExchanges::new(alloc),
             due: Due::new(alloc),
+            peer: None,
+            listening: false,
         })
     }
 
@@ -62,7 +84,14 @@ impl MemLinks {
         self.calls.is_failing() || is_unknown(&self.mirrors, host, port)
     }
 
-    /// Whether the newest stream may send and receive.
+    /// Whether a request may be sent.
+    pub fn is_open(&self) -> bool
+        ensures { IsTrue result ↔ IsSome (link_state self.now).peer }
+    {
+        self.peer.is_some()
+    }
+
+    /// Whether a reply may be received.
     pub fn listens(&self) -> bool
         ensures { result ≡ (link_state self.now).listens }
     {
@@ -71,11 +100,11 @@ impl MemLinks {
 }
 
 impl Links for MemLinks {
-    ghost use Rattle.std.specs.Prelude.{◌↔◌, ◌⊎◌, ◌≤◌, false, length, OnOk, OnErr, IsErrOf};
+    ghost use Rattle.std.specs.Prelude.{◌↔◌, ◌⊎◌, ◌≤◌, true, length, IsSome, OnOk, OnErr, IsErrOf};
     ghost use Rattle.dl_kinds.specs.Causes.{HasCause};
     ghost use Rattle.dl_kinds.specs.declared.outside.IoErr.TheVariants.{Fault};
     ghost use Rattle.link_source.specs.Link.{Dials, Sends, Receives, closed};
-    ghost use Rattle.link_source.specs.declared.streams.TheConstants.{MOST_RECEIVED};
+    ghost use Rattle.link_source.specs.declared.exchanges.TheConstants.{MOST_RECEIVED};
     ghost use Rattle.link_source.specs.MemLinks.{link_faults, link_state, cut_of, IsNextToFail, IsUnknownHost, IsNumberedCall};
 
     ghost tells = { true };
@@ -99,15 +128,15 @@ impl Links for MemLinks {
         if self.fails_to_dial(host, port) {
             return Err(self.calls.fail());
         }
-        self.streams.dial(self.alloc, host, port)?;
+        self.peer = Some(MemPeer::new(self.alloc, host, port)?);
         self.due = Due::new(self.alloc);
-        self.listening = true;
+        self.listening = false;
         self.calls.pass();
         Ok(())
     }
 
     fn send(&mut self, bytes: &[u8]) -> Result<(), IoErr>
-        requires listens { (link_state self.old).listens ≡ true }
+        requires opened { IsSome (link_state self.old).peer }
         ensures sent { OnOk result (Sends bytes.now (link_state self.old) (link_state self.new)) }
         ensures failed { OnErr result (link_state self.new ≡ link_state self.old) }
         ensures cause { HasCause (link_faults self.old) (link_faults self.new) result }
@@ -117,14 +146,15 @@ impl Links for MemLinks {
         if self.calls.is_failing() {
             return Err(self.calls.fail());
         }
-        let Some((host, port)) = self.streams.peer() else {
+        let Some(peer) = &self.peer else {
             unreachable!()
         };
-        let answered = answer(self.alloc, &self.mirrors, &self.bad, host, port, bytes)?;
-        let due = self.due.with(self.alloc, answered.text)?;
-        self.streams.send(self.alloc, bytes)?;
+        let answered = answer_behind(self.alloc, &self.due, &self.mirrors, &self.bad, peer, bytes)?;
+        self.exchanges
+            .begin(self.alloc, peer, bytes, !self.listening)?;
         self.bad.use_next(answered.mirror);
-        self.due = due;
+        self.due = Due::of(answered.text);
+        self.listening = true;
         self.calls.pass();
         Ok(())
     }
@@ -147,7 +177,7 @@ impl Links for MemLinks {
         }
         let due = self.due.bytes();
         let count = due.len().min(into.len()).min(self.cut as usize);
-        self.streams.receive(&due[..count])?;
+        self.exchanges.receive(&due[..count])?;
         into[..count].copy_from_slice(&due[..count]);
         self.due.give(count);
         self.calls.pass();
@@ -158,6 +188,7 @@ impl Links for MemLinks {
         ensures closed { link_state self.new ≡ closed (link_state self.old) }
         ensures faults { link_faults self.new ≡ link_faults self.old }
     {
+        self.peer = None;
         self.listening = false;
     }
 }

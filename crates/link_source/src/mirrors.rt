@@ -1,5 +1,5 @@
 // Mirrors in memory, and what they answer.
-ghost use Rattle.std.specs.Prelude.{◌≡◌, ◌≤◌, ◌↔◌, None, find, position, IsTrue, IfOk, option_copied};
+ghost use Rattle.std.specs.Prelude.{◌≡◌, ◌≤◌, ◌↔◌, [], None, find, position, IsTrue, IfOk, option_copied};
 ghost use Rattle.std.specs.Str.{bytes_eq};
 ghost use Rattle.link_source.specs.Mirrors.{reply_of, mirror_at, file_at, mirror_reply, content_reply};
 ghost use Rattle.link_source.specs.Memory.{is_at, mirror_of, mirrors_of, reply_seen, true_reply, GivesText};
@@ -153,6 +153,17 @@ fn text_to(
     reply_to(alloc, mirrors, host, port, asked)?.text_under(alloc, bad)
 }
 
+/// No reply.
+pub fn unanswered(alloc: Global) -> Answered
+    ensures text { result.text.items ≡ [] }
+    ensures mirror { result.mirror ≡ None }
+{
+    Answered {
+        text: Vec::new(alloc),
+        mirror: None,
+    }
+}
+
 // What a host and a port answer to bytes.
 pub fn answer(
     alloc: Global,
@@ -166,10 +177,7 @@ pub fn answer(
         host.now port bytes.now answer.text.items answer.mirror) }
 {
     let Some(asked) = read_request(alloc, host, port, bytes)? else {
-        return Ok(Answered {
-            text: Vec::new(alloc),
-            mirror: None,
-        });
+        return Ok(unanswered(alloc));
     };
     let mirror = number_of(mirrors, host, port);
     let next = bad.next_of(mirror);

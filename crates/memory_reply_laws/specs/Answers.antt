@@ -1,10 +1,9 @@
 -- What mirrors in memory give in answer to a request.
-use Rattle.std.specs.Prelude.{◌≡◌, ℕ, ◌^◌, ◌<◌, ◌≤◌, List, [], ◌∷◌, Option, Some, None}
+use Rattle.std.specs.Prelude.{◌≡◌, ℕ, ◌^◌, ◌<◌, ◌≤◌, List, [], Option, Some, None}
 use Rattle.link_source.specs.Endpoint.{host_value}
 use Rattle.link_source.specs.Mirrors.{Content, Mirror, AddsReply, bad_at, mirror_at, file_at, reply_by}
 use Rattle.link_source.specs.Replies.{text_under}
 use Rattle.link_source.specs.Requests.{request_of}
-use Rattle.link_source.specs.Streams.{Stream}
 use Rattle.link_source.specs.declared.mirrors.Manner.{Manner}
 use Rattle.link_source.specs.declared.mirrors.MemFile.{MemFile}
 use Rattle.range_http.specs.declared.asked.Asked.{Asked}
@@ -21,13 +20,8 @@ pub record Has (content : Content) (host : List ℕ) (port : ℕ) (target : List
   pub manner_is : mirror.manner ≡ manner
   pub file_is : file_at mirror.files target ≡ file
 
--- a request goes out on the newest stream, which leads to the host and the port and has nothing more to give
-pub record IsRequested (streams : List Stream) (due sent host : List ℕ) (port : ℕ) (target : List ℕ) (asked : Asked) : Type 0 where
-  pub newest : Stream
-  pub older : List Stream
-  pub streams_are : streams ≡ newest ∷ older
-  pub host_is : newest.host ≡ host
-  pub port_is : newest.port ≡ port
+-- a request goes out to the host and the port, from where nothing more is due
+pub record IsRequested (due sent host : List ℕ) (port : ℕ) (target : List ℕ) (asked : Asked) : Type 0 where
   pub nothing_due : due ≡ []
   pub sent_is : sent ≡ request_text target (host_value host port) asked
   pub ordered : asked.first ≤ asked.last
@@ -35,10 +29,10 @@ pub record IsRequested (streams : List Stream) (due sent host : List ℕ) (port 
 
 -- due then is the reply to what is asked, or the bad answer in its place
 abbrev pub RequestsAreAnswered : Type 0
-RequestsAreAnswered = (streams : List Stream) (due new_due sent host target : List ℕ) (port : ℕ) (asked : Asked)
+RequestsAreAnswered = (due new_due sent host target : List ℕ) (port : ℕ) (asked : Asked)
     (content new_content : Content) (manner : Manner) (file : Option MemFile)
-    → Has content host port target manner file → IsRequested streams due sent host port target asked
-    → AddsReply streams sent content new_content due new_due
+    → Has content host port target manner file → IsRequested due sent host port target asked
+    → AddsReply host port sent content new_content due new_due
     → new_due ≡ text_under (bad_at content host port) (reply_by manner file asked.first asked.last)
 
 -- where no bad answer is left, none is next

@@ -1,7 +1,7 @@
 -- Where the mirrors hold the same, URLs lead to the same.
 use Rattle.std.proofs.Common.{◌≡◌, ℕ, zero, suc, ◌≤◌, Bool, List, [], ◌∷◌, inl, inr, ap, sym, ◌∙◌, arith}
 use Rattle.link_source.specs.Mirrors.{Content, mirror_at, number_at}
-use Rattle.link_source.specs.Streams.{Stream}
+use Rattle.link_source.specs.Exchanges.{Exchange}
 use Rattle.link_source.specs.declared.mirrors.MemFile.{MemFile}
 use Rattle.request_chain.specs.Answered.{GaveAll}
 use Rattle.request_chain.specs.Redirects.{redirect_limit}
@@ -11,7 +11,7 @@ use Rattle.memory_serving_laws.specs.Serving.{LeadsThrough, NamesMirror, used_am
 use Rattle.memory_serving_laws.specs.Sizes.{TellsSize, LeadsToSize}
 use Rattle.memory_serving_laws.proofs.Counting.{gave_counts, top_of}
 
-all-kept : (among : ℕ → Bool) (old : Content) (streams : List Stream) (new : Content) → GaveAll old streams new
+all-kept : (among : ℕ → Bool) (old : Content) (streams : List Exchange) (new : Content) → GaveAll old streams new
     → (new.mirrors ≡ old.mirrors) × (used_among among old ≤ used_among among new)
 all-kept among old [] new same = (ap (λ (c : Content). c.mirrors) same, omega (arith, ap (used_among among) same))
 all-kept among old (stream ∷ older) new (between, due, past, gave) =

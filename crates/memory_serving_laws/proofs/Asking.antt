@@ -1,20 +1,20 @@
 -- What a stream gave in answer to a request.
-use Rattle.std.proofs.Common.{◌≡◌, inl, inr, ℕ, ◌+◌, ◌<◌, ◌≤◌, ◌^◌, Bool, true, arith, List, [], ◌∷◌, ◌++◌, refl, ap, sym, subst, ◌∙◌}
+use Rattle.std.proofs.Common.{◌≡◌, ℕ, ◌+◌, ◌<◌, ◌≤◌, ◌^◌, Bool, true, arith, List, [], ◌++◌, refl, ap, sym, subst, ◌∙◌}
 use Rattle.std.proofs.lemmas.Bool.{cond-true}
 use Rattle.std.specs.Prelude.{Option, Some, None}
 use Rattle.link_source.specs.Endpoint.{endpoint_of, host_value}
 use Rattle.memory_serving_laws.specs.Leads.{StandsAt}
-use Rattle.link_source.specs.Mirrors.{Content, HasReply, bad_at, mirror_at, number_at, reply_by}
+use Rattle.link_source.specs.Mirrors.{Content, AddsReply, HasReply, bad_at, mirror_at, number_at, reply_by}
 use Rattle.link_source.specs.Replies.{text_under}
 use Rattle.link_source.specs.Requests.{Asks}
-use Rattle.link_source.specs.Streams.{Stream}
+use Rattle.link_source.specs.Exchanges.{Exchange}
 use Rattle.link_source.specs.declared.bad_answers.Bad.{Bad}
 use Rattle.link_source.specs.declared.endpoint.Endpoint.{Endpoint}
 use Rattle.link_source.specs.declared.mirrors.Manner.{Manner}
 use Rattle.link_source.specs.declared.mirrors.MemFile.{MemFile}
 use Rattle.range_http.specs.declared.asked.Asked.{Asked}
 use Rattle.memory_reply_laws.specs.Answers.{Has, RequestsAreAlike, RequestsAreAnswered}
-use Rattle.request_chain.specs.Answered.{Gave}
+use Rattle.request_chain.specs.Answered.{GaveAnswer}
 use Rattle.request_chain.specs.Exchanges.{IsExchange, LeadsTo, request_for}
 use Rattle.memory_serving_laws.specs.Serving.{NamesMirror, used_among}
 use Rattle.memory_serving_laws.proofs.Counting.{counts, next_number, one_used, reply_counts}
@@ -25,22 +25,13 @@ one-endpoint url a b leads others =
     let urls : leads.0 ≡ others.0 = cc (leads.1, others.1) in
     leads.3 ∙ ap endpoint_of urls ∙ sym others.3
 
-one-first : (sent : List (ℕ × List ℕ)) (a b : ℕ × List ℕ) → sent ≡ a ∷ [] → sent ≡ b ∷ [] → a.1 ≡ b.1
-one-first sent a b is other =
-    let same : a ≡ b = cc (is, other) in
-    ap (λ (s : ℕ × List ℕ). s.1) same
-
-none-sent : (sent : List (ℕ × List ℕ)) (first : ℕ × List ℕ) → sent ≡ [] → sent ≡ first ∷ [] → ⊥
-none-sent sent first none one =
-    cc (none, one)
-
 -- how many bad answers there are
 abbrev pub cost : Option Bad → ℕ
 cost None = 0
 cost (Some bad) = 1
 
 -- the stream gave the reply of what stands there, or a bad one in its place, or a front of it; all of it, where the end was told
-pub record GaveReply (among : ℕ → Bool) (at after : Content) (asked : Asked) (stream : Stream) (manner : Manner) (file : MemFile) : Type 0 where
+pub record GaveReply (among : ℕ → Bool) (at after : Content) (asked : Asked) (stream : Exchange) (manner : Manner) (file : MemFile) : Type 0 where
   pub bad : Option Bad
   pub due : List ℕ
   pub whole : text_under bad (reply_by manner (Some file) asked.first asked.last) ≡ stream.received ++ due
@@ -61,7 +52,7 @@ module _ (alike : RequestsAreAlike) (answered : RequestsAreAnswered) (among : �
       subst (λ (e : Endpoint). Has at e.host e.port e.target stands.mirror.manner (Some file)) (one-endpoint url stands.endpoint endpoint stands.named leads) here
 
   -- what was sent asks the mirror
-  asks_there : (asked : Asked) (stream : Stream) (endpoint : Endpoint) (request : List ℕ) → asked.first ≤ asked.last → asked.last < 2 ^ 64
+  asks_there : (asked : Asked) (stream : Exchange) (endpoint : Endpoint) (request : List ℕ) → asked.first ≤ asked.last → asked.last < 2 ^ 64
       → stream.host ≡ endpoint.host → stream.port ≡ endpoint.port → request ≡ request_for asked endpoint
       → Asks stream.host stream.port endpoint.target asked.first asked.last request
   asks_there asked stream endpoint request ordered bounded host port sent =
@@ -75,7 +66,7 @@ module _ (alike : RequestsAreAlike) (answered : RequestsAreAnswered) (among : �
       subst Q (sym port) (subst P (sym host) here)
 
   -- a bad answer that is next there is one of these mirrors', and used
-  paid_there : (url : List ℕ) (asked : Asked) (stream : Stream) (at after : Content) (endpoint : Endpoint) (request reply : List ℕ) (next : Option Bad)
+  paid_there : (url : List ℕ) (asked : Asked) (stream : Exchange) (at after : Content) (endpoint : Endpoint) (request reply : List ℕ) (next : Option Bad)
       → HasReply at stream.host stream.port request reply after → Asks stream.host stream.port endpoint.target asked.first asked.last request
       → stream.host ≡ endpoint.host → stream.port ≡ endpoint.port → at.mirrors ≡ old.mirrors
       → LeadsTo url endpoint → ((number : ℕ) → NamesMirror old url number → among number ≡ true)
@@ -94,30 +85,29 @@ module _ (alike : RequestsAreAlike) (answered : RequestsAreAnswered) (among : �
       omega (arith, used, one)
 
   -- a request for what stands at a URL had its reply, or the next bad answer in its place
-  pub gave_reply : (url : List ℕ) (asked : Asked) (stream : Stream) (file : MemFile) (at after : Content) (due : List ℕ) → asked.first ≤ asked.last → asked.last < 2 ^ 64
+  pub gave_reply : (url : List ℕ) (asked : Asked) (stream : Exchange) (file : MemFile) (at after : Content) (due : List ℕ) → asked.first ≤ asked.last → asked.last < 2 ^ 64
       → at.mirrors ≡ old.mirrors → (stands : StandsAt old url file) → ((number : ℕ) → NamesMirror old url number → among number ≡ true)
-      → IsExchange url asked stream → Gave at stream due after → GaveReply among at after asked stream stands.mirror.manner file
-  gave_reply url asked stream file at after due ordered bounded mirrors stands is_among exchange gave = elim gave [
-    | inl nothing ↦ absurd (none-sent stream.sent _ nothing.none_sent exchange.sent_is)
-    | inr one ↦
-        let endpoint = exchange.endpoint in
-        let manner = stands.mirror.manner in
-        let request : one.request ≡ request_for asked endpoint = one-first stream.sent (0, one.request) (0, request_for asked endpoint) one.sent_is exchange.sent_is in
-        let asks = asks_there asked stream endpoint one.request ordered bounded exchange.host_is exchange.port_is request in
-        let bad = bad_at at stream.host stream.port in
-        let has = has_there at url endpoint file mirrors stands exchange.leads in
-        let same : bad_at at endpoint.host endpoint.port ≡ bad =
-        ap (λ h. bad_at at h endpoint.port) (sym exchange.host_is) ∙ ap (bad_at at stream.host) (sym exchange.port_is) in
-        let reply : one.reply ≡ text_under (bad_at at endpoint.host endpoint.port) (reply_by manner (Some file) asked.first asked.last) =
-        answered (stream ∷ []) [] one.reply one.request endpoint.host endpoint.target endpoint.port asked at after manner (Some file) has
-        (record { newest = stream; older = []; streams_are = refl; host_is = exchange.host_is; port_is = exchange.port_is; nothing_due = refl; sent_is = request; ordered = ordered; bounded = bounded })
-        (one.reply, one.answers, refl) in
-        record {
-          bad = bad;
-          due = due;
-          whole =
-              sym (reply ∙ ap (λ b. text_under b (reply_by manner (Some file) asked.first asked.last)) same) ∙ sym one.whole;
-          last = one.last;
-          paid = paid_there url asked stream at after endpoint one.request one.reply bad one.answers asks exchange.host_is exchange.port_is mirrors exchange.leads is_among refl;
-        }
-  ]
+      → IsExchange url asked stream → GaveAnswer at stream due after → GaveReply among at after asked stream stands.mirror.manner file
+  gave_reply url asked stream file at after due ordered bounded mirrors stands is_among exchange one =
+      let endpoint = exchange.endpoint in
+      let manner = stands.mirror.manner in
+      let asks = asks_there asked stream endpoint stream.request ordered bounded exchange.host_is exchange.port_is exchange.request_is in
+      let bad = bad_at at stream.host stream.port in
+      let has = has_there at url endpoint file mirrors stands exchange.leads in
+      let P : List ℕ → Type 0 = λ h. AddsReply h stream.port stream.request at after [] one.reply in
+      let Q : ℕ → Type 0 = λ p. AddsReply endpoint.host p stream.request at after [] one.reply in
+      let adds : AddsReply endpoint.host endpoint.port stream.request at after [] one.reply =
+      subst Q exchange.port_is (subst P exchange.host_is one.answers) in
+      let same : bad_at at endpoint.host endpoint.port ≡ bad =
+      ap (λ h. bad_at at h endpoint.port) (sym exchange.host_is) ∙ ap (bad_at at stream.host) (sym exchange.port_is) in
+      let reply : one.reply ≡ text_under (bad_at at endpoint.host endpoint.port) (reply_by manner (Some file) asked.first asked.last) =
+      answered [] one.reply stream.request endpoint.host endpoint.target endpoint.port asked at after manner (Some file) has
+      (record { nothing_due = refl; sent_is = exchange.request_is; ordered = ordered; bounded = bounded }) adds in
+      record {
+        bad = bad;
+        due = due;
+        whole =
+            sym (reply ∙ ap (λ b. text_under b (reply_by manner (Some file) asked.first asked.last)) same) ∙ sym one.whole;
+        last = one.last;
+        paid = paid_there url asked stream at after endpoint stream.request one.reply bad one.answers asks exchange.host_is exchange.port_is mirrors exchange.leads is_among refl;
+      }

@@ -8,7 +8,7 @@ use Rattle.std.specs.Prelude.{All, option_and_then, count_by}
 use Rattle.link_source.specs.BadAnswers.{IsUsed, next_bad}
 use Rattle.link_source.specs.Link.{LinkState}
 use Rattle.link_source.specs.Mirrors.{Content, HasReply, bad_at, number_at}
-use Rattle.link_source.specs.Streams.{Stream}
+use Rattle.link_source.specs.Exchanges.{Exchange}
 use Rattle.link_source.specs.declared.bad_answers.Bad.{Bad}
 use Rattle.request_chain.specs.Answered.{Gave, GaveAll, IsAnswered}
 use Rattle.memory_serving_laws.proofs.Gained.{GaveEach}
@@ -58,30 +58,28 @@ module _ (among : ℕ → Bool) where
     | inr uses ↦ (omega (arith, one_used old new uses.bad uses.used), uses.mirrors_stay)
   ]
 
-  pub gave_counts : (old : Content) (stream : Stream) (due : List ℕ) (new : Content) → Gave old stream due new
+  pub gave_counts : (old : Content) (stream : Exchange) (due : List ℕ) (new : Content) → Gave old stream due new
       → (used_among among old ≤ used_among among new) × (new.mirrors ≡ old.mirrors)
-  gave_counts old stream due new gave = elim gave [
-    | inl none ↦ (omega (arith, ap (used_among among) none.same), ap (λ (c : Content). c.mirrors) none.same)
-    | inr one ↦ reply_counts old stream.host stream.port one.request one.reply new one.answers
-  ]
+  gave_counts old stream due new (inl none) = (omega (arith, ap (used_among among) none.same), ap (λ (c : Content). c.mirrors) none.same)
+  gave_counts old stream due new (inr one) = reply_counts old stream.host stream.port stream.request one.reply new one.answers
 
   -- the streams used no fewer, and the mirrors hold what they held
-  pub each_counts : (old : Content) (streams : List Stream) (new : Content) → GaveEach old streams new → used_among among old ≤ used_among among new
+  pub each_counts : (old : Content) (streams : List Exchange) (new : Content) → GaveEach old streams new → used_among among old ≤ used_among among new
   each_counts old [] new same = omega (arith, ap (used_among among) same)
   each_counts old (stream ∷ later) new (between, due, gave, gave_later) =
       let rest = each_counts between later new gave_later in
       omega (arith, (gave_counts old stream due between gave).0, rest)
 
   -- the streams that a link gained, the newest first
-  pub record OnTop (old : Content) (before : List Stream) (link : LinkState) : Type 0 where
-    pub top : List Stream
-    pub on_top : link.streams ≡ top ++ before
+  pub record OnTop (old : Content) (before : List Exchange) (link : LinkState) : Type 0 where
+    pub top : List Exchange
+    pub on_top : link.exchanges ≡ top ++ before
     pub gave : GaveAll old top link.content
 
-  pub top_of : (old : Content) (before : List Stream) (link : LinkState) → IsAnswered old before link → OnTop old before link
+  pub top_of : (old : Content) (before : List Exchange) (link : LinkState) → IsAnswered old before link → OnTop old before link
   top_of old before link is = elim is [
     | inl none ↦ record { top = []; on_top = none.0; gave = none.1 }
-    | inr top ↦ record { top = top.newest ∷ top.older; on_top = top.on_top; gave = (top.between, link.due, top.past, top.gave) }
+    | inr top ↦ record { top = top.newest ∷ top.older; on_top = top.on_top; gave = (top.between, top.due, top.past, top.gave) }
   ]
 
 -- ---- mirrors without bad answers
@@ -107,7 +105,7 @@ module _ (among : ℕ → Bool) where
         (omega (arith, one_used among old new uses.bad uses.used, none), subst (All IsOther) (sym uses.used.others) left.1)
   ]
 
-  all_stay : (old : Content) (streams : List Stream) (new : Content) → GaveAll old streams new → All IsOther old.bad
+  all_stay : (old : Content) (streams : List Exchange) (new : Content) → GaveAll old streams new → All IsOther old.bad
       → (used_among among new ≡ used_among among old) × All IsOther new.bad
   all_stay old [] new same clean = (ap (used_among among) same, subst (λ (c : Content). All IsOther c.bad) (sym same) clean)
   all_stay old (stream ∷ older) new (between, due, past, gave) clean =
@@ -115,11 +113,11 @@ module _ (among : ℕ → Bool) where
       elim gave [
         | inl none ↦ (ap (used_among among) none.same ∙ first.0, subst (λ (c : Content). All IsOther c.bad) (sym none.same) first.1)
         | inr one ↦
-            let last = reply_clean between stream.host stream.port one.request one.reply new one.answers first.1 in
+            let last = reply_clean between stream.host stream.port stream.request one.reply new one.answers first.1 in
             (last.0 ∙ first.0, last.1)
       ]
 
-  pub clean_use_none : (old : Content) (before : List Stream) (link : LinkState) → IsAnswered old before link → All IsOther old.bad
+  pub clean_use_none : (old : Content) (before : List Exchange) (link : LinkState) → IsAnswered old before link → All IsOther old.bad
       → used_among among link.content ≡ used_among among old
   clean_use_none old before link is clean =
       let top = top_of among old before link is in
@@ -134,7 +132,7 @@ none_next content host port bad none is = nobody (number_at content.mirrors host
     nobody None some = none-some bad some
     nobody (Some n) some = none-some bad some
 
-good_all : (old : Content) (streams : List Stream) (new : Content) → GaveAll old streams new → old.bad ≡ [] → new ≡ old
+good_all : (old : Content) (streams : List Exchange) (new : Content) → GaveAll old streams new → old.bad ≡ [] → new ≡ old
 good_all old [] new same good = same
 good_all old (stream ∷ older) new (between, due, past, gave) good =
     let first = good_all old older between past good in
@@ -146,7 +144,7 @@ good_all old (stream ∷ older) new (between, due, past, gave) good =
       ]
     ]
 
-pub good_stay : (old : Content) (before : List Stream) (link : LinkState) → IsAnswered old before link → old.bad ≡ [] → link.content ≡ old
+pub good_stay : (old : Content) (before : List Exchange) (link : LinkState) → IsAnswered old before link → old.bad ≡ [] → link.content ≡ old
 good_stay old before link is good =
     let top = top_of (λ number. true) old before link is in
     good_all old top.top link.content top.gave good

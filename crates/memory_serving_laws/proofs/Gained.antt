@@ -2,39 +2,39 @@
 use Rattle.std.proofs.Common.{◌≡◌, ℕ, List, [], ◌∷◌, ◌++◌, append_assoc, refl, sym, subst, ◌∙◌}
 use Rattle.std.proofs.lemmas.List.{append_cancel_right}
 use Rattle.link_source.specs.Mirrors.{Content}
-use Rattle.link_source.specs.Streams.{Stream}
+use Rattle.link_source.specs.Exchanges.{Exchange}
 use Rattle.request_chain.specs.Answered.{Gave, GaveAll}
 use Rattle.request_chain.specs.Chains.{Gains}
 
 -- the streams, the oldest first, gave so one after the other
-abbrev pub GaveEach : Content → List Stream → Content → Type 0
+abbrev pub GaveEach : Content → List Exchange → Content → Type 0
 GaveEach old [] new = new ≡ old
 GaveEach old (stream ∷ later) new = (between : Content) × (due : List ℕ) × Gave old stream due between × GaveEach between later new
 
 -- those on top gave behind the others
-record GaveOnTop (old : Content) (top others : List Stream) (new : Content) : Type 0 where
+record GaveOnTop (old : Content) (top others : List Exchange) (new : Content) : Type 0 where
   between : Content
   past : GaveAll old others between
   gave : GaveAll between top new
 
-on-top : (old : Content) (top others : List Stream) (new : Content) → GaveAll old (top ++ others) new → GaveOnTop old top others new
+on-top : (old : Content) (top others : List Exchange) (new : Content) → GaveAll old (top ++ others) new → GaveOnTop old top others new
 on-top old [] others new gave = record { between = new; past = gave; gave = refl }
 on-top old (stream ∷ top) others new (between, due, past, gave) =
     let earlier = on-top old top others between past in
     record { between = earlier.between; past = earlier.past; gave = (between, due, earlier.gave, gave) }
 
 -- what stands on top of those before
-record StandsOn (before now : List Stream) : Type 0 where
-  top : List Stream
+record StandsOn (before now : List Exchange) : Type 0 where
+  top : List Exchange
   now_is : now ≡ top ++ before
 
-stands-on : (before now gained : List Stream) → Gains before now gained → StandsOn before now
+stands-on : (before now gained : List Exchange) → Gains before now gained → StandsOn before now
 stands-on before now [] is = record { top = []; now_is = is }
 stands-on before now (stream ∷ gained) gains =
     let later = stands-on (stream ∷ before) now gained gains in
     record { top = later.top ++ stream ∷ []; now_is = later.now_is ∙ sym (append_assoc later.top (stream ∷ []) before) }
 
-pub gave_each : (old new : Content) (before now gained top : List Stream) → Gains before now gained → now ≡ top ++ before → GaveAll old top new → GaveEach old gained new
+pub gave_each : (old new : Content) (before now gained top : List Exchange) → Gains before now gained → now ≡ top ++ before → GaveAll old top new → GaveEach old gained new
 gave_each old new before now [] top is on_top gave =
     let none : top ≡ [] = append_cancel_right top [] before (sym on_top ∙ is) in
     subst (λ t. GaveAll old t new) none gave

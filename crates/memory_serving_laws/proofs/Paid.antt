@@ -5,7 +5,7 @@ use Rattle.std.proofs.lemmas.List.{length-map, length-replicate, replicate-appen
 use Rattle.std.specs.Prelude.{Option, Some, None, nat_lt, nat_le}
 use Rattle.dl_words.specs.Lists.{part_at}
 use Rattle.link_source.specs.Mirrors.{Content}
-use Rattle.link_source.specs.Streams.{Stream}
+use Rattle.link_source.specs.Exchanges.{Exchange}
 use Rattle.link_source.specs.declared.mirrors.MemFile.TheVariants.{Bytes}
 use Rattle.range_http.specs.declared.asked.Asked.{Asked}
 use Rattle.reply_reader.specs.Answers.{Turn, Due, Given, Away, Lost as LostTurn, Answer, size_to}
@@ -60,7 +60,7 @@ no-bytes [] none = refl
 no-bytes (byte ∷ got) none = absurd (omega (arith, none))
 
 module _ (laws : Laws) (among : ℕ → Bool) (content : Content) where
-  module _ (part : JobPart) (parts : List JobPart) (url : List ℕ) (count : ℕ) (known : List (Option ℕ)) (stream : Stream) (answer : Answer)
+  module _ (part : JobPart) (parts : List JobPart) (url : List ℕ) (count : ℕ) (known : List (Option ℕ)) (stream : Exchange) (answer : Answer)
       (at after : Content) (left_due : List ℕ) (expected : IsExpected content among part parts url count known)
       (replies : Replies url (asked_of part) stream answer) (mirrors : at.mirrors ≡ content.mirrors) (gave : Gave at stream left_due after) where
     abbrev asked : Asked
@@ -83,15 +83,7 @@ module _ (laws : Laws) (among : ℕ → Bool) (content : Content) where
     no-fewer = (gave_counts among at stream left_due after gave).0
 
     fills : AnswerFills asked answer
-    fills = elim replies [
-      | inl nothing ↦ record {
-        few = omega (arith, ap (λ (a : Answer). length a.got) nothing.1);
-        given = λ last turn. let both : Due ≡ Given last = sym (ap (λ (a : Answer). a.turn) nothing.1) ∙ turn in absurd (cc both);
-        full = λ all. absurd (omega (arith, all, size, ap (λ (a : Answer). length a.got) nothing.1, expected.is_part.some));
-        away = λ status location turn. ap (λ (a : Answer). a.got) nothing.1;
-      }
-      | inr asking ↦ laws.fill asked stream.received stream.ended answer (omega (arith, expected.is_part.some)) asking.1
-    ]
+    fills = laws.fill asked stream.received stream.ended answer (omega (arith, expected.is_part.some)) replies.1
 
     -- a loss comes before the last byte
     short-of : (loss : Loss) → answer.turn ≡ LostTurn loss → length answer.got < part.len
@@ -404,7 +396,7 @@ joined got more front later ending was mid now same paid rest =
 
 module _ (laws : Laws) (among : ℕ → Bool) (content : Content) where
   -- by each plan, stream by stream
-  comes : (plan : NextAsk) (streams : List Stream) (known : List (Option ℕ)) (came : List ℕ) (ending : FetchEnding) (rest : List Stream) (at new : Content)
+  comes : (plan : NextAsk) (streams : List Exchange) (known : List (Option ℕ)) (came : List ℕ) (ending : FetchEnding) (rest : List Exchange) (at new : Content)
       → at.mirrors ≡ content.mirrors → Expects content among plan known → GaveEach at streams new → FetchedBy plan streams came ending rest
       → IsPaidFor known came ending (used_among among at) (used_among among new)
   comes (Over Done) streams known came ending rest at new mirrors none gave (nothing, done, same) =
@@ -429,7 +421,11 @@ module _ (laws : Laws) (among : ℕ → Bool) (content : Content) where
           (omega (arith, ap (λ c. differing c known + next_known (drop (length c) known)) nothing, next, each_counts among at [] new gave))
     ]
   ]
-  comes (Ask part parts url count status) (stream ∷ streams) known came ending rest at new mirrors expected (between, due, gave, later) (answer, more, replies, is, fetched) =
+  comes (Ask part parts url count status) (stream ∷ streams) known came ending rest at new mirrors expected (between, due, gave, later) (inl (vain, fetched)) =
+      let counted = gave_counts among at stream due between gave in
+      let on = comes (Ask part parts url count status) streams known came ending rest between new (counted.1 ∙ mirrors) expected later fetched in
+      record { few = on.few; all = on.all; short = on.short; paid = omega (arith, on.paid, counted.0) }
+  comes (Ask part parts url count status) (stream ∷ streams) known came ending rest at new mirrors expected (between, due, gave, later) (inr (answer, more, replies, is, fetched)) =
       let counted = gave_counts among at stream due between gave in
       let after : between.mirrors ≡ content.mirrors = counted.1 ∙ mirrors in
       let counts_on = each_counts among between streams new later in
@@ -454,5 +450,5 @@ module _ (laws : Laws) (among : ℕ → Bool) (content : Content) where
 pub bad_answers_pay : Laws → BadAnswersPay
 bad_answers_pay laws old link gained among parts known came ending has parts_are smalls are fetched =
     let top = top_of among old has.before link has.answered in
-    let each = gave_each old link.content has.before link.streams gained top.top has.gains top.on_top top.gave in
+    let each = gave_each old link.content has.before link.exchanges gained top.top has.gains top.on_top top.gave in
     comes laws among old (plan_of parts) gained known came ending [] old link.content refl (plan_expects old among parts known parts_are smalls are) each fetched

@@ -1,13 +1,13 @@
 -- What bad answers make of a probe.
 use Rattle.std.proofs.Common.{◌≡◌, ◌≢◌, ◌⊎◌, inl, inr, ℕ, zero, suc, ◌+◌, ◌<◌, ◌≤◌, ◌^◌, Bool, true, false, cond, List, [], ◌∷◌, ◌++◌, append-nil, append_assoc, length, drop, Option, Some, None, refl, ap, sym, subst, ◌∙◌, arith}
 use Rattle.std.proofs.Math.Seq.{take-nil}
-use Rattle.std.proofs.lemmas.Bool.{cases_lt, cond-true, cond-false, eq-eqb, eqb-true, cases_Bool, lt-leb}
+use Rattle.std.proofs.lemmas.Bool.{cases_lt, cond-true, cond-false, eq-eqb, eqb-true, cases_Bool, lt-leb, true≢false}
 use Rattle.std.proofs.lemmas.List.{length-set}
 use Rattle.std.specs.Prelude.{nat_le, nat_lt, unwrap_or, ◌&&◌, ◌==◌}
 use Rattle.link_source.specs.Endpoint.{IsUsable}
 use Rattle.link_source.specs.Mirrors.{Content, content_reply}
 use Rattle.link_source.specs.Replies.{bare_reply, body_text, moved, not_satisfiable, spoiled_text, status_head, text_of, text_under}
-use Rattle.link_source.specs.Streams.{Stream}
+use Rattle.link_source.specs.Exchanges.{Exchange}
 use Rattle.link_source.specs.declared.bad_answers.Bad.{Bad}
 use Rattle.link_source.specs.declared.bad_answers.BadKind.{BadKind}
 use Rattle.link_source.specs.declared.bad_answers.BadKind.TheVariants.{Status, Cut, Flip}
@@ -25,7 +25,7 @@ use Rattle.reply_reader.specs.HeadLaws.{NoFinalHeadStays}
 use Rattle.reply_reader.specs.Heads.{HasFinalHead, HasNoFinalHead, IsHeadDue}
 use Rattle.reply_reader.specs.declared.loss.Loss.{Loss}
 use Rattle.reply_reader.specs.declared.loss.Loss.TheVariants as losses
-use Rattle.request_chain.specs.Answered.{Gave}
+use Rattle.request_chain.specs.Answered.{Gave, GaveAnswer}
 use Rattle.request_chain.specs.Probes.{Probe, Due, Told, Away, Lost, ProbeAnswers, ProbeReplies, ProbedBy, Search, At, Found, next_search, search_at, probe_asked, probe_by}
 use Rattle.request_chain.specs.Redirects.{redirect_limit}
 use Rattle.memory_serving_laws.specs.Leads.{Redirects}
@@ -167,7 +167,7 @@ module _ (laws : Laws) (none_stays : NoFinalHeadStays) where
     ]
 
 module _ (laws : Laws) (none_stays : NoFinalHeadStays) (empty : EmptyIsRead) (among : ℕ → Bool) (old : Content) where
-  module _ (at after : Content) (url : List ℕ) (stream : Stream) (due : List ℕ) (probe : Probe) (mirrors : at.mirrors ≡ old.mirrors)
+  module _ (at after : Content) (url : List ℕ) (stream : Exchange) (due : List ℕ) (probe : Probe) (mirrors : at.mirrors ≡ old.mirrors)
       (replies : ProbeReplies url stream probe) (named : (number : ℕ) → NamesMirror old url number → among number ≡ true) (gave : Gave at stream due after) where
     -- what is told, with the bad answers that were used
     record Pays (right : Probe) : Type 0 where
@@ -175,8 +175,12 @@ module _ (laws : Laws) (none_stays : NoFinalHeadStays) (empty : EmptyIsRead) (am
       paid : used_among among at + spent ≤ used_among among after
       outcome : Outcome right spent probe
 
-    nothing-came : (right : Probe) → probe ≡ Due → Pays right
-    nothing-came right is = record { spent = 0; paid = omega (arith, (gave_counts among at stream due after gave).0); outcome = inl is }
+    -- the mirror didn't hang up over the first request of a connection
+    answered : GaveAnswer at stream due after
+    answered = elim gave [
+      | inl none ↦ absurd (true≢false (sym replies.1 ∙ none.kept))
+      | inr one ↦ one
+    ]
 
     size-by : (manner : Manner) (bytes : List ℕ) (bad : Option Bad) (left : List ℕ) → length bytes < 2 ^ 63 → manner ≢ ToEnd
         → text_under bad (content_reply manner bytes 0 0) ≡ stream.received ++ left → (stream.ended ≡ true → left ≡ [])
@@ -200,13 +204,10 @@ module _ (laws : Laws) (none_stays : NoFinalHeadStays) (empty : EmptyIsRead) (am
 
     -- at a resource
     size-told : (size : ℕ) → TellsSize old url size → Pays (Told size)
-    size-told size tells = elim replies [
-      | inl nothing ↦ nothing-came (Told size) nothing.1
-      | inr asking ↦
-          let had = gave_reply laws.alike laws.answered among old url probe_asked stream (Bytes tells.bytes) at after due (omega arith) (omega arith) mirrors tells.stands named asking.0 gave in
-          let outcome = size-by tells.stands.mirror.manner tells.bytes had.bad had.due (omega (arith, tells.size_is, tells.small)) tells.told had.whole had.last asking.1 in
-          record { spent = cost had.bad; paid = had.paid; outcome = subst (λ n. Outcome (Told n) (cost had.bad) probe) tells.size_is outcome }
-    ]
+    size-told size tells =
+        let had = gave_reply laws.alike laws.answered among old url probe_asked stream (Bytes tells.bytes) at after due (omega arith) (omega arith) mirrors tells.stands named replies.0 answered in
+        let outcome = size-by tells.stands.mirror.manner tells.bytes had.bad had.due (omega (arith, tells.size_is, tells.small)) tells.told had.whole had.last replies.2 in
+        record { spent = cost had.bad; paid = had.paid; outcome = subst (λ n. Outcome (Told n) (cost had.bad) probe) tells.size_is outcome }
 
     moved-by : (next : List ℕ) (on : Redirects old url next) (bad : Option Bad) (left : List ℕ) → text_under bad (bare_reply (moved on.location)) ≡ stream.received ++ left
         → (stream.ended ≡ true → left ≡ []) → ProbeAnswers stream.received stream.ended probe → Outcome (Away on.head.status on.text) (cost bad) probe
@@ -234,12 +235,9 @@ module _ (laws : Laws) (none_stays : NoFinalHeadStays) (empty : EmptyIsRead) (am
 
     -- where it has moved
     place-told : (next : List ℕ) (on : Redirects old url next) → Pays (Away on.head.status on.text)
-    place-told next on = elim replies [
-      | inl nothing ↦ nothing-came (Away on.head.status on.text) nothing.1
-      | inr asking ↦
-          let had = gave_reply laws.alike laws.answered among old url probe_asked stream (Moved on.location) at after due (omega arith) (omega arith) mirrors on.stands named asking.0 gave in
-          record { spent = cost had.bad; paid = had.paid; outcome = moved-by next on had.bad had.due had.whole had.last asking.1 }
-    ]
+    place-told next on =
+        let had = gave_reply laws.alike laws.answered among old url probe_asked stream (Moved on.location) at after due (omega arith) (omega arith) mirrors on.stands named replies.0 answered in
+        record { spent = cost had.bad; paid = had.paid; outcome = moved-by next on had.bad had.due had.whole had.last replies.2 }
 
   -- ---- all answers
 
@@ -282,7 +280,7 @@ module _ (laws : Laws) (none_stays : NoFinalHeadStays) (empty : EmptyIsRead) (am
     found : search ≡ Found probe
     paid : was + 1 ≤ now
 
-  module _ (at after : Content) (url : List ℕ) (count size : ℕ) (stream : Stream) (due : List ℕ) (probe : Probe) (mirrors : at.mirrors ≡ old.mirrors)
+  module _ (at after : Content) (url : List ℕ) (count size : ℕ) (stream : Exchange) (due : List ℕ) (probe : Probe) (mirrors : at.mirrors ≡ old.mirrors)
       (replies : ProbeReplies url stream probe) (sought : IsSought url count size) (gave : Gave at stream due after) where
     abbrev Next : Type 0
     Next = GoesOn (next_search url count probe) size (used_among among at) (used_among among after)
@@ -320,7 +318,7 @@ module _ (laws : Laws) (none_stays : NoFinalHeadStays) (empty : EmptyIsRead) (am
     next-of (suc more) is (inl tells) = next-here tells
     next-of (suc more) is (inr (next, redirects, leads)) = next-there more is next redirects leads
 
-  probes : (search : Search) (streams : List Stream) (probe : Probe) (size : ℕ) (at new : Content) → at.mirrors ≡ old.mirrors → Seeks search size
+  probes : (search : Search) (streams : List Exchange) (probe : Probe) (size : ℕ) (at new : Content) → at.mirrors ≡ old.mirrors → Seeks search size
       → GaveEach at streams new → ProbedBy search streams probe → used_among among at + misses size probe ≤ used_among among new
   probes (Found told) streams probe size at new mirrors none gave (is, over) =
       omega (arith, ap (misses size) is, none, each_counts among at streams new gave)
@@ -341,7 +339,7 @@ module _ (laws : Laws) (none_stays : NoFinalHeadStays) (empty : EmptyIsRead) (am
 pub probes_are_paid_for : Laws → NoFinalHeadStays → EmptyIsRead → BadAnswersPayProbes
 probes_are_paid_for laws none_stays empty old link gained among url size probe has leads through probed =
     let top = top_of among old has.before link has.answered in
-    let each = gave_each old link.content has.before link.streams gained top.top has.gains top.on_top top.gave in
+    let each = gave_each old link.content has.before link.exchanges gained top.top has.gains top.on_top top.gave in
     probes laws none_stays empty among old (At url 0 0) gained probe size old link.content refl
     (record { left = redirect_limit; counts = refl; leads = leads; through = through }) each probed
 

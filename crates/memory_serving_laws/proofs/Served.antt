@@ -6,7 +6,7 @@ use Rattle.std.proofs.lemmas.List.Elements.{All-nil, All-cons, All-head, All-tai
 use Rattle.std.specs.Prelude.{All, Some}
 use Rattle.link_source.specs.Link.{LinkState}
 use Rattle.link_source.specs.Mirrors.{Content}
-use Rattle.link_source.specs.Streams.{Stream}
+use Rattle.link_source.specs.Exchanges.{Exchange}
 use Rattle.request_chain.specs.Fetched.{Fetched}
 use Rattle.request_chain.specs.Plans.{FetchEnding, Done, Open, Lost}
 use Rattle.memory_serving_laws.specs.Charges.{AreKnownOf, BadAnswersPay, DiffersOnce, IsPaidFor, LosesOnly, OneIsNeverBoth, differing, next_known}
@@ -49,7 +49,7 @@ no-more came [] bytes is same = refl
 no-more came (b ∷ behind) bytes is same = absurd (omega (arith, same, ap length is, length-append came (b ∷ behind)))
 
 module _ (pay : BadAnswersPay) where
-  paid : (old : Content) (link : LinkState) (gained : List Stream) (among : ℕ → Bool) (parts : List JobPart) (bytes came : List ℕ) (ending : FetchEnding)
+  paid : (old : Content) (link : LinkState) (gained : List Exchange) (among : ℕ → Bool) (parts : List JobPart) (bytes came : List ℕ) (ending : FetchEnding)
       → GainedAnswers old link gained → AreGiven old parts bytes → All (LeadsAmong old among) parts → Fetched parts gained came ending []
       → IsPaidFor (map Some bytes) came ending (used_among among old) (used_among among link.content)
   paid old link gained among parts bytes came ending has given leads fetched =

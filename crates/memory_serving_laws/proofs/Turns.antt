@@ -1,12 +1,12 @@
 -- What a stream answers that gave a true reply, or a bad one in its place.
-use Rattle.std.proofs.Common.{◌≡◌, ◌⊎◌, inl, inr, ℕ, ◌+◌, ◌<◌, ◌≤◌, ◌^◌, Bool, true, List, [], ◌++◌, append-nil, length, length-append, drop, map, Option, Some, None, refl, ap, sym, ◌∙◌, arith}
+use Rattle.std.proofs.Common.{◌≡◌, ◌⊎◌, inl, inr, ℕ, ◌+◌, ◌<◌, ◌≤◌, ◌^◌, ◌==◌, ◌&&◌, not, Bool, true, false, List, [], ◌++◌, append-nil, length, length-append, drop, map, Option, Some, None, refl, ap, sym, subst, ◌∙◌, arith}
 use Rattle.std.proofs.Math.Seq.{take-nil}
 use Rattle.std.proofs.lemmas.List.{length-set}
 use Rattle.memory_serving_laws.specs.Charges.{differing}
 use Rattle.memory_serving_laws.specs.Leads.{StandsAt, Redirects}
 use Rattle.link_source.specs.Mirrors.{Content, content_reply}
 use Rattle.link_source.specs.Replies.{bare_reply, body_text, moved, spoiled_text, text_of, text_under}
-use Rattle.link_source.specs.Streams.{Stream}
+use Rattle.link_source.specs.Exchanges.{Exchange}
 use Rattle.link_source.specs.declared.bad_answers.Bad.{Bad}
 use Rattle.link_source.specs.declared.bad_answers.BadKind.{BadKind}
 use Rattle.link_source.specs.declared.bad_answers.BadKind.TheVariants.{Status, Cut, Flip}
@@ -18,9 +18,10 @@ use Rattle.memory_reply_laws.specs.BadReplies.{with_turned, FlippedIsTrue, BareI
 use Rattle.memory_reply_laws.specs.Replies.{PartIsRead, ChunkedPartIsRead, WholeIsRead, StreamIsRead}
 use Rattle.reply_reader.specs.Answers.{Turn, Due, Given, Away, Lost, Answer, Answers, without_bytes, size_to, AnswersOnce, AnswersStay, AnswersGrow}
 use Rattle.reply_reader.specs.Fills.{AnswersFill}
+use Rattle.reply_reader.specs.Heads.{HasInterims, IsHeadDue}
 use Rattle.reply_reader.specs.declared.loss.Loss.{Loss}
-use Rattle.request_chain.specs.Answered.{Gave}
-use Rattle.request_chain.specs.Exchanges.{Replies}
+use Rattle.request_chain.specs.Answered.{Gave, GaveNothing}
+use Rattle.request_chain.specs.Exchanges.{Replies, is_gone, is_unheard}
 use Rattle.memory_serving_laws.specs.Serving.{NamesMirror, used_among}
 use Rattle.memory_serving_laws.proofs.Asking.{gave_reply, cost}
 use Rattle.memory_serving_laws.proofs.Counting.{gave_counts}
@@ -124,7 +125,7 @@ lost-outcome wanted turn answer is = elim is.turn [
     nothing : (most : ℕ) → IsFrontOf answer.got wanted most
     nothing most = front-of answer.got wanted wanted most (ap (λ got. got ++ wanted) (sym is.none))
 
-module _ (laws : Laws) (among : ℕ → Bool) (old at after : Content) (url : List ℕ) (asked : Asked) (stream : Stream) (due : List ℕ) (answer : Answer)
+module _ (laws : Laws) (among : ℕ → Bool) (old at after : Content) (url : List ℕ) (asked : Asked) (stream : Exchange) (due : List ℕ) (answer : Answer)
     (ordered : asked.first ≤ asked.last) (bounded : asked.last < 2 ^ 64) (mirrors : at.mirrors ≡ old.mirrors) (replies : Replies url asked stream answer)
     (is_among : (number : ℕ) → NamesMirror old url number → among number ≡ true) (gave : Gave at stream due after) where
   -- what came of it, with the bad answers that it used
@@ -133,12 +134,31 @@ module _ (laws : Laws) (among : ℕ → Bool) (old at after : Content) (url : Li
     pub paid : used_among among at + spent ≤ used_among among after
     pub outcome : Outcome wanted turn spent answer
 
-  nothing-came : (wanted : List ℕ) (turn : Turn) → answer ≡ without_bytes Due → Pays wanted turn
-  nothing-came wanted turn is = record {
-    spent = 0;
-    paid = omega (arith, (gave_counts among at stream due after gave).0);
-    outcome = inl (record { due = ap (λ (a : Answer). a.turn) is; front = front-of answer.got wanted wanted 0 (ap (λ (a : Answer). a.got ++ wanted) (sym is)) });
-  }
+  -- where the mirror had hung up more is due, since the end isn't told
+  module _ (none : GaveNothing at stream due after) where
+    not-ended : (ended : Bool) → stream.ended ≡ ended → ended ≡ false
+    not-ended false is = refl
+    not-ended true is =
+        let unheard : is_unheard stream ≡ true = ap (λ f. not f && (length stream.received == 0)) none.kept ∙ ap (λ (bytes : List ℕ). length bytes == 0) none.none_came in
+        let gone : is_gone stream ≡ true = ap (λ e. e && is_unheard stream) is ∙ unheard in
+        sym gone ∙ replies.2
+
+    head-is-due : IsHeadDue []
+    unfolding HasInterims
+    head-is-due = record { before = 0; interims = record { count = 0; few = omega arith; interims = refl }; unfinished = laws.heads.nothing }
+
+    waits : answer ≡ without_bytes Due
+    waits =
+        let P : List ℕ → Type 0 = λ bytes. Answers asked bytes stream.ended answer in
+        let Q : Bool → Type 0 = λ ended. Answers asked [] ended answer in
+        laws.once asked [] false answer (without_bytes Due) (subst Q (not-ended stream.ended refl) (subst P none.none_came replies.1)) (inl (head-is-due, refl))
+
+    nothing-came : (wanted : List ℕ) (turn : Turn) → Pays wanted turn
+    nothing-came wanted turn = record {
+      spent = 0;
+      paid = omega (arith, (gave_counts among at stream due after gave).0);
+      outcome = inl (record { due = ap (λ (a : Answer). a.turn) waits; front = front-of answer.got wanted wanted 0 (ap (λ (a : Answer). a.got ++ wanted) (sym waits)) });
+    }
 
   -- at a resource
   module _ (bytes : List ℕ) (inside : IsInside bytes asked) (answers : Answers asked stream.received stream.ended answer) where
@@ -183,11 +203,11 @@ module _ (laws : Laws) (among : ℕ → Bool) (old at after : Content) (url : Li
             (ap text_of (sym (laws.flipped manner bytes asked.first asked.last place)) ∙ text) last answers)
 
   pub resource_turn : (bytes : List ℕ) → StandsAt old url (Bytes bytes) → IsInside bytes asked → Pays (wanted bytes asked) (Given asked.last)
-  resource_turn bytes stands inside = elim replies [
-    | inl nothing ↦ nothing-came (wanted bytes asked) (Given asked.last) nothing.1
-    | inr asking ↦
-        let had = gave_reply laws.alike laws.answered among old url asked stream (Bytes bytes) at after due ordered bounded mirrors stands is_among asking.0 gave in
-        record { spent = cost had.bad; paid = had.paid; outcome = by-bad bytes inside asking.1 stands.mirror.manner had.bad had.due had.whole had.last }
+  resource_turn bytes stands inside = elim gave [
+    | inl none ↦ nothing-came none (wanted bytes asked) (Given asked.last)
+    | inr one ↦
+        let had = gave_reply laws.alike laws.answered among old url asked stream (Bytes bytes) at after due ordered bounded mirrors stands is_among replies.0 one in
+        record { spent = cost had.bad; paid = had.paid; outcome = by-bad bytes inside replies.1 stands.mirror.manner had.bad had.due had.whole had.last }
   ]
 
   -- where it has moved
@@ -214,9 +234,9 @@ module _ (laws : Laws) (among : ℕ → Bool) (old at after : Content) (url : Li
         by-kind (Flip place) text = right-outcome there answer 1 (plain-text left (ap text_of (sym (laws.bare (moved on.location) place)) ∙ text) last)
 
   pub moved_turn : (next : List ℕ) (on : Redirects old url next) (total : ℕ) → asked.total ≡ Some total → 0 < total → Pays [] (Away on.head.status on.text)
-  moved_turn next on total known some = elim replies [
-    | inl nothing ↦ nothing-came [] (Away on.head.status on.text) nothing.1
-    | inr asking ↦
-        let had = gave_reply laws.alike laws.answered among old url asked stream (Moved on.location) at after due ordered bounded mirrors on.stands is_among asking.0 gave in
-        record { spent = cost had.bad; paid = had.paid; outcome = moved-by next on total known some asking.1 had.bad had.due had.whole had.last }
+  moved_turn next on total known some = elim gave [
+    | inl none ↦ nothing-came none [] (Away on.head.status on.text)
+    | inr one ↦
+        let had = gave_reply laws.alike laws.answered among old url asked stream (Moved on.location) at after due ordered bounded mirrors on.stands is_among replies.0 one in
+        record { spent = cost had.bad; paid = had.paid; outcome = moved-by next on total known some replies.1 had.bad had.due had.whole had.last }
   ]

@@ -2,7 +2,7 @@
 use Rattle.std.specs.Prelude.{◌≡◌, ◌≤◌, ℕ, Bool, List}
 use Rattle.link_source.specs.Link.{LinkState}
 use Rattle.link_source.specs.Mirrors.{Content}
-use Rattle.link_source.specs.Streams.{Stream}
+use Rattle.link_source.specs.Exchanges.{Exchange}
 use Rattle.request_chain.specs.Answered.{IsAnswered}
 use Rattle.memory_serving_laws.specs.Leads.{Leads}
 use Rattle.memory_serving_laws.specs.Serving.{UrlLeadsAmong, used_among}
@@ -10,7 +10,7 @@ use Rattle.memory_serving_laws.specs.Sizes.{LeadsToSize}
 
 -- by answers the mirrors keep what they hold, and bad answers that were used stay used
 abbrev pub AnswersKeepMirrors : Type 0
-AnswersKeepMirrors = (old : Content) (before : List Stream) (link : LinkState) (among : ℕ → Bool) → IsAnswered old before link
+AnswersKeepMirrors = (old : Content) (before : List Exchange) (link : LinkState) (among : ℕ → Bool) → IsAnswered old before link
     → (link.content.mirrors ≡ old.mirrors) × (used_among among old ≤ used_among among link.content)
 
 -- a URL leads to the same resource

@@ -2,7 +2,7 @@
 use Rattle.std.specs.Prelude.{◌≡◌, ◌⊎◌, ◌==◌, ◌<◌, ◌≤◌, ◌^◌, ℕ, ◌+◌, Bool, List, [], ◌∷◌, ◌++◌, length, drop, map, replicate, All, Option, Some, None, if◌then◌else◌}
 use Rattle.link_source.specs.Link.{LinkState}
 use Rattle.link_source.specs.Mirrors.{Content}
-use Rattle.link_source.specs.Streams.{Stream}
+use Rattle.link_source.specs.Exchanges.{Exchange}
 use Rattle.reply_reader.specs.declared.loss.Loss.{Loss}
 use Rattle.request_chain.specs.Fetched.{Fetched}
 use Rattle.request_chain.specs.Plans.{FetchEnding, Done, Open, Lost}
@@ -53,7 +53,7 @@ pub record IsPaidFor (known : List (Option ℕ)) (came : List ℕ) (ending : Fet
 
 -- Bad answers pay for what comes of parts, some of which mirrors serve.
 abbrev pub BadAnswersPay : Type 0
-BadAnswersPay = (old : Content) (link : LinkState) (gained : List Stream) (among : ℕ → Bool)
+BadAnswersPay = (old : Content) (link : LinkState) (gained : List Exchange) (among : ℕ → Bool)
     (parts : List JobPart) (known : List (Option ℕ)) (came : List ℕ) (ending : FetchEnding)
     → GainedAnswers old link gained → All IsJobPart parts → All (λ part. part.total < 2 ^ 63) parts
     → AreKnownOf old among parts known → Fetched parts gained came ending []
@@ -73,7 +73,7 @@ pub record DiffersOnce (bytes came : List ℕ) (ending : FetchEnding) : Type 0 w
 
 -- One bad answer makes one differing byte or one loss, never both.
 abbrev pub OneIsNeverBoth : Type 0
-OneIsNeverBoth = (old : Content) (link : LinkState) (gained : List Stream) (among : ℕ → Bool)
+OneIsNeverBoth = (old : Content) (link : LinkState) (gained : List Exchange) (among : ℕ → Bool)
     (parts : List JobPart) (bytes came : List ℕ) (ending : FetchEnding)
     → GainedAnswers old link gained → AreGiven old parts bytes → All (LeadsAmong old among) parts
     → Fetched parts gained came ending [] → used_among among link.content ≡ used_among among old + 1

@@ -2,7 +2,7 @@
 use Rattle.std.specs.Prelude.{◌≡◌, ◌≢◌, ◌⊎◌, ◌==◌, ◌<◌, ◌≤◌, ◌^◌, ℕ, zero, suc, ◌+◌, Bool, List, length, if◌then◌else◌}
 use Rattle.link_source.specs.Link.{LinkState}
 use Rattle.link_source.specs.Mirrors.{Content}
-use Rattle.link_source.specs.Streams.{Stream}
+use Rattle.link_source.specs.Exchanges.{Exchange}
 use Rattle.link_source.specs.declared.mirrors.Manner.TheVariants.{ToEnd}
 use Rattle.link_source.specs.declared.mirrors.MemFile.TheVariants.{Bytes}
 use Rattle.request_chain.specs.Probes.{Probe, Due, Told, Away, Lost, Probed}
@@ -34,7 +34,7 @@ misses size (Lost loss) = 1
 
 -- A bad answer pays for a probe that is lost, or that tells another length.
 abbrev pub BadAnswersPayProbes : Type 0
-BadAnswersPayProbes = (old : Content) (link : LinkState) (gained : List Stream) (among : ℕ → Bool)
+BadAnswersPayProbes = (old : Content) (link : LinkState) (gained : List Exchange) (among : ℕ → Bool)
     (url : List ℕ) (size : ℕ) (probe : Probe)
     → GainedAnswers old link gained → LeadsToSize old redirect_limit url size → UrlLeadsAmong old among url
     → Probed url gained probe
@@ -42,7 +42,7 @@ BadAnswersPayProbes = (old : Content) (link : LinkState) (gained : List Stream) 
 
 -- So the length is told, or more is due, or a bad answer of the mirrors that the URL leads through was used.
 abbrev pub ServedSizeIsTold : Type 0
-ServedSizeIsTold = (old : Content) (link : LinkState) (gained : List Stream) (among : ℕ → Bool)
+ServedSizeIsTold = (old : Content) (link : LinkState) (gained : List Exchange) (among : ℕ → Bool)
     (url : List ℕ) (size : ℕ) (probe : Probe)
     → GainedAnswers old link gained → LeadsToSize old redirect_limit url size → UrlLeadsAmong old among url
     → Probed url gained probe

@@ -3,6 +3,7 @@ pub mod Fields
 pub mod Framing
 pub mod HeadLaws
 pub mod Heads
+pub mod Persistence
 pub mod Range
 pub mod RangeLaws
 pub mod Request

@@ -7,6 +7,7 @@ mod fields;
 mod framing;
 mod head;
 mod laws;
+mod persistence;
 mod range;
 mod verdict;
 
@@ -16,5 +17,6 @@ pub use fields::location;
 pub use framing::Framing;
 pub use head::{Head, HeadRead, MAX_HEAD_BYTES, MAX_HEAD_FIELDS, read_head};
 pub use laws::{heads_are_one_and_stay, numbers_and_ranges_are_read};
+pub use persistence::persists;
 pub use range::{ContentRange, read_range};
 pub use verdict::{Verdict, classify};

@@ -9,8 +9,8 @@ use Rattle.link_source.specs.Endpoint.{host_value}
 use Rattle.link_source.specs.Link.{LinkState}
 use Rattle.link_source.specs.Mirrors.{Content}
 use Rattle.link_source.specs.Requests.{Asks, AsksOnce, request_of}
-use Rattle.link_source.specs.Streams.{Stream}
-use Rattle.link_source.specs.declared.streams.TheConstants.{MOST_RECEIVED}
+use Rattle.link_source.specs.Exchanges.{Exchange}
+use Rattle.link_source.specs.declared.exchanges.TheConstants.{MOST_RECEIVED}
 use Rattle.range_http.specs.declared.asked.Asked.{Asked}
 use Rattle.range_http.specs.declared.head.Head.{Head}
 use Rattle.range_http.specs.declared.verdict.Verdict.{Verdict}
@@ -21,7 +21,7 @@ use Rattle.reply_reader.specs.Answers.{Turn, Due, Given, Away, Lost, Answer, Ans
 use Rattle.reply_reader.specs.Fills.{AnswersFill}
 use Rattle.reply_reader.specs.HeadLaws.{HasOneFinalHead, FinalHeadStays}
 use Rattle.reply_reader.specs.Heads.{HasFinalHead}
-use Rattle.reply_reader.specs.Sizes.{NothingIsNoHead, heads_most, lines_most}
+use Rattle.reply_reader.specs.Sizes.{heads_most, lines_most}
 use Rattle.reply_reader.specs.Slices.{goes_wrong, has_come}
 use Rattle.reply_reader.specs.declared.loss.Loss.{Loss}
 use Rattle.reply_reader.specs.declared.loss.Loss.TheVariants as losses
@@ -34,28 +34,27 @@ use Rattle.request_chain.specs.Probes as probes
 use Rattle.request_chain.specs.Probes.{Probe, ProbeReplies, ProbedBy, Search, next_search, probe_asked, probe_by, search_at, told_by}
 use Rattle.request_chain.specs.Received.{IsReadNoFurther, ReceivesLittle}
 use Rattle.request_chain.specs.Redirects.{moved_to, redirect_limit}
-use Rattle.request_chain.proofs.AnsweredLemmas.{fresh_little}
 use Rattle.request_chain.proofs.MovedLemmas.{moved_test}
 use Rattle.span_map.specs.Jobs.{IsJobPart}
 use Rattle.span_map.specs.declared.jobs.JobPart.{JobPart}
 
 -- ---- the streams that a link gained
 
-module _ (P : Stream → Type 0) where
+module _ (P : Exchange → Type 0) where
   -- the last one, and those before it
-  all-push : (front : List Stream) (stream : Stream) → All P (front ++ stream ∷ []) → All P front × P stream
+  all-push : (front : List Exchange) (stream : Exchange) → All P (front ++ stream ∷ []) → All P front × P stream
   all-push [] stream all = (All-nil P, All-head P stream [] all)
   all-push (first ∷ front) stream all =
       let rest = all-push front stream (All-tail P first (front ++ stream ∷ []) all) in
       (All-cons P first front (All-head P first (front ++ stream ∷ []) all) rest.0, rest.1)
 
   -- they stand on top, the newest first, and what holds of all there holds of each
-  record OnTop (before now gained : List Stream) : Type 0 where
-    top : List Stream
+  record OnTop (before now gained : List Exchange) : Type 0 where
+    top : List Exchange
     now_is : now ≡ top ++ before
     all : All P top → All P gained
 
-  on-top : (before now gained : List Stream) → Gains before now gained → OnTop before now gained
+  on-top : (before now gained : List Exchange) → Gains before now gained → OnTop before now gained
   on-top before now [] is = record { top = []; now_is = is; all = λ a. a }
   on-top before now (stream ∷ gained) gains =
       let later = on-top (stream ∷ before) now gained gains in
@@ -67,29 +66,27 @@ module _ (P : Stream → Type 0) where
             All-cons P stream gained both.1 (later.all both.0);
       }
 
-  gains_all : (before now gained top : List Stream) → Gains before now gained → now ≡ top ++ before → All P top → All P gained
+  gains_all : (before now gained top : List Exchange) → Gains before now gained → now ≡ top ++ before → All P top → All P gained
   gains_all before now gained top gains is all =
       let stands = on-top before now gained gains in
       stands.all (subst (All P) (append_cancel_right top stands.top before (sym is ∙ stands.now_is)) all)
 
-one-little : NothingIsNoHead → (old : Content) (stream : Stream) (due : List ℕ) (new : Content) → Gave old stream due new → ReceivesLittle stream
-one-little nothing old stream due new gave = elim gave [
-  | inl none ↦ inl (fresh_little nothing stream none.none_came)
-  | inr one ↦ one.little
-]
+one-little : (old : Content) (stream : Exchange) (due : List ℕ) (new : Content) → Gave old stream due new → ReceivesLittle stream
+one-little old stream due new (inl nothing) = nothing.little
+one-little old stream due new (inr one) = one.little
 
-all-little : NothingIsNoHead → (old : Content) (streams : List Stream) (new : Content) → GaveAll old streams new → All ReceivesLittle streams
-all-little nothing old [] new same = All-nil ReceivesLittle
-all-little nothing old (stream ∷ older) new (between, due, past, gave) =
-    All-cons ReceivesLittle stream older (one-little nothing between stream due new gave) (all-little nothing old older between past)
+all-little : (old : Content) (streams : List Exchange) (new : Content) → GaveAll old streams new → All ReceivesLittle streams
+all-little old [] new same = All-nil ReceivesLittle
+all-little old (stream ∷ older) new (between, due, past, gave) =
+    All-cons ReceivesLittle stream older (one-little between stream due new gave) (all-little old older between past)
 
 -- each of them received little
-gained-little : NothingIsNoHead → (old : Content) (before : List Stream) (link : LinkState) (gained : List Stream) → IsAnswered old before link → Gains before link.streams gained
+gained-little : (old : Content) (before : List Exchange) (link : LinkState) (gained : List Exchange) → IsAnswered old before link → Gains before link.exchanges gained
     → All ReceivesLittle gained
-gained-little nothing old before link gained is gains = elim is [
-  | inl same ↦ gains_all ReceivesLittle before link.streams gained [] gains same.0 (All-nil ReceivesLittle)
-  | inr top ↦ gains_all ReceivesLittle before link.streams gained (top.newest ∷ top.older) gains top.on_top
-      (all-little nothing old (top.newest ∷ top.older) link.content (top.between, link.due, top.past, top.gave))
+gained-little old before link gained is gains = elim is [
+  | inl same ↦ gains_all ReceivesLittle before link.exchanges gained [] gains same.0 (All-nil ReceivesLittle)
+  | inr top ↦ gains_all ReceivesLittle before link.exchanges gained (top.newest ∷ top.older) gains top.on_top
+      (all-little old (top.newest ∷ top.older) link.content (top.between, top.due, top.past, top.gave))
 ]
 
 -- ---- one stream
@@ -98,12 +95,7 @@ alike : (host target : List ℕ) (asked : Asked) → request_text target host as
 unfolding request_of
 alike host target asked = refl
 
-one-first : (sent : List (ℕ × List ℕ)) (a b : ℕ × List ℕ) → sent ≡ a ∷ [] → sent ≡ b ∷ [] → a.1 ≡ b.1
-one-first sent a b is other =
-    let same : a ≡ b = cc (is, other) in
-    ap (λ (s : ℕ × List ℕ). s.1) same
-
-asks-of : (url : List ℕ) (asked : Asked) (stream : Stream) (exchange : IsExchange url asked stream) → asked.first ≤ asked.last → asked.last < 2 ^ 64
+asks-of : (url : List ℕ) (asked : Asked) (stream : Exchange) (exchange : IsExchange url asked stream) → asked.first ≤ asked.last → asked.last < 2 ^ 64
     → Asks stream.host stream.port exchange.endpoint.target asked.first asked.last (request_for asked exchange.endpoint)
 asks-of url asked stream exchange ordered bounded =
     let endpoint = exchange.endpoint in
@@ -117,10 +109,10 @@ asks-of url asked stream exchange ordered bounded =
     }
 
 -- the same bytes are asked for
-same-last : AsksOnce → (url other_url : List ℕ) (asked other : Asked) (stream : Stream) → IsExchange url asked stream → IsExchange other_url other stream
+same-last : AsksOnce → (url other_url : List ℕ) (asked other : Asked) (stream : Exchange) → IsExchange url asked stream → IsExchange other_url other stream
     → asked.first ≤ asked.last → asked.last < 2 ^ 64 → other.first ≤ other.last → other.last < 2 ^ 64 → asked.last ≡ other.last
 same-last once url other_url asked other stream a b ordered bounded other_ordered other_bounded =
-    let texts : request_for asked a.endpoint ≡ request_for other b.endpoint = one-first stream.sent (0, request_for asked a.endpoint) (0, request_for other b.endpoint) a.sent_is b.sent_is in
+    let texts : request_for asked a.endpoint ≡ request_for other b.endpoint = sym a.request_is ∙ b.request_is in
     let first = asks-of url asked stream a ordered bounded in
     let second = asks-of other_url other stream b other_ordered other_bounded in
     let P : List ℕ → Type 0 = λ bytes. Asks stream.host stream.port b.endpoint.target other.first other.last bytes in
@@ -153,7 +145,7 @@ due-away false status location is = absurd (cc is)
 
 module _ (one : HasOneFinalHead) (stays : FinalHeadStays) where
   -- by a reply that is read further than its heads the resource isn't elsewhere
-  never-away : {A : Type 0} (asked : Asked) (stream : Stream) (far : IsReadNoFurther stream) (answer : Answer) (status : ℕ) (location : List ℕ)
+  never-away : {A : Type 0} (asked : Asked) (stream : Exchange) (far : IsReadNoFurther stream) (answer : Answer) (status : ℕ) (location : List ℕ)
       → Answers asked stream.received stream.ended answer → answer.turn ≡ Away status location → A
   never-away asked stream far answer status location answers is = elim answers [
     | inl (due, same) ↦ due-away stream.ended status location (sym (ap (λ (a : Answer). a.turn) same) ∙ is)
@@ -170,21 +162,17 @@ module _ (one : HasOneFinalHead) (stays : FinalHeadStays) where
   ]
 
   -- how much came by a request, and by one that leads elsewhere
-  one-most : AsksOnce → (url : List ℕ) (asked : Asked) (stream : Stream) (answer : Answer) → asked.first ≤ asked.last → asked.last < 2 ^ 64 → ReceivesLittle stream
+  one-most : AsksOnce → (url : List ℕ) (asked : Asked) (stream : Exchange) (answer : Answer) → asked.first ≤ asked.last → asked.last < 2 ^ 64 → ReceivesLittle stream
       → Replies url asked stream answer → length stream.received ≤ heads_most + 261 * (asked.last + 1) + lines_most + MOST_RECEIVED
   one-most once url asked stream answer ordered bounded (inl near) replies = omega (arith, near.few)
-  one-most once url asked stream answer ordered bounded (inr far) (inl dialled) = omega (arith, ap (λ (s : Stream). length s.received) dialled.0.is)
-  one-most once url asked stream answer ordered bounded (inr far) (inr asking) =
+  one-most once url asked stream answer ordered bounded (inr far) asking =
       let last = same-last once url far.url asked far.asked stream asking.0 far.exchange ordered bounded far.ordered far.bounded in
       omega (arith, last, far.short, far.buffer, ap length far.received_is, length-append far.front far.behind)
 
-  away-most : (url : List ℕ) (asked : Asked) (stream : Stream) (answer : Answer) (status : ℕ) (location : List ℕ) → ReceivesLittle stream
+  away-most : (url : List ℕ) (asked : Asked) (stream : Exchange) (answer : Answer) (status : ℕ) (location : List ℕ) → ReceivesLittle stream
       → Replies url asked stream answer → answer.turn ≡ Away status location → length stream.received ≤ heads_most
   away-most url asked stream answer status location (inl near) replies is = omega (arith, near.few)
-  away-most url asked stream answer status location (inr far) (inl dialled) is =
-      let both : Due ≡ Away status location = sym (ap (λ (a : Answer). a.turn) dialled.1) ∙ is in
-      absurd (cc both)
-  away-most url asked stream answer status location (inr far) (inr asking) is = never-away asked stream far answer status location asking.1 is
+  away-most url asked stream answer status location (inr far) asking is = never-away asked stream far answer status location asking.1 is
 
 -- ---- all streams
 
@@ -198,8 +186,8 @@ plan-bound : (parts : List JobPart) → All IsJobPart parts → All (λ (p : Job
 plan-bound [] are small = record {}
 plan-bound (part ∷ parts) are small = (are, small, omega arith, omega arith)
 
-module _ (one : HasOneFinalHead) (stays : FinalHeadStays) (once : AsksOnce) (fill : AnswersFill) (nothing : NothingIsNoHead) where
-  module _ (part : JobPart) (parts : List JobPart) (url : List ℕ) (count status came : ℕ) (stream : Stream) (answer : Answer)
+module _ (one : HasOneFinalHead) (stays : FinalHeadStays) (once : AsksOnce) (fill : AnswersFill) where
+  module _ (part : JobPart) (parts : List JobPart) (url : List ℕ) (count status came : ℕ) (stream : Exchange) (answer : Answer)
       (bound : Bound (Ask part parts url count status) came) (little : ReceivesLittle stream) (replies : Replies url (asked_of part) stream answer) where
     is-part : IsJobPart part
     is-part = All-head IsJobPart part parts bound.0
@@ -225,12 +213,7 @@ module _ (one : HasOneFinalHead) (stays : FinalHeadStays) (once : AsksOnce) (fil
         ]
 
     given-from : (last : ℕ) → answer.turn ≡ Given last → (asked_of part).first ≤ last
-    given-from last is = elim replies [
-      | inl dialled ↦
-          let both : Due ≡ Given last = sym (ap (λ (a : Answer). a.turn) dialled.1) ∙ is in
-          absurd (cc both)
-      | inr asking ↦ ((fill (asked_of part) stream.received stream.ended answer (omega (arith, is-part.some)) asking.1).given last is).0
-    ]
+    given-from last is = ((fill (asked_of part) stream.received stream.ended answer (omega (arith, is-part.some)) replies.1).given last is).0
 
     at-bound : (next : Option (List ℕ)) (told came' : ℕ) → count < redirect_limit → came' ≤ heads_most * (count + 1) → Bound (plan_at part parts (count + 1) told next) came'
     at-bound None told came' few less = record {}
@@ -255,19 +238,22 @@ module _ (one : HasOneFinalHead) (stays : FinalHeadStays) (once : AsksOnce) (fil
         let here = one-most one stays once url asked stream answer (omega (arith, is-part.some)) (omega (arith, is-part.some, is-part.within, small)) little replies in
         omega (arith, here, bound.2, bound.3)
 
-  receives : (plan : NextAsk) (came : ℕ) (streams : List Stream) → Bound plan came → All ReceivesLittle streams → RequestsReceive plan came streams
+  receives : (plan : NextAsk) (came : ℕ) (streams : List Exchange) → Bound plan came → All ReceivesLittle streams → RequestsReceive plan came streams
   receives (Over ending) came streams bound little = record {}
   receives (Ask part parts url count status) came [] bound little = record {}
-  receives (Ask part parts url count status) came (stream ∷ streams) bound little = λ answer replies.
-      let here = All-head ReceivesLittle stream streams little in (
-        most part parts url count status came stream answer bound here replies,
-        receives (next_plan part parts url count answer.turn) (redirected answer.turn (came + length stream.received)) streams
-            (next-bound part parts url count status came stream answer bound here replies answer.turn refl) (All-tail ReceivesLittle stream streams little),
-      )
+  receives (Ask part parts url count status) came (stream ∷ streams) bound little = (
+    λ vain. receives (Ask part parts url count status) came streams bound (All-tail ReceivesLittle stream streams little),
+    λ answer replies.
+        let here = All-head ReceivesLittle stream streams little in (
+          most part parts url count status came stream answer bound here replies,
+          receives (next_plan part parts url count answer.turn) (redirected answer.turn (came + length stream.received)) streams
+              (next-bound part parts url count status came stream answer bound here replies answer.turn refl) (All-tail ReceivesLittle stream streams little),
+        ),
+  )
 
   pub requests_receive_little : RequestsReceiveLittle
   requests_receive_little old before link gained parts answered gains are small =
-      receives (plan_of parts) 0 gained (plan-bound parts are small) (gained-little nothing old before link gained answered gains)
+      receives (plan_of parts) 0 gained (plan-bound parts are small) (gained-little old before link gained answered gains)
 
 -- ---- a probe
 
@@ -288,23 +274,19 @@ probe-away head Moved status location is = refl
 probe-away head NotFound status location is = absurd (cc is)
 probe-away head (Refused code) status location is = absurd (cc is)
 
-module _ (one : HasOneFinalHead) (stays : FinalHeadStays) (once : AsksOnce) (nothing : NothingIsNoHead) where
+module _ (one : HasOneFinalHead) (stays : FinalHeadStays) (once : AsksOnce) where
   -- how much came by a probe's request, and by one that leads elsewhere
-  probe-most : (url : List ℕ) (stream : Stream) (told : Probe) → ReceivesLittle stream → ProbeReplies url stream told
+  probe-most : (url : List ℕ) (stream : Exchange) (told : Probe) → ReceivesLittle stream → ProbeReplies url stream told
       → length stream.received ≤ heads_most + 261 + lines_most + MOST_RECEIVED
   probe-most url stream told (inl near) replies = omega (arith, near.few)
-  probe-most url stream told (inr far) (inl dialled) = omega (arith, ap (λ (s : Stream). length s.received) dialled.0.is)
-  probe-most url stream told (inr far) (inr asking) =
+  probe-most url stream told (inr far) asking =
       let last = same-last once url far.url probe_asked far.asked stream asking.0 far.exchange (omega arith) (omega arith) far.ordered far.bounded in
       omega (arith, last, far.short, far.buffer, ap length far.received_is, length-append far.front far.behind)
 
-  probe-away-most : (url : List ℕ) (stream : Stream) (told : Probe) (status : ℕ) (location : List ℕ) → ReceivesLittle stream → ProbeReplies url stream told
+  probe-away-most : (url : List ℕ) (stream : Exchange) (told : Probe) (status : ℕ) (location : List ℕ) → ReceivesLittle stream → ProbeReplies url stream told
       → told ≡ probes.Away status location → length stream.received ≤ heads_most
   probe-away-most url stream told status location (inl near) replies is = near.few
-  probe-away-most url stream told status location (inr far) (inl dialled) is =
-      let both : probes.Due ≡ probes.Away status location = sym dialled.1 ∙ is in
-      absurd (cc both)
-  probe-away-most url stream told status location (inr far) (inr asking) is = elim asking.1 [
+  probe-away-most url stream told status location (inr far) asking is = elim asking.2 [
     | inl (due, same) ↦ probe-due stream.ended status location (sym same ∙ is)
     | inr (inl (none, same)) ↦
         let both : probes.Lost losses.BadReply ≡ probes.Away status location = sym same ∙ is in
@@ -332,7 +314,7 @@ module _ (one : HasOneFinalHead) (stays : FinalHeadStays) (once : AsksOnce) (not
   away-within true url count status came location is few less = omega (arith, few, less)
   away-within false url count status came location is few less = at-within (moved_to url location) count status came (leb-false redirect_limit count is) less
 
-  next-within : (url : List ℕ) (count came : ℕ) (stream : Stream) (told : Probe) → count ≤ redirect_limit → came ≤ heads_most * count → ReceivesLittle stream
+  next-within : (url : List ℕ) (count came : ℕ) (stream : Exchange) (told : Probe) → count ≤ redirect_limit → came ≤ heads_most * count → ReceivesLittle stream
       → ProbeReplies url stream told → (probe : Probe) → told ≡ probe → Within (next_search url count probe) (came + length stream.received)
   next-within url count came stream told few less little replies probes.Due is =
       let most = probe-most url stream told little replies in omega (arith, most, few, less)
@@ -344,16 +326,16 @@ module _ (one : HasOneFinalHead) (stays : FinalHeadStays) (once : AsksOnce) (not
   next-within url count came stream told few less little replies (probes.Lost loss) is =
       let most = probe-most url stream told little replies in omega (arith, most, few, less)
 
-  probe-receives : (search : Search) (came : ℕ) (streams : List Stream) (probe : Probe) → Within search came → All ReceivesLittle streams → ProbedBy search streams probe
+  probe-receives : (search : Search) (came : ℕ) (streams : List Exchange) (probe : Probe) → Within search came → All ReceivesLittle streams → ProbedBy search streams probe
       → came + received_by streams ≤ request_most probe_asked
   probe-receives (probes.Found told) came streams probe within little (same, none) = omega (arith, within, ap received_by none)
   probe-receives (probes.At url count status) came [] probe within little stands = omega (arith, within.0, within.1)
   probe-receives (probes.At url count status) came (stream ∷ streams) probe within little (told, replies, probed) =
       let next = next-within url count came stream told within.0 within.1 (All-head ReceivesLittle stream streams little) replies told refl in
       let rest = probe-receives (next_search url count told) (came + length stream.received) streams probe next (All-tail ReceivesLittle stream streams little) probed in
-      omega (arith, rest, sum_by-append (λ (s : Stream). length s.received) (stream ∷ []) streams)
+      omega (arith, rest, sum_by-append (λ (s : Exchange). length s.received) (stream ∷ []) streams)
 
   pub probes_receive_little : ProbesReceiveLittle
   probes_receive_little old before link gained url probe answered gains probed =
-      let all = probe-receives (probes.At url 0 0) 0 gained probe (omega arith, omega arith) (gained-little nothing old before link gained answered gains) probed in
+      let all = probe-receives (probes.At url 0 0) 0 gained probe (omega arith, omega arith) (gained-little old before link gained answered gains) probed in
       omega (arith, all)

@@ -1,19 +1,23 @@
 -- The content of a reply, as it is read.
-use Rattle.std.proofs.Common.{◌≡◌, ℕ, ◌-◌, ◌+◌, ◌<◌, ◌≤◌, ◌^◌, List, [], ◌++◌, true, false, length, take, drop, refl, sym, ap, ◌∙◌, arith, append_assoc, length-append}
+use Rattle.std.proofs.Common.{◌≡◌, ℕ, ◌-◌, ◌+◌, ◌<◌, ◌≤◌, ◌^◌, min, Bool, cond, Option, Some, None, subst, List, [], ◌++◌, true, false, length, take, drop, refl, sym, ap, ◌∙◌, arith, append_assoc, append-nil, length-append, length-drop}
 use Rattle.std.proofs.lemmas.Bool.{ne_eqb, lt-leb}
-use Rattle.std.proofs.lemmas.List.{drop-append-le, take-append-le, take-append-drop}
+use Rattle.std.proofs.lemmas.List.{drop-append-le, length-take-le, take-append-le, take-append-drop}
 use Rattle.std.proofs.Math.Seq.{take-nil, drop-nil}
 use Rattle.body_frames.specs.Bodies.{body_of, chunks, content_of, GainAlike}
 use Rattle.range_http.specs.declared.asked.Asked.{Asked}
 use Rattle.range_http.specs.declared.framing.Framing.{Framing as Told}
 use Rattle.range_http.specs.declared.framing.Framing.TheVariants.{Length, Chunked, ToEnd}
 use Rattle.range_http.specs.declared.head.Head.{Head}
-use Rattle.reply_reader.specs.Answers.{Due, slice_answer}
+use Rattle.range_http.specs.declared.verdict.Verdict.{Verdict}
+use Rattle.range_http.specs.Persistence.{persists}
+use Rattle.range_http.specs.Verdict.{verdict_of}
+use Rattle.reply_reader.specs.Answers.{Turn, Due, slice_answer}
+use Rattle.reply_reader.specs.Heads.{HasFinalHead}
 use Rattle.reply_reader.specs.HeadLaws.{FinalHeadStays, FinalHeadIsWithin}
 use Rattle.reply_reader.specs.Slices.{Slice, framing_told, came_of, has_come, goes_wrong, is_over, IsSliceDue, IsSliceWrong, IsSliceOver, IsAtSlice, ForEachSlice}
 use Rattle.reply_reader.specs.declared.slices.SliceState.{SliceState}
 use Rattle.reply_reader.specs.declared.slices.SliceState.TheVariants.{More, Come, Wrong, Over}
-use Rattle.request_chain.specs.Contents.{IsSliceOf, IsAtStart, IsBegun, IsReadTo, turn_by}
+use Rattle.request_chain.specs.Contents.{IsSliceOf, IsAtStart, IsBegun, IsReadTo, IsReadWhole, IsFramedBy, EndsAt, ends_behind, turn_by}
 use Rattle.request_chain.specs.declared.content.Content.{Content}
 use Rattle.request_chain.proofs.VerdictLemmas.{HasBytes}
 
@@ -79,8 +83,9 @@ slice_turn Over slice stream content over count = rw (over.not_come, over.right,
 pub begun_of : (asked : Asked) (head : Head) (framing : Told) (skip last : ℕ) (content : Content)
     → IsAtStart (framing_told framing) skip (last + 1 - asked.first) last content → asked.first ≤ last → last + 1 < 2 ^ 64 → skip + (last + 1 - asked.first) ≤ asked.last + 1 → HasBytes framing
     → IsSliceOf asked head (record { framing = framing_told framing; skip = skip; len = last + 1 - asked.first }) last
+    → ((len : ℕ) → content.ends ≡ Some len → EndsAt asked head len)
     → IsBegun asked head content
-begun_of asked head framing skip last content start first bounded within some sliced =
+begun_of asked head framing skip last content start first bounded within some sliced ends_at =
     let slice : Slice = record { framing = framing_told framing; skip = skip; len = last + 1 - asked.first } in
     let none = came_nothing framing skip (last + 1 - asked.first) in
     let due = start_due framing skip (last + 1 - asked.first) some (omega arith) in
@@ -92,6 +97,8 @@ begun_of asked head framing skip last content start first bounded within some sl
       at = start.at;
       none_came = none;
       count_is = start.none_came;
+      ends_at = ends_at;
+      none_read = start.none_read;
       due = slice_turn More slice [] content due (start.none_came ∙ sym (ap length none));
     }
 
@@ -114,8 +121,9 @@ module _ (stays : FinalHeadStays) (within : FinalHeadIsWithin) where
       → (state ≡ Wrong → ForEachSlice content.reader (λ slice stream. IsSliceWrong slice (stream ++ take used piece)))
       → (state ≡ Over → ForEachSlice content.reader (λ slice stream. IsSliceOver slice (stream ++ take used piece)))
       → ((added : List ℕ) → new_out ≡ old_out ++ added → content.got + length added < 2 ^ 64 → next.got ≡ content.got + length added)
+      → next.ends ≡ content.ends → next.behind ≡ min (content.behind + used) (2 ^ 64 - 1)
       → (added : List ℕ) × (new_out ≡ old_out ++ added) × IsReadTo asked received (drop used waiting) (got ++ added) next (turn_by state next)
-  read_more asked received waiting got content next piece rest old_out new_out used state is cut few same_last at gained more come wrong over count =
+  read_more asked received waiting got content next piece rest old_out new_out used state is cut few same_last at gained more come wrong over count ends_same read_on =
       let stream = drop is.used is.front in
       let taken = take used piece in
       let front = is.front ++ taken in
@@ -128,6 +136,8 @@ module _ (stays : FinalHeadStays) (within : FinalHeadIsWithin) where
       let long : length (got ++ added) ≡ length got + length added = length-append got added in
       let fits : length (got ++ added) ≤ is.slice.len = omega (arith, now.left_is, ap length came) in
       let counted : next.got ≡ length (got ++ added) = omega (arith, count added gain.2 (omega (arith, is.small, is.count_is, fits, long)), is.count_is, long) in
+      let taken_is : length taken ≡ used = length-take-le used piece few in
+      let read : next.behind ≡ min (length (stream ++ taken)) (2 ^ 64 - 1) = omega (arith, read_on, is.behind_is, length-append stream taken, taken_is) in
       let turned = slice_turn state is.slice (stream ++ taken) next tells (counted ∙ ap length came) in (
         added,
         gain.2,
@@ -145,5 +155,38 @@ module _ (stays : FinalHeadStays) (within : FinalHeadIsWithin) where
           got_is = rw behind came;
           count_is = counted;
           turn_is = rw behind turned;
+          ends_at = λ len some. is.ends_at len (sym ends_same ∙ some);
+          behind_is = rw behind read;
         },
       )
+
+-- how long the body is, where the head tells it and the connection persists
+pub ends_of : (asked : Asked) (head : Head) (framing : Told) (verdict : Verdict) (ends : Option ℕ) → IsFramedBy verdict framing → verdict ≡ verdict_of head asked
+    → ends ≡ ends_behind head framing → (len : ℕ) → ends ≡ Some len → EndsAt asked head len
+ends_of asked head framing verdict ends framed is ends_is len some = told framing (subst (λ v. IsFramedBy v framing) is framed) (sym ends_is ∙ some)
+  where
+    by : (n : ℕ) (b : Bool) → persists head ≡ b → IsFramedBy (verdict_of head asked) (Length n) → cond b (Some n) None ≡ Some len → EndsAt asked head len
+    by n true on framed_by found =
+        let same : n ≡ len = cc in
+        record { framed = subst (λ l. IsFramedBy (verdict_of head asked) (Length l)) same framed_by; persists_on = on }
+    by n false on framed_by found = absurd cc
+
+    told : (framing : Told) → IsFramedBy (verdict_of head asked) framing → ends_behind head framing ≡ Some len → EndsAt asked head len
+    told (Length n) framed_by found = by n (persists head) refl framed_by found
+    told Chunked framed_by found = absurd cc
+    told ToEnd framed_by found = absurd cc
+
+-- the content was read to its end, and nothing waits
+pub whole_of : FinalHeadIsWithin → (asked : Asked) (received got : List ℕ) (content : Content) (turn : Turn) → IsReadTo asked received [] got content turn
+    → content.ends ≡ Some content.behind → content.behind < 2 ^ 64 - 1 → IsReadWhole asked received
+whole_of within asked received got content turn is ends small =
+    let P : List ℕ → Type 0 = λ bytes. HasFinalHead bytes is.head is.used in
+    let all : received ≡ is.front = is.received_is ∙ append-nil is.front in
+    record {
+      head = is.head;
+      used = is.used;
+      begins = subst P (sym all) is.begins;
+      len = content.behind;
+      ends = is.ends_at content.behind ends;
+      all = omega (arith, ap length all, is.behind_is, small, length-drop is.used is.front, within is.front is.head is.used is.begins);
+    }

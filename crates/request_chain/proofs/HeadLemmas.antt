@@ -1,8 +1,8 @@
 -- The head of a reply, and what a chain does by it.
-use Rattle.std.proofs.Common.{◌≡◌, ℕ, ◌+◌, ◌≤◌, Bool, false, List, [], ◌++◌, length, take, drop, refl, sym, ap, subst, ◌∙◌, inl, inr, arith, append_assoc, append-nil, length-append}
+use Rattle.std.proofs.Common.{◌≡◌, ℕ, ◌+◌, ◌-◌, ◌^◌, min, ◌≤◌, Bool, false, List, [], ◌++◌, length, take, drop, refl, sym, ap, subst, ◌∙◌, inl, inr, arith, append_assoc, append-nil, length-append}
 use Rattle.std.specs.Prelude.{Option, Some, codes, unwrap_or, nat_le}
 use Rattle.std.proofs.lemmas.List.{drop_all, take-append-drop, length-take}
-use Rattle.link_source.specs.Streams.{Stream}
+use Rattle.link_source.specs.Exchanges.{Exchange}
 use Rattle.range_http.specs.declared.head.Head.{Head}
 use Rattle.range_http.specs.declared.verdict.Verdict.{Verdict}
 use Rattle.range_http.specs.declared.verdict.Verdict.TheVariants.{Moved}
@@ -29,7 +29,7 @@ use Rattle.request_chain.proofs.AskLemmas.{asked_in}
 use Rattle.request_chain.proofs.MovedLemmas.{moved_location}
 use Rattle.request_chain.proofs.ReadingLemmas.{HasAnswer, answer_leads, answer_lost, tells_own}
 
-module _ (parts : List JobPart) (used : List Stream) (course : Course) (waiting bytes : List ℕ) where
+module _ (parts : List JobPart) (used : List Exchange) (course : Course) (waiting bytes : List ℕ) where
   -- where the head was read, all that was received answers by its verdict
   pub head_answer : FinalHeadStays → (head : Head) → (read : HeadIsRead parts used course waiting bytes head) → (turn : Turn)
       → ((stream : List ℕ) (ended : Bool) → answer_by head (asked_of read.sent.part) (verdict_of head (asked_of read.sent.part)) stream ended ≡ without_bytes turn)
@@ -62,6 +62,7 @@ module _ (parts : List JobPart) (used : List Stream) (course : Course) (waiting 
       let P : List ℕ → Type 0 = λ stream. IsAtSlice begun.slice stream content.reader in
       record {
         sent = read.sent;
+        heard = read.heard;
         got = [];
         bytes_are = read.bytes_are ∙ sym (append-nil read.sent.brought);
         read = record {
@@ -78,6 +79,8 @@ module _ (parts : List JobPart) (used : List Stream) (course : Course) (waiting 
           got_is = sym (ap (came_of begun.slice) nothing ∙ begun.none_came);
           count_is = begun.count_is;
           turn_is = ap (λ stream. (slice_answer begun.slice content.last stream false).turn) nothing ∙ begun.due;
+          ends_at = begun.ends_at;
+          behind_is = begun.none_read ∙ sym (ap (λ (stream : List ℕ). min (length stream) (2 ^ 64 - 1)) nothing);
         };
       }
 
@@ -94,6 +97,7 @@ module _ (parts : List JobPart) (used : List Stream) (course : Course) (waiting 
       → IsReadingHead parts used course [] bytes next
   head_on reader next reading at = record {
     sent = reading.sent;
+    heard = reading.heard;
     bytes_are = reading.bytes_are;
     front = reading.front ++ waiting;
     received_is = reading.received_is ∙ sym (append-nil (reading.front ++ waiting));
@@ -113,6 +117,7 @@ module _ (parts : List JobPart) (used : List Stream) (course : Course) (waiting 
       let Q : ℕ → Type 0 = λ used. HasFinalHead front head used in
       record {
         sent = reading.sent;
+        heard = reading.heard;
         bytes_are = reading.bytes_are;
         front = front;
         received_is = reading.received_is ∙ cut;

@@ -18,4 +18,5 @@ mod ReceivingLemmas
 mod SearchLemmas
 mod SentLemmas
 mod TurnLemmas
+mod VainLemmas
 mod VerdictLemmas

@@ -3,7 +3,7 @@ use Rattle.std.proofs.Common.{◌≡◌, ◌⊎◌, ◌==◌, inl, inr, ℕ, ◌
 use Rattle.std.proofs.lemmas.Bool.{cases_Bool, cond-true, cond-false, and_parts, or_cases, eqb-true, true≢false}
 use Rattle.std.specs.List.{list_any}
 use Rattle.std.specs.Prelude.{is_some, codes, ◌||◌}
-use Rattle.link_source.specs.Streams.{Stream}
+use Rattle.link_source.specs.Exchanges.{Exchange}
 use Rattle.range_http.specs.declared.asked.Asked.{Asked}
 use Rattle.range_http.specs.declared.head.Head.{Head}
 use Rattle.range_http.specs.declared.verdict.Verdict.{Verdict}
@@ -26,7 +26,7 @@ use Rattle.request_chain.specs.Searches.{Awaits}
 use Rattle.request_chain.specs.Stages.{FitsHead, IsReading}
 use Rattle.request_chain.specs.declared.course.Course.{Course}
 use Rattle.request_chain.specs.declared.stage.Stage.{Stage}
-use Rattle.request_chain.specs.declared.stage.Stage.TheVariants.{Asking, Head as InHead, Content as InContent}
+use Rattle.request_chain.specs.declared.stage.Stage.TheVariants.{Asking, Unheard, Head as InHead, Content as InContent}
 use Rattle.request_chain.proofs.AnsweredLemmas.{on_stream}
 use Rattle.request_chain.proofs.ReceivingLemmas.{on_top}
 use Rattle.request_chain.proofs.SentLemmas.{same_exchange}
@@ -106,26 +106,39 @@ slice-here asked head slice last sliced = elim (cases_Bool (is_moved head)) [
 
 -- ---- what comes next
 
-on-received : (came : List ℕ) (stream : Stream) → (on_stream came stream).received ≡ stream.received ++ came
+on-received : (came : List ℕ) (stream : Exchange) → (on_stream came stream).received ≡ stream.received ++ came
 on-received [] stream = sym (append-nil stream.received)
 on-received (byte ∷ came) stream = refl
 
-on-exchange : (url : List ℕ) (asked : Asked) (came : List ℕ) (stream : Stream) → IsExchange url asked stream → IsExchange url asked (on_stream came stream)
+on-exchange : (url : List ℕ) (asked : Asked) (came : List ℕ) (stream : Exchange) → IsExchange url asked stream → IsExchange url asked (on_stream came stream)
 on-exchange url asked [] stream exchange = same_exchange url asked stream stream.received true exchange
 on-exchange url asked (byte ∷ came) stream exchange = same_exchange url asked stream (stream.received ++ byte ∷ came) stream.ended exchange
 
 module _ (final_heads : FinalHeadsAreShort) (heads : HeadsReadAreShort) (not_final : HeadsReadAreNotFinal) (slices : DueSlicesAreShort)
-    (parts : List JobPart) (before now used : List Stream) (course : Course) (bytes : List ℕ) (came : List ℕ) (most : ℕ) (few : length came ≤ most) (small : length came ≤ 65536) where
+    (parts : List JobPart) (before now used : List Exchange) (course : Course) (bytes : List ℕ) (came : List ℕ) (most : ℕ) (few : length came ≤ most) (small : length came ≤ 65536) where
   -- the newest stream received little where this came in it too
   pub little_newest : (stage : Stage) → FitsHead stage most → (stage ≡ Asking → ⊥) → IsReading stage course [] parts used bytes → Gains before now used
-      → (newest : Stream) (older : List Stream) → now ≡ newest ∷ older → ReceivesLittle (on_stream came newest)
+      → (newest : Exchange) (older : List Exchange) → now ≡ newest ∷ older → ReceivesLittle (on_stream came newest)
   little_newest Asking fits sent reading gains newest older is = absurd (sent refl)
+  little_newest (Unheard reader) fits sent reading gains newest older is =
+      let top = on_top parts before used now now course reading.sent gains in
+      let same : newest ≡ reading.sent.newest = cc (is, top.1) in
+      let room = fits [] reading.at in
+      let received : newest.received ≡ [] = ap (λ (s : Exchange). s.received) same ∙ reading.nothing_came in
+      inl (record {
+        front = [];
+        behind = came;
+        received_is = on-received came newest ∙ ap (λ r. r ++ came) received;
+        buffer = small;
+        headless = λ head used. not_final [] reader head used reading.at;
+        few = omega (arith, room, few, ap length received, ap length (on-received came newest), length-append newest.received came);
+      })
   little_newest (InHead reader) fits sent reading gains newest older is =
       let top = on_top parts before used now now course reading.sent gains in
       let same : newest ≡ reading.sent.newest = cc (is, top.1) in
       let front = heads reading.front reader reading.at in
       let room = fits reading.front reading.at in
-      let received : newest.received ≡ reading.front = ap (λ (s : Stream). s.received) same ∙ reading.received_is ∙ append-nil reading.front in
+      let received : newest.received ≡ reading.front = ap (λ (s : Exchange). s.received) same ∙ reading.received_is ∙ append-nil reading.front in
       inl (record {
         front = reading.front;
         behind = came;
@@ -140,7 +153,7 @@ module _ (final_heads : FinalHeadsAreShort) (heads : HeadsReadAreShort) (not_fin
       let read = reading.read in
       let asked = asked_of reading.sent.part in
       let due = slice-due read.slice content.last (drop read.used read.front) read.turn_is in
-      let P : Stream → Type 0 = λ stream. IsExchange reading.sent.url asked (on_stream came stream) in
+      let P : Exchange → Type 0 = λ stream. IsExchange reading.sent.url asked (on_stream came stream) in
       inr (record {
         url = reading.sent.url;
         asked = asked;
@@ -150,7 +163,7 @@ module _ (final_heads : FinalHeadsAreShort) (heads : HeadsReadAreShort) (not_fin
         front = read.front;
         behind = came;
         received_is =
-            on-received came newest ∙ ap (λ (s : Stream). s.received ++ came) same ∙ ap (λ r. r ++ came) (read.received_is ∙ append-nil read.front);
+            on-received came newest ∙ ap (λ (s : Exchange). s.received ++ came) same ∙ ap (λ r. r ++ came) (read.received_is ∙ append-nil read.front);
         buffer = small;
         head = read.head;
         used = read.used;
@@ -175,12 +188,12 @@ module _ (final_heads : FinalHeadsAreShort) (heads : HeadsReadAreShort) (not_fin
 
 -- ---- a probe
 
-pub probe_little : HeadsReadAreNotFinal → (url : List ℕ) (others now : List Stream) (most : ℕ) (reader : HeadReader) (came : List ℕ)
+pub probe_little : HeadsReadAreNotFinal → (url : List ℕ) (others now : List Exchange) (most : ℕ) (reader : HeadReader) (came : List ℕ)
     → Awaits url others now most [] reader → length came ≤ most → length came ≤ 65536
-    → (newest : Stream) (older : List Stream) → now ≡ newest ∷ older → ReceivesLittle (on_stream came newest)
+    → (newest : Exchange) (older : List Exchange) → now ≡ newest ∷ older → ReceivesLittle (on_stream came newest)
 probe_little not_final url others now most reader came awaits few small newest older is =
     let same : newest ≡ awaits.stream = cc (is, awaits.on_top) in
-    let received : newest.received ≡ awaits.front = ap (λ (s : Stream). s.received) same ∙ awaits.received_is ∙ append-nil awaits.front in
+    let received : newest.received ≡ awaits.front = ap (λ (s : Exchange). s.received) same ∙ awaits.received_is ∙ append-nil awaits.front in
     inl (record {
       front = awaits.front;
       behind = came;
@@ -191,7 +204,7 @@ probe_little not_final url others now most reader came awaits few small newest o
         arith,
         awaits.room,
         few,
-        ap (λ (s : Stream). length s.received) same,
+        ap (λ (s : Exchange). length s.received) same,
         ap length (on-received came newest),
         length-append newest.received came,
       );

@@ -3,7 +3,7 @@ use Rattle.std.proofs.Common.{◌≡◌, ℕ, zero, suc, ◌-◌, ◌*◌, ◌<�
 use Rattle.std.specs.Prelude.{◌⊎◌}
 use Rattle.dl_kinds.specs.declared.outside.IoErr.{IoErr}
 use Rattle.dl_kinds.specs.declared.outside.IoErr.TheVariants.{Fault, NoMemory as NoRoom}
-use Rattle.link_source.specs.Streams.{Stream, with_received}
+use Rattle.link_source.specs.Exchanges.{Exchange, with_received}
 use Rattle.range_http.specs.declared.head.Head.{Head}
 use Rattle.reply_reader.specs.Heads.{HasInterims, IsAtHead, IsHeadDue, HasNoFinalHead, HasFinalHead}
 use Rattle.reply_reader.specs.declared.heads.HeadReader.{HeadReader}
@@ -29,7 +29,7 @@ heads_fit bytes reader at =
     let before = interims_fit reader.interims bytes at.behind.before at.behind.interims in
     omega (arith, before, at.behind.few, at.short, ap length at.behind.waiting, length-drop at.behind.before bytes)
 
-module _ (url : List ℕ) (before now new : List Stream) (most : ℕ) (reader : HeadReader) (awaits : Awaits url before now most [] reader) where
+module _ (url : List ℕ) (before now new : List Exchange) (most : ℕ) (reader : HeadReader) (awaits : Awaits url before now most [] reader) where
   all_read : awaits.stream.received ≡ awaits.front
   all_read = awaits.received_is ∙ append-nil awaits.front
 
@@ -41,14 +41,14 @@ module _ (url : List ℕ) (before now new : List Stream) (most : ℕ) (reader : 
   tells_still : (probe : Probe) → ProbeAnswers awaits.stream.received false probe → new ≡ now → NewestTells url before new probe
   tells_still probe answers same =
       let P : Bool → Type 0 = λ ended. ProbeAnswers awaits.stream.received ended probe in
-      (awaits.stream, same ∙ awaits.on_top, inr (awaits.exchange, subst P (sym awaits.not_ended) answers))
+      (awaits.stream, same ∙ awaits.on_top, (awaits.exchange, awaits.fresh_is, subst P (sym awaits.not_ended) answers))
 
   ended_top : new ≡ with_received [] now → new ≡ with_bytes awaits.stream awaits.stream.received true ∷ before
   ended_top is = is ∙ ap (with_received []) awaits.on_top
 
   tells_ended : (probe : Probe) → ProbeAnswers awaits.stream.received true probe → new ≡ with_received [] now → NewestTells url before new probe
   tells_ended probe answers is =
-      (with_bytes awaits.stream awaits.stream.received true, ended_top is, inr (same_exchange url probe_asked awaits.stream awaits.stream.received true awaits.exchange, answers))
+      (with_bytes awaits.stream awaits.stream.received true, ended_top is, (same_exchange url probe_asked awaits.stream awaits.stream.received true awaits.exchange, awaits.fresh_is, answers))
 
   none_tells : (ended : Bool) → ((front : List ℕ) → IsAtHead front reader → HasNoFinalHead front) → ProbeAnswers awaits.stream.received ended (Lost losses.BadReply)
   none_tells ended none =
@@ -98,6 +98,7 @@ module _ (url : List ℕ) (before now new : List Stream) (most : ℕ) (reader : 
         stream = record awaits.stream { received = awaits.stream.received ++ byte ∷ came };
         on_top = received ∙ ap (with_received (byte ∷ came)) awaits.on_top;
         exchange = same_exchange url probe_asked awaits.stream (awaits.stream.received ++ byte ∷ came) awaits.stream.ended awaits.exchange;
+        fresh_is = awaits.fresh_is;
         not_ended = awaits.not_ended;
         front = awaits.front;
         received_is = ap (λ b. b ++ byte ∷ came) all_read;
@@ -106,11 +107,12 @@ module _ (url : List ℕ) (before now new : List Stream) (most : ℕ) (reader : 
       }
 
 -- the request was sent
-pub opened_awaits : (url : List ℕ) (before now : List Stream) (reader : HeadReader) → IsAtHead [] reader → IsOpened url probe_asked before now → Awaits url before now 589824 [] reader
+pub opened_awaits : (url : List ℕ) (before now : List Exchange) (reader : HeadReader) → IsAtHead [] reader → IsOpened url probe_asked true before now → Awaits url before now 589824 [] reader
 opened_awaits url before now reader at opened = record {
   stream = opened.stream;
   on_top = opened.on_top;
   exchange = opened.exchange;
+  fresh_is = opened.fresh_is;
   not_ended = opened.not_ended;
   front = [];
   received_is = opened.nothing_came;
@@ -118,12 +120,13 @@ opened_awaits url before now reader at opened = record {
   room = omega (arith, ap length opened.nothing_came);
 }
 
-module _ (url : List ℕ) (before now : List Stream) (left : ℕ) (waiting : List ℕ) (reader : HeadReader) (awaits : Awaits url before now left waiting reader) where
+module _ (url : List ℕ) (before now : List Exchange) (left : ℕ) (waiting : List ℕ) (reader : HeadReader) (awaits : Awaits url before now left waiting reader) where
   pub read_more : (next : HeadReader) → IsAtHead (awaits.front ++ waiting) next → Awaits url before now left [] next
   read_more next at = record {
     stream = awaits.stream;
     on_top = awaits.on_top;
     exchange = awaits.exchange;
+    fresh_is = awaits.fresh_is;
     not_ended = awaits.not_ended;
     front = awaits.front ++ waiting;
     received_is = awaits.received_is ∙ sym (append-nil (awaits.front ++ waiting));
@@ -134,12 +137,12 @@ module _ (url : List ℕ) (before now : List Stream) (left : ℕ) (waiting : Lis
   pub read_whole : (head : Head) (used : ℕ) → HasFinalHead (awaits.front ++ waiting) head used → HasHead url before now head
   read_whole head used begins =
       let P : List ℕ → Type 0 = λ received. HasFinalHead received head used in
-      record { stream = awaits.stream; on_top = awaits.on_top; exchange = awaits.exchange; used = used; begins = subst P (sym awaits.received_is) begins }
+      record { stream = awaits.stream; on_top = awaits.on_top; exchange = awaits.exchange; fresh_is = awaits.fresh_is; used = used; begins = subst P (sym awaits.received_is) begins }
 
   pub read_none : (faults : ℕ) → HasNoFinalHead (awaits.front ++ waiting) → HeadLost url before now faults losses.BadReply
   read_none faults none =
       let P : List ℕ → Type 0 = HasNoFinalHead in
-      (awaits.stream, awaits.on_top, inr (awaits.exchange, inr (inl (subst P (sym awaits.received_is) none, refl))))
+      (awaits.stream, awaits.on_top, (awaits.exchange, awaits.fresh_is, inr (inl (subst P (sym awaits.received_is) none, refl))))
 
   pub read_room : (faults : ℕ) → HeadLost url before now faults losses.NoMemory
   read_room faults = (awaits.stream, awaits.on_top)

@@ -1,6 +1,6 @@
 -- What the streams of a chain tell, by its stage.
 use Rattle.std.proofs.Common.{◌≡◌, ◌≢◌, ℕ, Bool, true, false, List, [], ◌∷◌, ◌++◌, refl, sym, ap, subst, ◌∙◌, inl, inr, append_assoc, append-nil}
-use Rattle.link_source.specs.Streams.{Stream}
+use Rattle.link_source.specs.Exchanges.{Exchange}
 use Rattle.span_map.specs.declared.jobs.JobPart.{JobPart}
 use Rattle.reply_reader.specs.Answers.{Turn, Due, Lost, Answers, AnswersGrow, AnswersStay}
 use Rattle.reply_reader.specs.HeadLaws.{FinalHeadStays}
@@ -10,17 +10,18 @@ use Rattle.reply_reader.specs.declared.loss.Loss.TheVariants as losses
 use Rattle.request_chain.specs.Chains.{HasBrought, TellsLoss}
 use Rattle.request_chain.specs.Contents.{IsReadTo, IsOwn}
 use Rattle.request_chain.specs.Courses.{plan_now, CarriesOn}
+use Rattle.request_chain.specs.Exchanges.{is_unheard}
 use Rattle.request_chain.specs.Fetched.{Fetched}
 use Rattle.request_chain.specs.Plans.{Open, Lost as Gone, Over, plan_of, asked_of, next_plan}
-use Rattle.request_chain.specs.Stages.{IsSent, IsReadingHead, IsReadingContent, IsReading, IsBehindHead, IsDueAt, IsNoHeadAt, got_at}
+use Rattle.request_chain.specs.Stages.{IsSent, IsAwaited, IsReadingHead, IsReadingContent, IsReading, IsBehindHead, IsDueAt, IsHeardAt, IsNoHeadAt, got_at}
 use Rattle.request_chain.specs.declared.content.Content.{Content}
 use Rattle.request_chain.specs.declared.course.Course.{Course}
 use Rattle.request_chain.specs.declared.stage.Stage.{Stage}
-use Rattle.request_chain.specs.declared.stage.Stage.TheVariants.{Asking, Head as InHead, Content as InContent}
+use Rattle.request_chain.specs.declared.stage.Stage.TheVariants.{Asking, Unheard, Head as InHead, Content as InContent}
 use Rattle.request_chain.proofs.Leading.{leads_end, ends}
 use Rattle.request_chain.proofs.SentLemmas.{with_bytes, told, told_now, over_open, over_lost, content_answers, content_short, content_grows, content_stays}
 
-module _ (parts : List JobPart) (used : List Stream) (course : Course) (bytes : List ℕ) where
+module _ (parts : List JobPart) (used : List Exchange) (course : Course) (bytes : List ℕ) where
   -- the newest stream, if its end was told or not, answers with the last of the bytes and so
   abbrev pub HasAnswer : Bool → Turn → Type 0
   HasAnswer ended turn =
@@ -40,16 +41,23 @@ module _ (parts : List JobPart) (used : List Stream) (course : Course) (bytes : 
   answer_lost loss has = over_lost parts used bytes loss (answer_leads (Lost loss) has)
 
   -- the same, where the end was told now
-  pub answer_ended : (loss : Loss) (has : HasAnswer true (Lost loss))
+  pub answer_ended : (loss : Loss) (has : HasAnswer true (Lost loss)) → is_unheard has.0.newest ≡ false
       → Fetched parts (has.0.older ++ with_bytes has.0.newest has.0.newest.received true ∷ []) bytes (Gone loss) []
-  answer_ended loss has =
+  answer_ended loss has heard =
       let streams = has.0.older ++ with_bytes has.0.newest has.0.newest.received true ∷ [] in
       let P : List ℕ → Type 0 = λ came. CarriesOn (plan_of parts) streams came (Over (Gone loss)) in
-      over_lost parts streams bytes loss (subst P (sym has.2) (told parts used course has.0 has.0.newest.received true (record { got = has.1; turn = Lost loss }) has.3))
+      over_lost parts streams bytes loss (subst P (sym has.2) (told parts used course has.0 has.0.newest.received true (record { got = has.1; turn = Lost loss }) heard has.3))
 
   -- more is due
   pub due_answer : (stage : Stage) → IsReading stage course [] parts used bytes → IsDueAt stage → (stage ≡ Asking → ⊥) → HasAnswer false Due
   due_answer Asking reading due sent = absurd (sent refl)
+  due_answer (Unheard reader) reading due sent =
+      let P : List ℕ → Type 0 = IsHeadDue in (
+        reading.sent,
+        [],
+        reading.bytes_are ∙ sym (append-nil reading.sent.brought),
+        inl (subst P (sym reading.nothing_came) (due [] reading.at), refl),
+      )
   due_answer (InHead reader) reading due sent =
       let P : List ℕ → Type 0 = IsHeadDue in (
         reading.sent,
@@ -68,21 +76,34 @@ module _ (parts : List JobPart) (used : List Stream) (course : Course) (bytes : 
       )
 
   -- more is due, and the stream ends
-  pub short_answer : (stage : Stage) → IsReading stage course [] parts used bytes → IsDueAt stage → (stage ≡ Asking → ⊥) → HasAnswer true (Lost (losses.Short (got_at stage)))
-  short_answer Asking reading due sent = absurd (sent refl)
-  short_answer (InHead reader) reading due sent =
-      let P : List ℕ → Type 0 = IsHeadDue in (
+  pub short_answer : (stage : Stage) → IsReading stage course [] parts used bytes → IsDueAt stage → (stage ≡ Asking → ⊥) → IsHeardAt stage
+      → (has : HasAnswer true (Lost (losses.Short (got_at stage)))) × (is_unheard has.0.newest ≡ false)
+  short_answer Asking reading due sent heard = absurd (sent refl)
+  short_answer (Unheard reader) reading due sent heard = absurd (heard tt)
+  short_answer (InHead reader) reading due sent heard =
+      let P : List ℕ → Type 0 = IsHeadDue in
+      let has : HasAnswer true (Lost (losses.Short 0)) = (
         reading.sent,
         [],
         reading.bytes_are ∙ sym (append-nil reading.sent.brought),
         inl (subst P (sym (reading.received_is ∙ append-nil reading.front)) (due reading.front reading.at), refl),
-      )
-  short_answer (InContent content) reading due sent =
-      (reading.sent, reading.got, reading.bytes_are, content_short (asked_of reading.sent.part) reading.sent.newest.received reading.got content reading.read)
+      ) in
+      (has, reading.heard)
+  short_answer (InContent content) reading due sent heard =
+      let has : HasAnswer true (Lost (losses.Short content.got)) =
+      (reading.sent, reading.got, reading.bytes_are, content_short (asked_of reading.sent.part) reading.sent.newest.received reading.got content reading.read) in
+      (has, reading.heard)
 
   -- no head can come
   pub none_answer : (stage : Stage) (ended : Bool) → IsReading stage course [] parts used bytes → IsNoHeadAt stage → HasAnswer ended (Lost losses.BadReply)
   none_answer Asking ended reading none = absurd none
+  none_answer (Unheard reader) ended reading none =
+      let P : List ℕ → Type 0 = HasNoFinalHead in (
+        reading.sent,
+        [],
+        reading.bytes_are ∙ sym (append-nil reading.sent.brought),
+        inr (inl (subst P (sym reading.nothing_came) (none [] reading.at), refl)),
+      )
   none_answer (InContent content) ended reading none = absurd none
   none_answer (InHead reader) ended reading none =
       let P : List ℕ → Type 0 = HasNoFinalHead in (
@@ -91,6 +112,15 @@ module _ (parts : List JobPart) (used : List Stream) (course : Course) (bytes : 
         reading.bytes_are ∙ sym (append-nil reading.sent.brought),
         inr (inl (subst P (sym (reading.received_is ∙ append-nil reading.front)) (none reading.front reading.at), refl)),
       )
+
+  -- which stays so where the end is told, of a reply whose first bytes came
+  pub none_heard : (stage : Stage) (reading : IsReading stage course [] parts used bytes) (none : IsNoHeadAt stage) → IsHeardAt stage
+      → is_unheard (none_answer stage true reading none).0.newest ≡ false
+  unfolding none_answer
+  none_heard Asking reading none heard = absurd none
+  none_heard (Unheard reader) reading none heard = absurd (heard tt)
+  none_heard (InContent content) reading none heard = absurd none
+  none_heard (InHead reader) reading none heard = reading.heard
 
   -- what all streams tell has these bytes at its front
   pub brought_by : (waiting more : List ℕ) (leads : (next : _) × CarriesOn (plan_of parts) used (bytes ++ more) next) → HasBrought parts used bytes more
@@ -110,7 +140,7 @@ module _ (parts : List JobPart) (used : List Stream) (course : Course) (bytes : 
   tells_own faults losses.Redirects own fetched = fetched
 
 -- a content that was read on, and is told
-abbrev pub content_has : AnswersStay → (parts : List JobPart) (used : List Stream) (course : Course) (waiting later bytes added : List ℕ) (content next : Content) (turn : Turn) → turn ≢ Due
+abbrev pub content_has : AnswersStay → (parts : List JobPart) (used : List Exchange) (course : Course) (waiting later bytes added : List ℕ) (content next : Content) (turn : Turn) → turn ≢ Due
     → (reading : IsReadingContent parts used course waiting bytes content)
     → IsReadTo (asked_of reading.sent.part) reading.sent.newest.received later (reading.got ++ added) next turn
     → HasAnswer parts used course (bytes ++ added) false turn
@@ -122,24 +152,30 @@ content_has stay parts used course waiting later bytes added content next turn t
 )
 
 -- one of which more is due
-pub content_on : (parts : List JobPart) (used : List Stream) (course : Course) (waiting later bytes added : List ℕ) (content next : Content)
+pub content_on : (parts : List JobPart) (used : List Exchange) (course : Course) (waiting later bytes added : List ℕ) (content next : Content)
     → (reading : IsReadingContent parts used course waiting bytes content)
     → IsReadTo (asked_of reading.sent.part) reading.sent.newest.received later (reading.got ++ added) next Due
     → IsReadingContent parts used course later (bytes ++ added) next
 content_on parts used course waiting later bytes added content next reading read = record {
   sent = reading.sent;
+  heard = reading.heard;
   got = reading.got ++ added;
   bytes_are = ap (λ b. b ++ added) reading.bytes_are ∙ append_assoc reading.sent.brought reading.got added;
   read = read;
 }
 
-module _ (grow : AnswersGrow) (stays : FinalHeadStays) (parts : List JobPart) (used : List Stream) (course : Course) (bytes : List ℕ) where
+module _ (grow : AnswersGrow) (stays : FinalHeadStays) (parts : List JobPart) (used : List Exchange) (course : Course) (bytes : List ℕ) where
   -- where no more is read for now, all that came tells the bytes that were brought, and those that wait
   pub reading_brought : (stage : Stage) (waiting : List ℕ) → IsReading stage course waiting parts used bytes → IsBehindHead stage waiting → IsDueAt stage
       → (more : List ℕ) × HasBrought parts used bytes more × (waiting ≡ [] → more ≡ [])
   reading_brought Asking waiting reading behind due =
       let P : List ℕ → Type 0 = λ came. CarriesOn (plan_of parts) used came (plan_now course) in
       ([], brought_by parts used course bytes waiting [] (plan_now course, subst P (sym (append-nil bytes)) reading.0), λ none. refl)
+  reading_brought (Unheard reader) waiting reading behind due =
+      let Q : List ℕ → Type 0 = λ w. IsAwaited parts used course w bytes reader in
+      let has = due_answer parts used course bytes (Unheard reader) (subst Q behind reading) due (λ is. cc) in
+      let P : List ℕ → Type 0 = λ came. CarriesOn (plan_of parts) used came (Over Open) in
+      ([], brought_by parts used course bytes waiting [] (Over Open, subst P (sym (append-nil bytes)) (answer_leads parts used course bytes Due has)), λ none. refl)
   reading_brought (InHead reader) waiting reading behind due =
       let Q : List ℕ → Type 0 = λ w. IsReadingHead parts used course w bytes reader in
       let has = due_answer parts used course bytes (InHead reader) (subst Q behind reading) due (λ is. cc) in

@@ -1,7 +1,7 @@
 -- What the newest stream of a chain tells.
 use Rattle.std.proofs.Common.{◌≡◌, ◌≢◌, ℕ, Bool, true, false, cond, List, [], ◌∷◌, ◌++◌, length, drop, refl, sym, ap, ap₂, subst, ◌∙◌, inr, append-nil}
 use Rattle.std.proofs.lemmas.List.{append_cancel_left}
-use Rattle.link_source.specs.Streams.{Stream}
+use Rattle.link_source.specs.Exchanges.{Exchange}
 use Rattle.range_http.specs.declared.asked.Asked.{Asked}
 use Rattle.span_map.specs.declared.jobs.JobPart.{JobPart}
 use Rattle.reply_reader.specs.Answers.{Turn, Due, Given, Lost, Answer, Answers, slice_answer, AnswersStay, AnswersGrow}
@@ -11,7 +11,7 @@ use Rattle.reply_reader.specs.declared.loss.Loss.{Loss}
 use Rattle.reply_reader.specs.declared.loss.Loss.TheVariants as losses
 use Rattle.request_chain.specs.Contents.{IsReadTo}
 use Rattle.request_chain.specs.Courses.{CarriesOn}
-use Rattle.request_chain.specs.Exchanges.{IsExchange}
+use Rattle.request_chain.specs.Exchanges.{IsExchange, is_gone}
 use Rattle.request_chain.specs.Fetched.{Fetched}
 use Rattle.request_chain.specs.Plans.{Open, Lost as Gone, Over, plan_of, asked_of, next_plan}
 use Rattle.request_chain.specs.Stages.{IsSent}
@@ -20,33 +20,34 @@ use Rattle.request_chain.specs.declared.course.Course.{Course}
 use Rattle.request_chain.proofs.Leading.{leads_on, leads_end}
 
 -- a stream with other bytes, and its end told or not
-abbrev pub with_bytes : Stream → List ℕ → Bool → Stream
+abbrev pub with_bytes : Exchange → List ℕ → Bool → Exchange
 with_bytes stream received ended = record stream { received = received; ended = ended }
 
-pub same_exchange : (url : List ℕ) (asked : Asked) (stream : Stream) (received : List ℕ) (ended : Bool) → IsExchange url asked stream → IsExchange url asked (with_bytes stream received ended)
-same_exchange url asked stream received ended is = record { endpoint = is.endpoint; leads = is.leads; host_is = is.host_is; port_is = is.port_is; sent_is = is.sent_is }
+pub same_exchange : (url : List ℕ) (asked : Asked) (stream : Exchange) (received : List ℕ) (ended : Bool) → IsExchange url asked stream → IsExchange url asked (with_bytes stream received ended)
+same_exchange url asked stream received ended is = record { endpoint = is.endpoint; leads = is.leads; host_is = is.host_is; port_is = is.port_is; request_is = is.request_is }
 
-module _ (parts : List JobPart) (used : List Stream) (course : Course) where
+module _ (parts : List JobPart) (used : List Exchange) (course : Course) where
   -- where the newest stream received these bytes and answers so, this plan is next
-  pub told : (sent : IsSent parts used course) (received : List ℕ) (ended : Bool) (answer : Answer) → Answers (asked_of sent.part) received ended answer
+  pub told : (sent : IsSent parts used course) (received : List ℕ) (ended : Bool) (answer : Answer) → is_gone (with_bytes sent.newest received ended) ≡ false
+      → Answers (asked_of sent.part) received ended answer
       → CarriesOn (plan_of parts) (sent.older ++ with_bytes sent.newest received ended ∷ []) (sent.brought ++ answer.got)
       (next_plan sent.part sent.others sent.url sent.count answer.turn)
-  told sent received ended answer answers =
+  told sent received ended answer there answers =
       leads_on (plan_of parts) sent.older sent.brought sent.part sent.others sent.url sent.count sent.status (with_bytes sent.newest received ended) answer
-      sent.leads (inr (same_exchange sent.url (asked_of sent.part) sent.newest received ended sent.exchange, answers))
+      sent.leads (same_exchange sent.url (asked_of sent.part) sent.newest received ended sent.exchange, answers, there)
 
   pub told_now : (sent : IsSent parts used course) (answer : Answer) → Answers (asked_of sent.part) sent.newest.received false answer
       → CarriesOn (plan_of parts) used (sent.brought ++ answer.got) (next_plan sent.part sent.others sent.url sent.count answer.turn)
   told_now sent answer answers =
-      let P : List Stream → Type 0 = λ streams. CarriesOn (plan_of parts) streams (sent.brought ++ answer.got) (next_plan sent.part sent.others sent.url sent.count answer.turn) in
+      let P : List Exchange → Type 0 = λ streams. CarriesOn (plan_of parts) streams (sent.brought ++ answer.got) (next_plan sent.part sent.others sent.url sent.count answer.turn) in
       let same : sent.older ++ with_bytes sent.newest sent.newest.received false ∷ [] ≡ used =
       ap (λ (ended : Bool). sent.older ++ with_bytes sent.newest sent.newest.received ended ∷ []) (sym sent.not_ended) ∙ sym sent.used_is in
-      subst P same (told sent sent.newest.received false answer answers)
+      subst P same (told sent sent.newest.received false answer refl answers)
 
-pub over_open : (parts : List JobPart) (used : List Stream) (bytes : List ℕ) → CarriesOn (plan_of parts) used bytes (Over Open) → Fetched parts used bytes Open []
+pub over_open : (parts : List JobPart) (used : List Exchange) (bytes : List ℕ) → CarriesOn (plan_of parts) used bytes (Over Open) → Fetched parts used bytes Open []
 over_open parts used bytes leads = leads_end parts used bytes (Over Open) Open leads (refl, refl, refl, refl)
 
-pub over_lost : (parts : List JobPart) (used : List Stream) (bytes : List ℕ) (loss : Loss) → CarriesOn (plan_of parts) used bytes (Over (Gone loss)) → Fetched parts used bytes (Gone loss) []
+pub over_lost : (parts : List JobPart) (used : List Exchange) (bytes : List ℕ) (loss : Loss) → CarriesOn (plan_of parts) used bytes (Over (Gone loss)) → Fetched parts used bytes (Gone loss) []
 over_lost parts used bytes loss leads = leads_end parts used bytes (Over (Gone loss)) (Gone loss) leads (refl, refl, refl, refl)
 
 -- ---- the content

@@ -2,14 +2,14 @@
 use Rattle.std.specs.Prelude.{ℕ, ◌+◌, ◌*◌, ◌<◌, ◌≤◌, ◌^◌, List, [], ◌∷◌, length, All, ⊤}
 use Rattle.link_source.specs.Link.{LinkState}
 use Rattle.link_source.specs.Mirrors.{Content}
-use Rattle.link_source.specs.Streams.{Stream}
+use Rattle.link_source.specs.Exchanges.{Exchange}
 use Rattle.range_http.specs.declared.asked.Asked.{Asked}
-use Rattle.link_source.specs.declared.streams.TheConstants.{MOST_RECEIVED}
+use Rattle.link_source.specs.declared.exchanges.TheConstants.{MOST_RECEIVED}
 use Rattle.reply_reader.specs.Answers.{Answer, Turn, Due, Given, Away, Lost}
 use Rattle.reply_reader.specs.Sizes.{heads_most, lines_most}
 use Rattle.request_chain.specs.Answered.{IsAnswered}
 use Rattle.request_chain.specs.Chains.{Gains, received_by}
-use Rattle.request_chain.specs.Exchanges.{Replies}
+use Rattle.request_chain.specs.Exchanges.{IsSentInVain, Replies}
 use Rattle.request_chain.specs.Plans.{NextAsk, Ask, Over, plan_of, asked_of, next_plan}
 use Rattle.request_chain.specs.Probes.{Probe, Probed, probe_asked}
 use Rattle.request_chain.specs.Redirects.{redirect_limit}
@@ -29,22 +29,23 @@ redirected (Given last) came = 0
 redirected (Lost loss) came = 0
 
 -- For each request by the plan no more comes than that, with its redirects, by which so many bytes came before.
-abbrev pub RequestsReceive : NextAsk → ℕ → List Stream → Type 0
+abbrev pub RequestsReceive : NextAsk → ℕ → List Exchange → Type 0
 RequestsReceive (Over ending) before streams = ⊤
 RequestsReceive (Ask part parts url count status) before [] = ⊤
 RequestsReceive (Ask part parts url count status) before (stream ∷ streams) =
-    (answer : Answer) → Replies url (asked_of part) stream answer
+    (IsSentInVain url (asked_of part) stream → RequestsReceive (Ask part parts url count status) before streams)
+    × ((answer : Answer) → Replies url (asked_of part) stream answer
     → (before + length stream.received ≤ request_most (asked_of part))
-    × RequestsReceive (next_plan part parts url count answer.turn) (redirected answer.turn (before + length stream.received)) streams
+    × RequestsReceive (next_plan part parts url count answer.turn) (redirected answer.turn (before + length stream.received)) streams)
 
 -- the streams that answered the requests for parts keep to it
 abbrev pub RequestsReceiveLittle : Type 0
-RequestsReceiveLittle = (old : Content) (before : List Stream) (link : LinkState) (gained : List Stream) (parts : List JobPart)
-    → IsAnswered old before link → Gains before link.streams gained
+RequestsReceiveLittle = (old : Content) (before : List Exchange) (link : LinkState) (gained : List Exchange) (parts : List JobPart)
+    → IsAnswered old before link → Gains before link.exchanges gained
     → All IsJobPart parts → All (λ part. part.total < 2 ^ 64) parts → RequestsReceive (plan_of parts) 0 gained
 
 -- and so do those of a probe with its redirects
 abbrev pub ProbesReceiveLittle : Type 0
-ProbesReceiveLittle = (old : Content) (before : List Stream) (link : LinkState) (gained : List Stream) (url : List ℕ) (probe : Probe)
-    → IsAnswered old before link → Gains before link.streams gained → Probed url gained probe
+ProbesReceiveLittle = (old : Content) (before : List Exchange) (link : LinkState) (gained : List Exchange) (url : List ℕ) (probe : Probe)
+    → IsAnswered old before link → Gains before link.exchanges gained → Probed url gained probe
     → received_by gained ≤ request_most probe_asked

@@ -1,6 +1,6 @@
 -- Which request is next, as a chain keeps it.
 use Rattle.std.specs.Prelude.{◌≡◌, ℕ, List, [], ◌∷◌, ◌++◌, drop, Option, Some, None, ⊤}
-use Rattle.link_source.specs.Streams.{Stream}
+use Rattle.link_source.specs.Exchanges.{Exchange}
 use Rattle.span_map.specs.declared.jobs.JobPart.{JobPart}
 use Rattle.request_chain.specs.Fetched.{FetchedBy}
 use Rattle.request_chain.specs.Plans.{FetchEnding, Done, NextAsk, Ask, Over}
@@ -38,8 +38,8 @@ IfAsking (Ask part parts url count status) P = P part parts url count status
 IfAsking (Over ending) P = ⊤
 
 -- By the plan these streams brought these bytes, and the next plan is this one: whatever comes by it comes behind them.
-abbrev pub CarriesOn : NextAsk → List Stream → List ℕ → NextAsk → Type 0
-CarriesOn plan used bytes next = (streams rest : List Stream) (more : List ℕ) (ending : FetchEnding)
+abbrev pub CarriesOn : NextAsk → List Exchange → List ℕ → NextAsk → Type 0
+CarriesOn plan used bytes next = (streams rest : List Exchange) (more : List ℕ) (ending : FetchEnding)
     → FetchedBy next streams more ending rest → FetchedBy plan (used ++ streams) (bytes ++ more) ending rest
 
 -- the next request is for this URL

@@ -8,6 +8,7 @@ pub mod Fetched
 pub mod Links
 pub mod Plans
 pub mod Probes
+pub mod Rests
 pub mod Searches
 pub mod Received
 pub mod Redirects

@@ -1,7 +1,7 @@
 -- How long a resource is, by asking for its first byte (RFC 9110 sections 14.4, 15.3.7 and 15.5.17).
-use Rattle.std.specs.Prelude.{◌≡◌, ◌⊎◌, ℕ, ◌+◌, Bool, List, [], ◌∷◌, Option, Some, None, unwrap_or, codes, nat_le, if◌then◌else◌}
+use Rattle.std.specs.Prelude.{◌≡◌, ◌⊎◌, ℕ, ◌+◌, Bool, true, List, [], ◌∷◌, Option, Some, None, unwrap_or, codes, nat_le, if◌then◌else◌}
 use Rattle.link_source.specs.Endpoint.{IsUsable}
-use Rattle.link_source.specs.Streams.{Stream}
+use Rattle.link_source.specs.Exchanges.{Exchange}
 use Rattle.range_http.specs.declared.asked.Asked.{Asked}
 use Rattle.range_http.specs.declared.head.Head.{Head}
 use Rattle.range_http.specs.declared.verdict.Verdict.{Verdict}
@@ -11,7 +11,7 @@ use Rattle.range_http.specs.Verdict.{verdict_of}
 use Rattle.reply_reader.specs.Heads.{HasFinalHead, IsHeadDue, HasNoFinalHead}
 use Rattle.reply_reader.specs.declared.loss.Loss.{Loss}
 use Rattle.reply_reader.specs.declared.loss.Loss.TheVariants as losses
-use Rattle.request_chain.specs.Exchanges.{IsExchange, IsDialled}
+use Rattle.request_chain.specs.Exchanges.{IsExchange}
 use Rattle.request_chain.specs.Plans.{unusable}
 use Rattle.request_chain.specs.Redirects.{moved_to, redirect_limit}
 
@@ -48,10 +48,10 @@ ProbeAnswers received ended probe =
     ⊎ (HasNoFinalHead received × (probe ≡ Lost losses.BadReply))
     ⊎ ((head : Head) × (used : ℕ) × HasFinalHead received head used × (probe ≡ probe_by head (verdict_of head probe_asked)))
 
--- what the stream tells of the resource at the URL
-abbrev pub ProbeReplies : List ℕ → Stream → Probe → Type 0
+-- what the exchange, on a connection of its own, tells of the resource at the URL
+abbrev pub ProbeReplies : List ℕ → Exchange → Probe → Type 0
 ProbeReplies url stream probe =
-    (IsDialled url stream × (probe ≡ Due)) ⊎ (IsExchange url probe_asked stream × ProbeAnswers stream.received stream.ended probe)
+    IsExchange url probe_asked stream × (stream.fresh ≡ true) × ProbeAnswers stream.received stream.ended probe
 
 -- Where the resource is asked for next, with so many redirects before, the last by a reply of this status. Or this is told.
 pub data Search : Type 0 where
@@ -71,7 +71,7 @@ next_search url count (Away status location) =
 next_search url count (Lost loss) = Found (Lost loss)
 
 -- what these streams tell, the oldest first
-abbrev pub ProbedBy : Search → List Stream → Probe → Type 0
+abbrev pub ProbedBy : Search → List Exchange → Probe → Type 0
 ProbedBy (Found told) streams probe = (probe ≡ told) × (streams ≡ [])
 ProbedBy (At url count status) [] probe =
     (IsUsable url × (probe ≡ Due)) ⊎ ((IsUsable url → ⊥) × (probe ≡ Lost (unusable status)))
@@ -79,11 +79,11 @@ ProbedBy (At url count status) (stream ∷ streams) probe =
     (told : Probe) × ProbeReplies url stream told × ProbedBy (next_search url count told) streams probe
 
 -- what they tell of the resource at a URL
-abbrev pub Probed : List ℕ → List Stream → Probe → Type 0
+abbrev pub Probed : List ℕ → List Exchange → Probe → Type 0
 Probed url streams probe = ProbedBy (At url 0 0) streams probe
 
 -- what each loss says of the streams that were used, where so many faults of the link are counted now
-abbrev pub TellsProbeLoss : List ℕ → List Stream → ℕ → Loss → Type 0
+abbrev pub TellsProbeLoss : List ℕ → List Exchange → ℕ → Loss → Type 0
 TellsProbeLoss url used faults (losses.Link count) = Probed url used Due × (count ≡ faults)
 TellsProbeLoss url used faults losses.NoMemory = Unit {0}
 TellsProbeLoss url used faults loss = Probed url used (Lost loss)

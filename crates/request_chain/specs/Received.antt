@@ -1,7 +1,7 @@
 -- How far the reply in a stream is read.
 use Rattle.std.specs.Prelude.{◌≡◌, ◌⊎◌, ℕ, ◌+◌, ◌*◌, ◌<◌, ◌≤◌, ◌^◌, false, List, ◌++◌, length}
-use Rattle.link_source.specs.Streams.{Stream}
-use Rattle.link_source.specs.declared.streams.TheConstants.{MOST_RECEIVED}
+use Rattle.link_source.specs.Exchanges.{Exchange}
+use Rattle.link_source.specs.declared.exchanges.TheConstants.{MOST_RECEIVED}
 use Rattle.range_http.specs.declared.asked.Asked.{Asked}
 use Rattle.range_http.specs.declared.head.Head.{Head}
 use Rattle.range_http.specs.Verdict.{is_moved}
@@ -12,7 +12,7 @@ use Rattle.request_chain.specs.Exchanges.{IsExchange}
 
 -- Of the heads of a reply no more came than the longest ones have, and one buffer at most behind bytes in which the final
 -- head didn't stand yet.
-pub record IsReadToHead (stream : Stream) : Type 0 where
+pub record IsReadToHead (stream : Exchange) : Type 0 where
   pub front : List ℕ
   pub behind : List ℕ
   pub received_is : stream.received ≡ front ++ behind
@@ -22,7 +22,7 @@ pub record IsReadToHead (stream : Stream) : Type 0 where
 
 -- A reply whose head says that it isn't elsewhere was read no further than one buffer behind bytes by which more of what
 -- was asked for was due: its heads, and content up to the last byte that was asked for, in chunks of one byte at worst.
-pub record IsReadNoFurther (stream : Stream) : Type 0 where
+pub record IsReadNoFurther (stream : Exchange) : Type 0 where
   pub url : List ℕ
   pub asked : Asked
   pub ordered : asked.first ≤ asked.last
@@ -42,5 +42,5 @@ pub record IsReadNoFurther (stream : Stream) : Type 0 where
   pub short : length front ≤ heads_most + 261 * (asked.last + 1) + lines_most
 
 -- So a stream was read: no body's rest, and of a probe no body.
-abbrev pub ReceivesLittle : Stream → Type 0
+abbrev pub ReceivesLittle : Exchange → Type 0
 ReceivesLittle stream = IsReadToHead stream ⊎ IsReadNoFurther stream

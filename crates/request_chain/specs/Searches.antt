@@ -1,6 +1,6 @@
 -- A probe, as its streams come.
-use Rattle.std.specs.Prelude.{◌≡◌, ℕ, ◌+◌, false, List, ◌∷◌, ◌++◌, length}
-use Rattle.link_source.specs.Streams.{Stream}
+use Rattle.std.specs.Prelude.{◌≡◌, ℕ, ◌+◌, true, false, List, ◌∷◌, ◌++◌, length}
+use Rattle.link_source.specs.Exchanges.{Exchange}
 use Rattle.range_http.specs.declared.head.Head.{Head}
 use Rattle.reply_reader.specs.Heads.{HasFinalHead, IsAtHead}
 use Rattle.reply_reader.specs.Sizes.{heads_most}
@@ -11,10 +11,11 @@ use Rattle.request_chain.specs.Exchanges.{IsExchange}
 use Rattle.request_chain.specs.Probes.{Probe, Due, Lost, probe_asked, ProbeReplies, Search, ProbedBy}
 
 -- the newest stream is a probe's, its heads were read up to what waits, and so many bytes may still come
-pub record Awaits (url : List ℕ) (before now : List Stream) (left : ℕ) (waiting : List ℕ) (reader : HeadReader) : Type 0 where
-  pub stream : Stream
+pub record Awaits (url : List ℕ) (before now : List Exchange) (left : ℕ) (waiting : List ℕ) (reader : HeadReader) : Type 0 where
+  pub stream : Exchange
   pub on_top : now ≡ stream ∷ before
   pub exchange : IsExchange url probe_asked stream
+  pub fresh_is : stream.fresh ≡ true
   pub not_ended : stream.ended ≡ false
   pub front : List ℕ
   pub received_is : stream.received ≡ front ++ waiting
@@ -22,23 +23,24 @@ pub record Awaits (url : List ℕ) (before now : List Stream) (left : ℕ) (wait
   pub room : length stream.received + left ≡ heads_most
 
 -- the final head came in it
-pub record HasHead (url : List ℕ) (before now : List Stream) (head : Head) : Type 0 where
-  pub stream : Stream
+pub record HasHead (url : List ℕ) (before now : List Exchange) (head : Head) : Type 0 where
+  pub stream : Exchange
   pub on_top : now ≡ stream ∷ before
   pub exchange : IsExchange url probe_asked stream
+  pub fresh_is : stream.fresh ≡ true
   pub used : ℕ
   pub begins : HasFinalHead stream.received head used
 
 -- the newest stream tells this
-abbrev pub NewestTells : List ℕ → List Stream → List Stream → Probe → Type 0
-NewestTells url before now probe = (stream : Stream) × (now ≡ stream ∷ before) × ProbeReplies url stream probe
+abbrev pub NewestTells : List ℕ → List Exchange → List Exchange → Probe → Type 0
+NewestTells url before now probe = (stream : Exchange) × (now ≡ stream ∷ before) × ProbeReplies url stream probe
 
 -- what each loss says of a head that didn't come
-abbrev pub HeadLost : List ℕ → List Stream → List Stream → ℕ → Loss → Type 0
+abbrev pub HeadLost : List ℕ → List Exchange → List Exchange → ℕ → Loss → Type 0
 HeadLost url before now faults (losses.Link count) = (count ≡ faults) × NewestTells url before now Due
-HeadLost url before now faults losses.NoMemory = (stream : Stream) × (now ≡ stream ∷ before)
+HeadLost url before now faults losses.NoMemory = (stream : Exchange) × (now ≡ stream ∷ before)
 HeadLost url before now faults loss = NewestTells url before now (Lost loss)
 
 -- whatever is told from the next search on is told from the first
-abbrev pub SearchLeads : Search → List Stream → Search → Type 0
-SearchLeads search used next = (streams : List Stream) (probe : Probe) → ProbedBy next streams probe → ProbedBy search (used ++ streams) probe
+abbrev pub SearchLeads : Search → List Exchange → Search → Type 0
+SearchLeads search used next = (streams : List Exchange) (probe : Probe) → ProbedBy next streams probe → ProbedBy search (used ++ streams) probe

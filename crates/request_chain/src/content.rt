@@ -1,5 +1,5 @@
 // The bytes of a reply's content.
-ghost use Rattle.std.specs.Prelude.{◌≡◌, ◌<◌, ◌≤◌, ◌+◌, ◌++◌, ◌-◌, ◌^◌, Bool, List, ℕ, Ok, Some, None, length, IfOk, IfErr, IfSome, vec_len, vec_capacity};
+ghost use Rattle.std.specs.Prelude.{◌≡◌, ◌<◌, ◌≤◌, ◌+◌, ◌++◌, ◌-◌, ◌^◌, min, Bool, List, ℕ, Ok, Some, None, length, IfOk, IfErr, IfSome, IsTrue, vec_len, vec_capacity};
 ghost use Rattle.range_http.specs.declared.asked.Asked.{Asked};
 ghost use Rattle.range_http.specs.declared.verdict.Verdict.TheVariants.{Moved};
 ghost use Rattle.range_http.specs.Verdict.{verdict_of};
@@ -7,11 +7,11 @@ ghost use Rattle.reply_reader.specs.Answers.{Due, Lost, without_bytes, answer_by
 ghost use Rattle.reply_reader.specs.Losses.{IsKnown};
 ghost use Rattle.reply_reader.specs.Slices.{framing_told};
 ghost use Rattle.reply_reader.specs.declared.slices.SliceState.TheVariants.{More};
-ghost use Rattle.request_chain.specs.Contents.{IsAtStart, IsBegun, IsReadTo, turn_by, IsOwn};
+ghost use Rattle.request_chain.specs.Contents.{IsAtStart, IsBegun, IsReadTo, ends_behind, turn_by, IsOwn};
 
 use crate::inbox::Inbox;
 use dl_kinds::Code;
-use range_http::{Asked, Framing, Head, Verdict, classify, numbers_and_ranges_are_read};
+use range_http::{Asked, Framing, Head, Verdict, classify, numbers_and_ranges_are_read, persists};
 use reply_reader::{Loss, SliceReader, SliceState, final_heads_are_one_and_stay};
 
 /// The content of a reply, whose bytes up to a place are wanted.
@@ -22,6 +22,17 @@ pub(crate) struct Content {
     pub last: u64,
     /// How many bytes came.
     pub got: u64,
+    /// How long the body is, where the connection persists behind it.
+    ends: Option<u64>,
+    /// How many bytes were read behind the head.
+    behind: u64,
+}
+
+// So many bytes more, up to 2^64 - 1.
+fn count_on(behind: u64, used: u32) -> u64
+    ensures { result ≡ min (behind + used) (2 ^ 64 - 1) }
+{
+    behind.saturating_add(used as u64)
 }
 
 impl Content {
@@ -35,7 +46,28 @@ impl Content {
             reader: SliceReader::new(framing, skip, last + 1 - first),
             last,
             got: 0,
+            ends: None,
+            behind: 0,
         }
+    }
+
+    // The same of a reply with this head and framing.
+    fn under(self, head: &Head, framing: Framing) -> Self
+        ensures { result ≡ record self { ends = ends_behind head.now framing } }
+    {
+        let ends = match framing {
+            Framing::Length(length) if persists(head) => Some(length),
+            _ => None,
+        };
+        Content { ends, ..self }
+    }
+
+    /// Whether the body was read to its end, and the connection persists behind it.
+    pub fn is_over(&self) -> bool
+        ensures { IsTrue result → (self.now.ends ≡ Some self.now.behind)
+            × (self.now.behind < 2 ^ 64 - 1) }
+    {
+        self.behind < u64::MAX && self.ends == Some(self.behind)
     }
 
     /// Reads bytes that wait, and puts those that are wanted at the end of `out`, at most `room` of them.
@@ -63,6 +95,8 @@ impl Content {
         let before = out.len();
         let read = self.reader.take(inbox.front(), room, out, dropped);
         inbox.pass(read.used);
+        let behind = count_on(self.behind, read.used);
+        self.behind = behind;
         let gained = out.len().saturating_sub(before);
         self.got = self.got.saturating_add(gained as u64);
         read.state
@@ -85,14 +119,13 @@ pub(crate) fn begin(head: &Head, asked: &Asked) -> Result<Option<Content>, Loss>
     numbers_and_ranges_are_read();
     match classify(head, asked) {
         Verdict::Part { last, framing, .. } => {
-            Ok(Some(Content::new(framing, 0, asked.first, last)))
+            let content = Content::new(framing, 0, asked.first, last);
+            Ok(Some(content.under(head, framing)))
         }
-        Verdict::Whole { framing, .. } => Ok(Some(Content::new(
-            framing,
-            asked.first,
-            asked.first,
-            asked.last,
-        ))),
+        Verdict::Whole { framing, .. } => {
+            let content = Content::new(framing, asked.first, asked.first, asked.last);
+            Ok(Some(content.under(head, framing)))
+        }
         Verdict::Moved => Ok(None),
         Verdict::Empty => Err(Loss::Refused {
             status: head.status,

@@ -1,16 +1,18 @@
-// One request, on a stream of its own.
-ghost use Rattle.std.specs.Prelude.{◌≡◌, ◌⊎◌, ◌≤◌, ℕ, List, [], true, IsTrue, IfOk, IfErr, OnOk};
+// One request, on a connection of its own.
+ghost use Rattle.std.specs.Prelude.{◌≡◌, ◌⊎◌, ◌≤◌, ℕ, List, [], Ok, Some, true, false, IsTrue, IsFalse, IfOk, IfErr, OnOk};
 ghost use Rattle.dl_words.specs.Counts.{Rose};
 ghost use Rattle.reply_reader.specs.Losses.{IsKnown};
 ghost use Rattle.reply_reader.specs.declared.loss.Loss.TheVariants.{Link, NoMemory};
 ghost use Rattle.link_source.specs.Endpoint.{IsUsable};
-ghost use Rattle.link_source.specs.Streams.{Stream};
+ghost use Rattle.link_source.specs.Exchanges.{Exchange};
 ghost use Rattle.request_chain.specs.Answered.{KeepsAnswers};
 ghost use Rattle.request_chain.specs.Links.{CountsLinkLoss};
 ghost use Rattle.request_chain.specs.Exchanges.{LeadsTo, request_for};
 ghost use Rattle.request_chain.specs.Plans.{unusable};
+ghost use Rattle.request_chain.specs.Rests.{IsOpenTo};
 ghost use Rattle.request_chain.specs.Sending.{loss_by, IsOpened, IsUnopened};
 
+use crate::room::Peer;
 use dl_kinds::{Code, IoErr};
 use link_source::{EndErr, Endpoint, Links};
 use range_http::{Asked, request};
@@ -58,21 +60,22 @@ fn request_for(alloc: Global, endpoint: &Endpoint, asked: &Asked) -> Result<Vec<
     request(alloc, endpoint.target.as_str(), host.as_str(), asked).map_err(|_| Loss::NoMemory)
 }
 
-/// Sends the request for a range of the resource at a URL, on a new stream.
+/// Sends the request for a range of the resource at a URL, on a new connection. The answer is where it leads.
 pub(crate) fn send_request<L: Links>(
     alloc: Global,
     link: &mut L,
     url: &str,
     status: u16,
     asked: &Asked,
-) -> Result<(), Loss>
+) -> Result<Peer, Loss>
     ensures sent { OnOk result (IsTrue L.tells
-        → IsOpened url.now asked.now (L.state link.old).streams (L.state link.new).streams) }
-    ensures lost { IfErr result (λ loss. IsTrue L.tells →
-        IsUnopened url.now status (L.state link.old).streams (L.state link.new).streams (L.faults link.new) loss) }
+        → IsOpened url.now asked.now true (L.state link.old).exchanges (L.state link.new).exchanges) }
+    ensures opened { IfOk result (λ peer. IsTrue L.tells → IsOpenTo (Some peer) (L.state link.new)) }
+    ensures lost { IfErr result (λ loss. IsTrue L.tells → IsUnopened url.now status
+        (L.state link.old).exchanges (L.state link.new).exchanges (L.faults link.new) loss) }
     ensures link { IfErr result (CountsLinkLoss (L.faults link.old) (L.faults link.new)) }
     ensures known { IfErr result IsKnown }
-    ensures answered { IsTrue L.tells → (before : List Stream)
+    ensures answered { IsTrue L.tells → (before : List Exchange)
         → KeepsAnswers before (L.state link.old) (L.state link.new) }
     ensures listens { OnOk result (IsTrue L.tells → (L.state link.new).listens ≡ true) }
     // A URL that is no `http` URL is refused without a call of the link.
@@ -87,7 +90,58 @@ pub(crate) fn send_request<L: Links>(
         return Err(link_loss(link, error));
     }
     match link.send(&request) {
-        Ok(()) => Ok(()),
+        Ok(()) => Ok(Peer {
+            host: endpoint.host,
+            port: endpoint.port,
+        }),
         Err(error) => Err(link_loss(link, error)),
+    }
+}
+
+// Whether a peer is the endpoint's.
+fn is_at(peer: &Peer, endpoint: &Endpoint) -> bool
+    ensures { IsTrue result → (peer.now.host ≡ endpoint.now.host)
+        × (peer.now.port ≡ endpoint.now.port) }
+{
+    peer.port == endpoint.port && peer.host.as_str() == endpoint.host.as_str()
+}
+
+/// Sends the request for a range of the resource at a URL over the connection that is open, where it leads there. The
+/// answer is whether it was sent.
+pub(crate) fn send_again<L: Links>(
+    alloc: Global,
+    link: &mut L,
+    peer: &Peer,
+    url: &str,
+    status: u16,
+    asked: &Asked,
+) -> Result<bool, Loss>
+    requires opened { IsTrue L.tells → IsOpenTo (Some peer.now) (L.state link.old) }
+    ensures sent { IfOk result (λ sent. IsTrue sent → IsTrue L.tells → IsOpened url.now asked.now
+        false (L.state link.old).exchanges (L.state link.new).exchanges) }
+    ensures unsent { IfOk result (λ sent. IsFalse sent → IsTrue L.tells
+        → L.state link.new ≡ L.state link.old) }
+    ensures opened { OnOk result (IsTrue L.tells → IsOpenTo (Some peer.now) (L.state link.new)) }
+    ensures lost { IfErr result (λ loss. IsTrue L.tells → IsUnopened url.now status
+        (L.state link.old).exchanges (L.state link.new).exchanges (L.faults link.new) loss) }
+    ensures own { IfErr result (λ loss. (count : ℕ) → loss ≡ Link count → ⊥) }
+    ensures known { IfErr result IsKnown }
+    ensures answered { IsTrue L.tells → (before : List Exchange)
+        → KeepsAnswers before (L.state link.old) (L.state link.new) }
+    ensures usable { OnOk result (IsUsable url.now) }
+    ensures untouched { (IsUsable url.now → ⊥) → link.new ≡ link.old }
+    ensures later { L.faults link.old ≤ L.faults link.new }
+{
+    replies_are_read_short();
+    let place = endpoint(alloc, url, status)?;
+    let again = request_for(alloc, &place, asked)?;
+    if !is_at(peer, &place) {
+        return Ok(false);
+    }
+    match link.send(&again) {
+        Ok(()) => Ok(true),
+        // A connection that was closed meanwhile is no loss.
+        Err(IoErr::Fault) => Ok(false),
+        Err(IoErr::NoMemory) => Err(Loss::NoMemory),
     }
 }

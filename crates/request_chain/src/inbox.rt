@@ -1,8 +1,8 @@
 // What came and waits to be read.
 ghost use Rattle.std.specs.Prelude.{◌≡◌, ◌<◌, ◌≤◌, ◌+◌, ◌++◌, ◌==◌, [], List, ℕ, Ok, true, length, take, drop, IsTrue, IfOk, OnErr, vec_len};
 ghost use Rattle.dl_kinds.specs.Causes.{HasCause};
-ghost use Rattle.link_source.specs.Streams.{TakesDue, with_received};
-ghost use Rattle.link_source.specs.declared.streams.TheConstants.{MOST_RECEIVED};
+ghost use Rattle.link_source.specs.Exchanges.{TakesDue, with_received};
+ghost use Rattle.link_source.specs.declared.exchanges.TheConstants.{MOST_RECEIVED};
 ghost use Rattle.reply_reader.specs.Heads.{HasFinalHead, HasNoFinalHead, IsAtHead, IfFinal};
 ghost use Rattle.reply_reader.specs.declared.heads.HeadsRead.TheVariants.{More, Bad};
 
@@ -41,13 +41,15 @@ fn receive<L: Links>(link: &mut L, block: &mut [u8], most: usize) -> Result<usiz
     requires listens { IsTrue L.tells → (L.state link.old).listens ≡ true }
     ensures most { IfOk result (λ count. count ≤ most) }
     ensures received { IfOk result (λ count. IsTrue L.tells
-        → (L.state link.new).streams ≡ with_received (take count block.new) (L.state link.old).streams) }
+        → (L.state link.new).exchanges
+        ≡ with_received (take count block.new) (L.state link.old).exchanges) }
     ensures given { IfOk result (λ count. IsTrue L.tells
         → TakesDue (L.state link.old).due count block.new (L.state link.new).due) }
     ensures failed { OnErr result (IsTrue L.tells
-        → (L.state link.new).streams ≡ (L.state link.old).streams) }
+        → (L.state link.new).exchanges ≡ (L.state link.old).exchanges) }
     ensures held { OnErr result (IsTrue L.tells → (L.state link.new).due ≡ (L.state link.old).due) }
     ensures kept { IsTrue L.tells → (L.state link.new).content ≡ (L.state link.old).content }
+    ensures at { IsTrue L.tells → (L.state link.new).peer ≡ (L.state link.old).peer }
     ensures listens { IsTrue L.tells → (L.state link.new).listens ≡ true }
     ensures cause { HasCause (L.faults link.old) (L.faults link.new) result }
 {
@@ -70,7 +72,7 @@ impl Inbox {
         self.ring.is_empty()
     }
 
-    /// Receives some bytes of the newest stream, at most so many, in place of those that wait. None come at its end
+    /// Receives some bytes of the newest exchange, at most so many, in place of those that wait. None come at its end
     /// alone.
     pub fn refill<L: Links>(&mut self, link: &mut L, most: u32) -> Result<u32, IoErr>
         requires some { 0 < most }
@@ -78,14 +80,15 @@ impl Inbox {
         ensures most { IfOk result (λ count. count ≤ most) }
         ensures count { IfOk result (λ count. count ≡ length self.new) }
         ensures received { IfOk result (λ _. IsTrue L.tells
-            → (L.state link.new).streams ≡ with_received self.new (L.state link.old).streams) }
+            → (L.state link.new).exchanges ≡ with_received self.new (L.state link.old).exchanges) }
         ensures given { IfOk result (λ count. IsTrue L.tells
             → TakesDue (L.state link.old).due count self.new (L.state link.new).due) }
         ensures failed { OnErr result (IsTrue L.tells
-            → (L.state link.new).streams ≡ (L.state link.old).streams) }
+            → (L.state link.new).exchanges ≡ (L.state link.old).exchanges) }
         ensures held { OnErr result (IsTrue L.tells
             → (L.state link.new).due ≡ (L.state link.old).due) }
         ensures kept { IsTrue L.tells → (L.state link.new).content ≡ (L.state link.old).content }
+        ensures at { IsTrue L.tells → (L.state link.new).peer ≡ (L.state link.old).peer }
         ensures listens { IsTrue L.tells → (L.state link.new).listens ≡ true }
         ensures cause { HasCause (L.faults link.old) (L.faults link.new) result }
     {

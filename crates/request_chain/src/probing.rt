@@ -2,7 +2,7 @@
 ghost use Rattle.std.specs.Prelude.{◌≡◌, ◌≢◌, ◌⊎◌, ◌≤◌, ◌<◌, ◌+◌, ◌-◌, [], List, ℕ, true, false, Ok, Some, None, IsTrue, OnOk, IfOk, IfErr, IfSome, MatchResult, codes, length};
 ghost use Rattle.dl_words.specs.Counts.{Rose};
 ghost use Rattle.link_source.specs.Endpoint.{IsUsable};
-ghost use Rattle.link_source.specs.Streams.{Stream};
+ghost use Rattle.link_source.specs.Exchanges.{Exchange};
 ghost use Rattle.range_http.specs.Fields.{values_of, sole};
 ghost use Rattle.range_http.specs.Verdict.{verdict_of};
 ghost use Rattle.range_http.specs.declared.verdict.Verdict.TheVariants.{Moved as HasMoved};
@@ -24,6 +24,7 @@ use crate::exchange::{link_loss, send_request};
 use crate::inbox::Inbox;
 use crate::redirect::target;
 use crate::room::ChainRoom;
+use crate::stage::check_head;
 use dl_kinds::{Code, Text};
 use link_source::Links;
 use range_http::{Asked, Head, Verdict, classify};
@@ -75,21 +76,6 @@ fn told_length(head: &Head) -> Result<Option<u64>, Loss>
     }
 }
 
-// A head that doesn't come whole is lost so, if it is one so far.
-fn check(alloc: Global, reader: &HeadReader) -> Result<(), Loss>
-    ensures due { OnOk result ((front : List ℕ) → IsAtHead front reader.now → IsHeadDue front) }
-    ensures lost { IfErr result (λ loss. (loss ≡ NoMemory)
-        ⊎ ((loss ≡ BadReply) × ((front : List ℕ) → IsAtHead front reader.now
-        → HasNoFinalHead front))) }
-    ensures known { IfErr result IsKnown }
-{
-    match reader.is_due(alloc) {
-        Ok(true) => Ok(()),
-        Ok(false) => Err(Loss::BadReply),
-        Err(_) => Err(Loss::NoMemory),
-    }
-}
-
 // Receives more of the heads.
 fn receive<L: Links>(
     alloc: Global,
@@ -101,14 +87,14 @@ fn receive<L: Links>(
     requires some { 0 < most }
     requires listens { IsTrue L.tells → (L.state link.old).listens ≡ true }
     ensures receives { IsTrue L.tells
-        → (url : List ℕ) (before : List Stream)
-        → Awaits url before (L.state link.old).streams most [] reader.now
-        → MatchResult result (λ count. Awaits url before (L.state link.new).streams (most - count) inbox.new reader.now)
-        (HeadLost url before (L.state link.new).streams (L.faults link.new)) }
+        → (url : List ℕ) (before : List Exchange)
+        → Awaits url before (L.state link.old).exchanges most [] reader.now
+        → MatchResult result (λ count. Awaits url before (L.state link.new).exchanges (most - count) inbox.new reader.now)
+        (HeadLost url before (L.state link.new).exchanges (L.faults link.new)) }
     ensures some { IfOk result (λ count. (0 < count) × (count ≤ most)) }
     ensures listens { IsTrue L.tells → (L.state link.new).listens ≡ true }
-    ensures answered { IsTrue L.tells → (url : List ℕ) (others before : List Stream)
-        → Awaits url others (L.state link.old).streams most [] reader.now
+    ensures answered { IsTrue L.tells → (url : List ℕ) (others before : List Exchange)
+        → Awaits url others (L.state link.old).exchanges most [] reader.now
         → length before ≤ length others → KeepsAnswers before (L.state link.old) (L.state link.new) }
     ensures link { IfErr result (CountsLinkLoss (L.faults link.old) (L.faults link.new)) }
     ensures known { IfErr result IsKnown }
@@ -117,12 +103,12 @@ fn receive<L: Links>(
     replies_are_read_short();
     match inbox.refill(link, most.min(reader.most_asked())) {
         Ok(0) => {
-            check(alloc, reader)?;
+            check_head(alloc, reader)?;
             Err(Loss::Short { got: 0 })
         }
         Ok(count) => Ok(count),
         Err(error) => {
-            check(alloc, reader)?;
+            check_head(alloc, reader)?;
             Err(link_loss(link, error))
         }
     }
@@ -132,12 +118,12 @@ fn receive<L: Links>(
 fn receive_head<L: Links>(alloc: Global, link: &mut L, inbox: &mut Inbox) -> Result<Head, Loss>
     requires { IsTrue L.tells → (L.state link.old).listens ≡ true }
     ensures heads { IsTrue L.tells
-        → (url : List ℕ) (before : List Stream)
-        → IsOpened url probe_asked before (L.state link.old).streams
-        → MatchResult result (HasHead url before (L.state link.new).streams)
-        (HeadLost url before (L.state link.new).streams (L.faults link.new)) }
-    ensures answered { IsTrue L.tells → (url : List ℕ) (others before : List Stream)
-        → IsOpened url probe_asked others (L.state link.old).streams → length before ≤ length others
+        → (url : List ℕ) (before : List Exchange)
+        → IsOpened url probe_asked true before (L.state link.old).exchanges
+        → MatchResult result (HasHead url before (L.state link.new).exchanges)
+        (HeadLost url before (L.state link.new).exchanges (L.faults link.new)) }
+    ensures answered { IsTrue L.tells → (url : List ℕ) (others before : List Exchange)
+        → IsOpened url probe_asked true others (L.state link.old).exchanges → length before ≤ length others
         → KeepsAnswers before (L.state link.old) (L.state link.new) }
     ensures link { IfErr result (CountsLinkLoss (L.faults link.old) (L.faults link.new)) }
     ensures known { IfErr result IsKnown }
@@ -162,10 +148,10 @@ fn receive_head<L: Links>(alloc: Global, link: &mut L, inbox: &mut Inbox) -> Res
 // Asks for the first byte, and gives the final head of the reply.
 fn ask<L: Links>(alloc: Global, link: &mut L, inbox: &mut Inbox, hop: &Moved) -> Result<Head, Loss>
     ensures asks { IsTrue L.tells
-        → MatchResult result (HasHead hop.now.url (L.state link.old).streams (L.state link.new).streams)
-        (λ loss. IsUnopened hop.now.url hop.now.status (L.state link.old).streams (L.state link.new).streams (L.faults link.new) loss
-        ⊎ HeadLost hop.now.url (L.state link.old).streams (L.state link.new).streams (L.faults link.new) loss) }
-    ensures answered { IsTrue L.tells → (before : List Stream)
+        → MatchResult result (HasHead hop.now.url (L.state link.old).exchanges (L.state link.new).exchanges)
+        (λ loss. IsUnopened hop.now.url hop.now.status (L.state link.old).exchanges (L.state link.new).exchanges (L.faults link.new) loss
+        ⊎ HeadLost hop.now.url (L.state link.old).exchanges (L.state link.new).exchanges (L.faults link.new) loss) }
+    ensures answered { IsTrue L.tells → (before : List Exchange)
         → KeepsAnswers before (L.state link.old) (L.state link.new) }
     ensures link { IfErr result (CountsLinkLoss (L.faults link.old) (L.faults link.new)) }
     ensures known { IfErr result IsKnown }
@@ -213,11 +199,11 @@ pub fn probe<L: Links>(
     room: &mut ChainRoom,
 ) -> Result<u64, Loss>
     ensures probes { IsTrue L.tells
-        → (used : List Stream) × Gains (L.state link.old).streams (L.state link.new).streams used
+        → (used : List Exchange) × Gains (L.state link.old).exchanges (L.state link.new).exchanges used
         × MatchResult result
         (λ total. Probed url.now used (Told total))
         (TellsProbeLoss url.now used (L.faults link.new)) }
-    ensures answered { IsTrue L.tells → (before : List Stream)
+    ensures answered { IsTrue L.tells → (before : List Exchange)
         → KeepsAnswers before (L.state link.old) (L.state link.new) }
     ensures link { IfErr result (CountsLinkLoss (L.faults link.old) (L.faults link.new)) }
     ensures known { IfErr result IsKnown }

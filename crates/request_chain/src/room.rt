@@ -2,23 +2,52 @@
 ghost use Rattle.std.specs.Prelude.{◌≤◌, vec_capacity};
 
 use crate::inbox::Inbox;
-use dl_kinds::NoMemory;
+use dl_kinds::{NoMemory, Text};
 use std::alloc::Global;
 
-/// What a chain reads with: its buffers are made once.
+/// Where the link is open.
+#[derive(Debug, Drop)]
+pub(crate) struct Peer {
+    pub host: Text,
+    pub port: u16,
+}
+
+/// What a chain reads with: its buffers are made once. It knows where the link is open, so that a chain goes on over the
+/// connection of the one before.
 #[derive(Debug, Drop)]
 pub struct ChainRoom {
     pub(crate) inbox: Inbox,
     /// Where the bytes go that aren't wanted.
     pub(crate) dropped: Vec<u8>,
+    /// Where the newest request went.
+    pub(crate) peer: Option<Peer>,
+    /// Whether its reply ended just where it was read, so that the connection may take another request.
+    pub(crate) rests: bool,
     ghost roomy: { 65536 ≤ vec_capacity dropped },
 }
 
 impl ChainRoom {
-    pub fn new(alloc: Global) -> Result<Self, NoMemory> {
+    ghost use Rattle.std.specs.Prelude.{IfOk};
+    ghost use Rattle.link_source.specs.Link.{LinkState};
+    ghost use Rattle.request_chain.specs.Rests.{RestsOn};
+
+    pub fn new(alloc: Global) -> Result<Self, NoMemory>
+        ensures { IfOk result (λ room. (link : LinkState) → RestsOn room link) }
+    {
         Ok(ChainRoom {
             inbox: Inbox::new(alloc)?,
             dropped: Vec::with_capacity(alloc, 65536)?,
+            peer: None,
+            rests: false,
         })
+    }
+
+    /// The room of a chain that begins on a connection of its own.
+    pub fn without_connection(self) -> Self
+        ensures { (link : LinkState) → RestsOn result link }
+    {
+        let mut room = self;
+        room.rests = false;
+        room
     }
 }

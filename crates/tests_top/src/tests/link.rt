@@ -116,7 +116,7 @@ impl Links for TestLink {
         if !self.script.is_empty() {
             return Ok(());
         }
-        if !self.mirrors.listens() {
+        if !self.mirrors.is_open() {
             return Err(IoErr::NoMemory);
         }
         self.mirrors.send(bytes)

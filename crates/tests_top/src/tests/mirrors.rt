@@ -73,18 +73,18 @@ const TWO_PIECES: &str =
 // Each piece is asked for, and written once it is right; a wrong one ends the run. Of a whole resource the bytes before
 // the asked ones are dropped, and those behind them aren't read.
 const PIECES: &str = "\
-mirror m.test 80 Ranges /a.bin=16384*z+8192*ab ; status 0 ; shows 0000000000000001|OK|32768|32768|0|a ; file a=16384*z+8192*ab ; dials 2
+mirror m.test 80 Ranges /a.bin=16384*z+8192*ab ; status 0 ; shows 0000000000000001|OK|32768|32768|0|a ; file a=16384*z+8192*ab ; dials 1
 mirror m.test 80 Whole /a.bin=16384*z+8192*ab ; status 0 ; shows 0000000000000001|OK|32768|32768|0|a ; file a=16384*z+8192*ab ; dials 2
 mirror m.test 80 Chunked /a.bin=16384*z+8192*ab ; status 0 ; shows 0000000000000001|OK|32768|32768|0|a ; file a=16384*z+8192*ab ; dials 2
 mirror m.test 80 ToEnd /a.bin=16384*z+8192*ab ; status 0 ; shows 0000000000000001|OK|32768|32768|0|a ; file a=16384*z+8192*ab ; dials 2
 mirror m.test 80 Whole /a.bin=16384*z+8192*ab ; cut 1000 ; status 0 ; shows 0000000000000001|OK|32768|32768|0|a ; file a=16384*z+8192*ab ; dials 2
-mirror m.test 80 Ranges /a.bin=16384*z+8192*aB ; status 32 ; shows 0000000000000001|ERR|16384|32768|32|a ; file a=16384*z+16384*%00 ; dials 2
+mirror m.test 80 Ranges /a.bin=16384*z+8192*aB ; status 32 ; shows 0000000000000001|ERR|16384|32768|32|a ; file a=16384*z+16384*%00 ; dials 1
 mirror m.test 80 Whole /a.bin=16384*y+8192*ab ; status 32 ; shows 0000000000000001|ERR|0|32768|32|a ; file a=32768*%00 ; dials 1
 mirror m.test 80 Ranges /a.bin=16384*z+8192*a ; status 22 ; shows 0000000000000001|ERR|0|32768|22|a ; file a=32768*%00 ; dials 1
 mirror m.test 80 ToEnd /a.bin=16384*z+8192*a ; status 6 ; shows 0000000000000001|ERR|16384|32768|6|a ; file a=16384*z+16384*%00 ; dials 2
-mirror m.test 80 Ranges /a.bin=16384*z+8192*ab ; bad flip 20000 ; status 0 ; shows 0000000000000001|OK|32768|32768|0|a ; file a=16384*z+8192*ab ; dials 2
-mirror m.test 80 Ranges /a.bin=16384*z+8192*ab ; bad flip 20000 ; bad flip 20000 ; status 32 ; shows 0000000000000001|ERR|16384|32768|32|a ; dials 2
-mirror m.test 80 Ranges /a.bin=16384*z+8192*ab ; bad flip 20000 ; bad cut 16383 ; status 6 ; shows 0000000000000001|ERR|16384|32768|6|a ; dials 2
+mirror m.test 80 Ranges /a.bin=16384*z+8192*ab ; bad flip 20000 ; status 0 ; shows 0000000000000001|OK|32768|32768|0|a ; file a=16384*z+8192*ab ; dials 1
+mirror m.test 80 Ranges /a.bin=16384*z+8192*ab ; bad flip 20000 ; bad flip 20000 ; status 32 ; shows 0000000000000001|ERR|16384|32768|32|a ; dials 1
+mirror m.test 80 Ranges /a.bin=16384*z+8192*ab ; bad flip 20000 ; bad cut 16383 ; status 6 ; shows 0000000000000001|ERR|16384|32768|6|a ; dials 1
 ";
 
 const FILES: &str =
@@ -93,9 +93,9 @@ const FILES: &str =
 // One piece in three files, of which one is empty. It is asked for file by file, at the URL of each, and what is missing
 // ends the run.
 const THREE_FILES: &str = "\
-mirror m.test 80 Ranges /s/n/d/x=hel /s/n/y%20%C3%A9%21=lo ; status 0 ; shows 0000000000000001|OK|5|5|0|n ; file n/d/x=hel ; file n/e= ; file n/y é!=lo ; dials 2
+mirror m.test 80 Ranges /s/n/d/x=hel /s/n/y%20%C3%A9%21=lo ; status 0 ; shows 0000000000000001|OK|5|5|0|n ; file n/d/x=hel ; file n/e= ; file n/y é!=lo ; dials 1
 mirror m.test 80 Chunked /s/n/d/x=hel /s/n/y%20%C3%A9%21=lo ; status 0 ; shows 0000000000000001|OK|5|5|0|n ; file n/d/x=hel ; file n/e= ; dials 2
-mirror m.test 80 Ranges /s/n/d/x=hel ; status 3 ; shows 0000000000000001|ERR|0|5|3|n ; file n/d/x=%00%00%00 ; dials 2
+mirror m.test 80 Ranges /s/n/d/x=hel ; status 3 ; shows 0000000000000001|ERR|0|5|3|n ; file n/d/x=%00%00%00 ; dials 1
 ";
 
 #[test]

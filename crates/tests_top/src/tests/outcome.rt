@@ -53,7 +53,7 @@ impl Outcome {
         let target = words.next().ok_or("no target")?;
         let field = words.next().ok_or("no field")?;
         let want = format!(in alloc;
-            "{host} {port} 1 GET {target} HTTP/1.1\r\nHost: {field}\r\nUser-Agent: aria_cli\r\nAccept: */*\r\nAccept-Encoding: identity\r\nRange: bytes=0-4\r\n\r\n"
+            "{host} {port} 0 GET {target} HTTP/1.1\r\nHost: {field}\r\nUser-Agent: aria_cli\r\nAccept: */*\r\nAccept-Encoding: identity\r\nRange: bytes=0-4\r\n\r\n"
         )?;
         let log = &self.links.first().ok_or("no link")?.log;
         let sent = str::from_utf8(&log.sent).unwrap_or("no text");

@@ -1,7 +1,6 @@
 use Rattle.std.proofs.Common.{◌∙◌, List, get_or, ap}
 use Rattle.span_map.specs.declared.files.FileLen.{FileLen}
 use Rattle.aria_top.proofs.Lengths.{part_is_range, file_is_bounded}
-use Rattle.aria_top.specs.Payload.{here}
 use Rattle.aria_top.proofs.piece.asked_part.Goals as goal
 
 pub returns-clause-range : goal.returns-clause-range

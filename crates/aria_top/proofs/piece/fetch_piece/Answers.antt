@@ -32,7 +32,7 @@ returns-in_err-fill-clause-served g c told good bytes gives =
     let was = g.L.Links.state c.args.link.now in
     let parts_give : GivesAll was.content c.in-Ok.job.parts bytes = subst (λ (parts : List JobPart). GivesAll was.content parts bytes) (sym c.in-Ok.ensures.parts) gives in
     let given : AreGiven was.content c.in-Ok.job.parts bytes = record { sound = c.in-Ok.ensures.ranges; bounded = c.in-Ok.ensures.bounded; gives = parts_give } in
-    let has : GainedAnswers was.content (g.L.Links.state c.fill.new.link) ends.gained = record { before = was.streams; answered = c.fill.ensures.answered told c.in-Ok.job c.begin-fetch.ensures.fetch; gains = ends.gains } in
+    let has : GainedAnswers was.content (g.L.Links.state c.fill.new.link) ends.gained = record { before = was.exchanges; answered = c.fill.ensures.answered told c.in-Ok.job c.begin-fetch.ensures.fetch; gains = ends.gains } in
     rw (p.1, p.2)
     (serves_fetch c.good_mirrors_serve.ensures was.content (g.L.Links.state c.fill.new.link) c.in-Ok.job.parts bytes good given ends.gained has
     {T = Unit {0}} (Err c.in_err-fill.field-0.0) c.fill.new.piece.items ends.ends)
@@ -70,7 +70,7 @@ returns-clause-served g c told good bytes gives =
     let was = g.L.Links.state c.args.link.now in
     let parts_give : GivesAll was.content c.in-Ok.job.parts bytes = subst (λ (parts : List JobPart). GivesAll was.content parts bytes) (sym c.in-Ok.ensures.parts) gives in
     let given : AreGiven was.content c.in-Ok.job.parts bytes = record { sound = c.in-Ok.ensures.ranges; bounded = c.in-Ok.ensures.bounded; gives = parts_give } in
-    let has : GainedAnswers was.content (g.L.Links.state c.fill.new.link) ends.gained = record { before = was.streams; answered = c.fill.ensures.answered told c.in-Ok.job c.begin-fetch.ensures.fetch; gains = ends.gains } in
+    let has : GainedAnswers was.content (g.L.Links.state c.fill.new.link) ends.gained = record { before = was.exchanges; answered = c.fill.ensures.answered told c.in-Ok.job c.begin-fetch.ensures.fetch; gains = ends.gains } in
     serves_fetch c.good_mirrors_serve.ensures was.content (g.L.Links.state c.fill.new.link) c.in-Ok.job.parts bytes good given ends.gained has
     {T = Unit {0}} (Ok (tt {0})) c.fill.new.piece.items ends.ends
 
@@ -79,7 +79,7 @@ returns-clause-serving g c told good =
     c.clean_mirrors_stay.ensures.stay _ _ _ (c.fill.ensures.answered told c.in-Ok.job c.begin-fetch.ensures.fetch) good
 
 pub fill-requires-clause-may : goal.fill-requires-clause-may
-fill-requires-clause-may g c told = c.begin-fetch.ensures.may (g.L.Links.state c.args.link.now)
+fill-requires-clause-may g c told = c.begin-fetch.ensures.may (g.L.Links.state c.args.link.now) (c.requires.may told)
 
 pub returns-in_err-fill-clause-serving : goal.returns-in_err-fill-clause-serving
 returns-in_err-fill-clause-serving g c told good =

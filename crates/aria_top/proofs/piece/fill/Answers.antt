@@ -4,7 +4,6 @@ use Rattle.dl_kinds.specs.declared.plan.Plan.{Plan}
 use Rattle.fetch_session.specs.Blocks.{cut}
 use Rattle.fetch_session.specs.Fetches.{fetch_plan, rest_of}
 use Rattle.aria_top.proofs.Losses.{held_on}
-use Rattle.aria_top.specs.Payload.{here}
 use Rattle.aria_top.proofs.piece.fill.Goals as goal
 
 pub returns-in_err-fetch_on-clause-ends : goal.returns-in_err-fetch_on-clause-ends

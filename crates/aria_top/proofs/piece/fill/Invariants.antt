@@ -17,8 +17,8 @@ invariant-turns g l = record {
   place : cut (fetch_plan l.fn.fetch) (rest_of l.fn.fetch).first + length l.piece.items ≡ cut (fetch_plan l.fn.fetch) (rest_of l.fetch).first;
   held : IfSome (lost_of l.fetch) (λ loss. IsLinkLoss loss → Rose (g.L.Links.faults l.fn.link) (g.L.Links.faults l.link));
   later : g.L.Links.faults l.fn.link ≤ g.L.Links.faults l.link;
-  came : IsTrue g.L.Links.tells → (job : Job) → IsFetch job [] [] l.fn.fetch → IsFetching job (g.L.Links.state l.fn.link).streams (g.L.Links.state l.link).streams l.piece.items l.fetch;
+  came : IsTrue g.L.Links.tells → (job : Job) → IsFetch job [] [] l.fn.fetch → IsFetching job (g.L.Links.state l.fn.link).exchanges (g.L.Links.state l.link).exchanges l.piece.items l.fetch;
   answered : IsTrue g.L.Links.tells → (job : Job) → IsFetch job [] [] l.fn.fetch
-      → IsAnswered (g.L.Links.state l.fn.link).content (g.L.Links.state l.fn.link).streams (g.L.Links.state l.link);
+      → IsAnswered (g.L.Links.state l.fn.link).content (g.L.Links.state l.fn.link).exchanges (g.L.Links.state l.link);
   may : IsTrue g.L.Links.tells → MayStep l.fetch (g.L.Links.state l.link);
 }

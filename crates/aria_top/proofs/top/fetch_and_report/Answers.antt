@@ -1,5 +1,5 @@
 use Rattle.std.proofs.Common.{◌≡◌, ◌∙◌, ◌++◌, ℕ, List, sym, ap, subst}
-use Rattle.link_source.specs.Streams.{Stream}
+use Rattle.link_source.specs.Exchanges.{Exchange}
 use Rattle.metainfo.specs.Info.{info_of}
 use Rattle.aria_top.specs.Ends.{work_status}
 use Rattle.aria_top.specs.Payload.{bytes_of_pieces}
@@ -13,7 +13,7 @@ returns-clause-work g c told =
     let ends = c.fetch_payload-progress.ensures.ends told in
     let progress = c.fetch_payload-progress.result in
     let info = info_of c.args.meta.now in
-    subst (λ (s : List Stream). TellsWork info s c.report_progress.result (g.L.Links.faults c.args.link.now) (g.L.Links.faults c.fetch_payload-progress.new.link))
+    subst (λ (s : List Exchange). TellsWork info s c.report_progress.result (g.L.Links.faults c.args.link.now) (g.L.Links.faults c.fetch_payload-progress.new.link))
     (sym (gained_is _ _ ends.gained ends.gains))
     (tells_work c.fetched_is_one.ensures info ends.gained progress.pieces progress.failure c.report_progress.result _ _ ends.ends
     c.report_progress.ensures.status (c.fetch_payload-progress.ensures.link) c.fetch_payload-progress.ensures.known)
@@ -35,7 +35,7 @@ returns-clause-summary g c not_memory not_sink tells told =
       done = λ is. c.fetch_payload-progress.ensures.all (done_is progress.failure r c.fetch_payload-progress.ensures.known c.report_progress.ensures.status is);
       counts = λ link_tells.
           let ends = c.fetch_payload-progress.ensures.ends link_tells in
-          subst (λ (s : List Stream). CountsRight info s r progress.pieces) (sym (gained_is _ _ ends.gained ends.gains))
+          subst (λ (s : List Exchange). CountsRight info s r progress.pieces) (sym (gained_is _ _ ends.gained ends.gains))
           (counts_right info ends.gained progress.pieces progress.failure r c.fetch_payload-progress.ensures.known ends.ends same not_memory);
       taken = c.report_progress.ensures.told same not_memory told
           ∙ ap (λ (n : ℕ). g.O.Sink.taken c.args.out.now ++ summary c.args.gids info n (bytes_of_pieces info progress.pieces)) (sym same);

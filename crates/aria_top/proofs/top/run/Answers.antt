@@ -39,9 +39,9 @@ returns-clause-no_control_file g c tells info to lacks =
 pub returns-clause-summary : goal.returns-clause-summary
 returns-clause-summary g c not_memory not_sink tells sink_tells info to =
     let named : file_named c.args.words.now ≡ Some c.in-Some.name.now = sym c.metainfo_name.ensures ∙ ap option_copied c.in-Some.is in
-    let before : at_first (λ link. (g.L.Links.state link).streams) [] c.args.links.items ≡ (g.L.Links.state c.index_mut.result.now).streams =
-    first_is (λ link. (g.L.Links.state link).streams) [] c.args.links.items c.index_mut.result.now (omega arith) c.index_mut.ensures.value in
-    let after = first_set (λ link. (g.L.Links.state link).streams) [] c.args.links.items c.run_named-status.new.link (omega arith) in
+    let before : at_first (λ link. (g.L.Links.state link).exchanges) [] c.args.links.items ≡ (g.L.Links.state c.index_mut.result.now).exchanges =
+    first_is (λ link. (g.L.Links.state link).exchanges) [] c.args.links.items c.index_mut.result.now (omega arith) c.index_mut.ensures.value in
+    let after = first_set (λ link. (g.L.Links.state link).exchanges) [] c.args.links.items c.run_named-status.new.link (omega arith) in
     let summary = c.run_named-status.ensures.summary not_memory not_sink tells sink_tells info (to_says c.args.words.now (g.D.Disk.state c.args.disk).seen c.in-Some.name.now info named to) in
     simp (before, after) summary
 
@@ -53,9 +53,9 @@ returns-clause-unread g c is tells sink_tells none =
 pub returns-clause-work : goal.returns-clause-work
 returns-clause-work g c tells told info to =
     let named : file_named c.args.words.now ≡ Some c.in-Some.name.now = sym c.metainfo_name.ensures ∙ ap option_copied c.in-Some.is in
-    let streams : at_first (λ link. (g.L.Links.state link).streams) [] c.args.links.items ≡ (g.L.Links.state c.index_mut.result.now).streams =
-    first_is (λ link. (g.L.Links.state link).streams) [] c.args.links.items c.index_mut.result.now (omega arith) c.index_mut.ensures.value in
-    let streams_after = first_set (λ link. (g.L.Links.state link).streams) [] c.args.links.items c.run_named-status.new.link (omega arith) in
+    let streams : at_first (λ link. (g.L.Links.state link).exchanges) [] c.args.links.items ≡ (g.L.Links.state c.index_mut.result.now).exchanges =
+    first_is (λ link. (g.L.Links.state link).exchanges) [] c.args.links.items c.index_mut.result.now (omega arith) c.index_mut.ensures.value in
+    let streams_after = first_set (λ link. (g.L.Links.state link).exchanges) [] c.args.links.items c.run_named-status.new.link (omega arith) in
     let before : at_first g.L.Links.faults 0 c.args.links.items ≡ g.L.Links.faults c.index_mut.result.now =
     first_is g.L.Links.faults 0 c.args.links.items c.index_mut.result.now (omega arith) c.index_mut.ensures.value in
     let after = first_set g.L.Links.faults 0 c.args.links.items c.run_named-status.new.link (omega arith) in

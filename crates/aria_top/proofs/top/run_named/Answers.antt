@@ -24,7 +24,7 @@ returns-in-Ok-clause-others g c tells info says =
 pub returns-in-Ok-clause-summary : goal.returns-in-Ok-clause-summary
 returns-in-Ok-clause-summary g c not_memory not_sink tells sink_tells info says =
     inl (subst (λ (i : Info). Summarized c.args.gids i c.fetch_and_report.result (g.D.Disk.state c.fetch_and_report.new.disk).seen
-    (λ pieces. IsTrue g.L.Links.tells → CountsRight i (gained (g.L.Links.state c.args.link.now).streams (g.L.Links.state c.fetch_and_report.new.link).streams) c.fetch_and_report.result pieces)
+    (λ pieces. IsTrue g.L.Links.tells → CountsRight i (gained (g.L.Links.state c.args.link.now).exchanges (g.L.Links.state c.fetch_and_report.new.link).exchanges) c.fetch_and_report.result pieces)
     (g.O.Sink.taken c.args.out.now) (g.O.Sink.taken c.fetch_and_report.new.out))
     (says_once _ _ info (c.in-Ok.ensures.told tells) says) (c.fetch_and_report.ensures.summary not_memory not_sink tells sink_tells))
 
@@ -32,7 +32,7 @@ pub returns-in-Err-Refused-clause-work : goal.returns-in-Err-Refused-clause-work
 returns-in-Err-Refused-clause-work g c tells link_tells info says =
     let stop : TellsStop ((g.D.Disk.state c.args.disk.now).seen c.args.name.now) (Refused c.in-Err-Refused.refusal) =
     subst (TellsStop ((g.D.Disk.state c.args.disk.now).seen c.args.name.now)) c.in-Err-Refused.field-0-is (c.in-Err-Refused.ensures.told tells) in
-    quiet_tells c.fetched_is_one.ensures info (g.L.Links.state c.args.link.now).streams c.in-Err-Refused.refusal c.report_refusal.result _ _ (says_sound c.metainfo_is_sound.ensures _ info says)
+    quiet_tells c.fetched_is_one.ensures info (g.L.Links.state c.args.link.now).exchanges c.in-Err-Refused.refusal c.report_refusal.result _ _ (says_sound c.metainfo_is_sound.ensures _ info says)
     (refused_disk _ info c.in-Err-Refused.refusal says stop) c.report_refusal.ensures.status
 
 pub returns-in-Err-Refused-clause-summary : goal.returns-in-Err-Refused-clause-summary

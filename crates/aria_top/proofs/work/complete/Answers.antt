@@ -11,7 +11,7 @@ returns-clause-ends g c told =
     let none = none_of c.complete_pieces-progress.result.failure (sym c.is_some.ensures ∙ c.if-is_some.false) in
     work_last (info_of c.args.meta.now) _ _ c.complete_pieces-progress.result.pieces c.make_last.result.pieces c.make_last.result.failure
     (c.complete_pieces-progress.ensures.all none ∙ sym c.make_last.ensures.pieces) c.make_last.ensures.causes
-    (subst (λ (f : Option Failure). WorkEnds (info_of c.args.meta.now) (g.L.Links.state c.args.link.now).streams (g.L.Links.state c.complete_pieces-progress.new.link).streams c.complete_pieces-progress.result.pieces f)
+    (subst (λ (f : Option Failure). WorkEnds (info_of c.args.meta.now) (g.L.Links.state c.args.link.now).exchanges (g.L.Links.state c.complete_pieces-progress.new.link).exchanges c.complete_pieces-progress.result.pieces f)
     none (c.complete_pieces-progress.ensures.ends told))
 
 pub returns-clause-others : goal.returns-clause-others

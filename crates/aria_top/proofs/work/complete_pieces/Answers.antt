@@ -12,6 +12,7 @@ use Rattle.aria_top.proofs.work.complete_pieces.Goals as goal
 pub each-preserved : goal.each-preserved
 each-preserved g c = record {
   serving = λ told. content_on _ _ _ (c.each.invariant.serving told) (c.complete_piece.ensures.serving told);
+  may = λ told. c.in-Ok.ensures.may told;
   link_later = omega (arith, c.complete_piece.ensures.later, c.each.invariant.link_later);
   came = λ told.
       let was = c.each.invariant.came told in

@@ -5,8 +5,7 @@ pub returns : goal.returns
 returns c =
     let heads = c.final_heads_are_one_and_stay.ensures in
     let once = c.requests_are_read_once.ensures.once in
-    let nothing = c.replies_are_read_short.ensures.nothing in
     record {
-      requests = requests_receive_little heads.one heads.stays once c.answers_fill_what_is_asked.ensures.fill nothing;
-      probes = probes_receive_little heads.one heads.stays once nothing;
+      requests = requests_receive_little heads.one heads.stays once c.answers_fill_what_is_asked.ensures.fill;
+      probes = probes_receive_little heads.one heads.stays once;
     }

@@ -4,7 +4,7 @@ use Rattle.std.specs.Prelude.{◌⊎◌, None}
 use Rattle.std.proofs.lemmas.Result.{err_from_is_err_and}
 use Rattle.link_source.specs.Endpoint.{IsUsable}
 use Rattle.link_source.specs.Link.{LinkState}
-use Rattle.link_source.specs.Streams.{Stream}
+use Rattle.link_source.specs.Exchanges.{Exchange}
 use Rattle.reply_reader.specs.declared.loss.Loss.TheVariants.{NoMemory}
 use Rattle.request_chain.specs.Chains.{Gains}
 use Rattle.request_chain.specs.Probes.{Told, Lost, At}
@@ -39,8 +39,8 @@ returns-in-Some-clause-probes g c told =
     let is = rw c.in-Some.is at c.in_ok-total.ensures.length in
     let came = found c.args.url.now c.turns.hop.url c.turns.redirects c.turns.hop.status _ _ _ searched.0 searched.1 searched.2 (Told c.in-Some.total) (Told c.in-Some.total)
     (head_tells c.turns.hop.url _ _ c.in_ok-head.head has (Told c.in-Some.total) is) refl in
-    let P : List Stream → Type 0 = λ streams. Gains (g.L.Links.state c.args.link.now).streams streams came.0 in
-    (came.0, subst P (sym (ap (λ (link : LinkState). link.streams) (c.hang_up.ensures.closed told))) came.1, came.2)
+    let P : List Exchange → Type 0 = λ streams. Gains (g.L.Links.state c.args.link.now).exchanges streams came.0 in
+    (came.0, subst P (sym (ap (λ (link : LinkState). link.exchanges) (c.hang_up.ensures.closed told))) came.1, came.2)
 
 pub returns-then-redirects-ge-REDIRECT_LIMIT-clause-probes : goal.returns-then-redirects-ge-REDIRECT_LIMIT-clause-probes
 returns-then-redirects-ge-REDIRECT_LIMIT-clause-probes g c told =

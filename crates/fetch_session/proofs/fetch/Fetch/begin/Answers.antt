@@ -26,4 +26,6 @@ returns-clause-end c =
     ap (cut c.args.job.plan) next ∙ sym (cut_next c.args.job.plan (run.first + run.count - 1) c.plan_laws.ensures.follow (omega (arith, some, within)))
 
 pub returns-clause-may : goal.returns-clause-may
-returns-clause-may c = λ link none more. c.new.ensures.may link
+returns-clause-may c = λ link begins.
+    let may = c.new.ensures.may link begins in
+    record { steps = λ none more. may; rests = λ none. may.rests }

@@ -1,29 +1,11 @@
-use Rattle.std.proofs.Common.{List, ℕ, [], ◌∷◌, ◌++◌, refl, sym, subst, arith}
-use Rattle.std.proofs.lemmas.Result.{err_from_is_err_and}
-use Rattle.request_chain.specs.Courses.{plan_now}
-use Rattle.request_chain.specs.Stages.{IsReading, IsReadingHead}
-use Rattle.request_chain.proofs.AskLemmas.{asks_of, asked_in, opened_head, opened_steps, unopened_loses}
+use Rattle.std.proofs.Common.{List, ℕ, subst, append-nil}
+use Rattle.request_chain.specs.Chains.{IsChain}
+use Rattle.request_chain.proofs.AskLemmas.{asked_on}
 use Rattle.request_chain.proofs.chain.Chain.ask.Goals as goal
-
-pub returns-in_err-send_request-clause-asks : goal.returns-in_err-send_request-clause-asks
-returns-in_err-send_request-clause-asks g c told parts before used bytes is gains =
-    let p = err_from_is_err_and c.from_residual.result c.from_residual.ensures.1 in
-    let self = c.args.self.now in
-    let asks = asks_of (plan_now self.course) c.requires.asking in
-    let reading = subst (λ stage. IsReading stage self.course self.room.inbox parts used bytes) c.requires.none_open is.reading in
-    let url = asked_in _ asks.part asks.others asks.url asks.count asks.status _ asks.is c.url.ensures in
-    let status = asked_in _ asks.part asks.others asks.url asks.count asks.status _ asks.is c.status.ensures in
-    rw (p.1, p.2) (unopened_loses parts before used _ _ (plan_now self.course) bytes asks reading.0 gains _ _ _ refl _ _ url status _ (c.in_err-send_request.ensures.lost told))
 
 pub returns-clause-asks : goal.returns-clause-asks
 returns-clause-asks g c told parts before used bytes is gains =
-    let self = c.args.self.now in
-    let asks = asks_of (plan_now self.course) c.requires.asking in
-    let reading = subst (λ stage. IsReading stage self.course self.room.inbox parts used bytes) c.requires.none_open is.reading in
-    let url = asked_in _ asks.part asks.others asks.url asks.count asks.status _ asks.is c.url.ensures in
-    let asked = asked_in _ asks.part asks.others asks.url asks.count asks.status _ asks.is c.asked-asked.ensures.asked in
-    let opened = c.in_ok-send_request.ensures.sent told in
-    let head = opened_head parts before used _ _ (plan_now self.course) bytes asks reading.0 gains self.course refl c.new.result c.new.ensures.at _ asked c.asked-asked.ensures.ordered (omega (arith, c.asked-asked.ensures.bounded)) _ url opened in
-    let P : List ℕ → Type 0 = λ waiting. IsReadingHead parts (used ++ opened.stream ∷ []) self.course waiting bytes c.new.result in
-    opened_steps parts before used _ _ (plan_now self.course) bytes asks reading.0 gains _ _ opened _ _ refl
-    (record { reading = subst P (sym reading.1) head; behind = reading.1 })
+    let steps = c.in_ok-ask_again.ensures.asks told parts before used bytes is gains in
+    let P : List ℕ → Type 0 = λ came. IsChain parts steps.later came c.ask_again.new.self in
+    asked_on parts before used _ _ bytes _ _ c.ask_again.new.self _ c.ask_first-2.result steps c.ask_again.ensures.taken
+    (c.ask_first-2.ensures.asks told parts before steps.later bytes (subst P (append-nil bytes) steps.chain_is) steps.gains)

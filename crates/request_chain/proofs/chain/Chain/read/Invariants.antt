@@ -1,6 +1,6 @@
 use Rattle.std.proofs.Common.{◌≡◌, ◌+◌, ◌-◌, ◌*◌, ◌≤◌, ◌++◌, ℕ, List, IsTrue, vec_len, vec_capacity}
 use Rattle.link_source.specs.Endpoint.{IsUsable}
-use Rattle.link_source.specs.Streams.{Stream}
+use Rattle.link_source.specs.Exchanges.{Exchange}
 use Rattle.span_map.specs.declared.jobs.JobPart.{JobPart}
 use Rattle.request_chain.specs.Chains.{IsChain, Gains}
 use Rattle.request_chain.specs.Answered.{KeepsAnswers}
@@ -14,11 +14,11 @@ invariant-turns g l = record {
   within : vec_len l.out ≤ vec_len l.initial.out + l.room;
   capacity : vec_capacity l.initial.out ≤ vec_capacity l.out;
   faults : g.L.Links.faults l.initial.link ≤ g.L.Links.faults l.link;
-  steps : IsTrue g.L.Links.tells → (parts : List JobPart) (before used : List Stream) (bytes : List ℕ)
-      → IsChain parts used bytes l.fn.self → Gains before (g.L.Links.state l.initial.link).streams used
-      → (added : List ℕ) × (l.out.items ≡ l.initial.out.items ++ added) × Steps parts before used bytes (g.L.Links.state l.link).streams added 0 l.self;
-  answered : IsTrue g.L.Links.tells → (parts : List JobPart) (before used : List Stream) (bytes : List ℕ)
-      → IsChain parts used bytes l.fn.self → Gains before (g.L.Links.state l.initial.link).streams used
+  steps : IsTrue g.L.Links.tells → (parts : List JobPart) (before used : List Exchange) (bytes : List ℕ)
+      → IsChain parts used bytes l.fn.self → Gains before (g.L.Links.state l.initial.link).exchanges used
+      → (added : List ℕ) × (l.out.items ≡ l.initial.out.items ++ added) × Steps parts before used bytes (g.L.Links.state l.link).exchanges added 0 l.self;
+  answered : IsTrue g.L.Links.tells → (parts : List JobPart) (before used : List Exchange) (bytes : List ℕ)
+      → IsChain parts used bytes l.fn.self → Gains before (g.L.Links.state l.initial.link).exchanges used
       → KeepsAnswers before (g.L.Links.state l.initial.link) (g.L.Links.state l.link);
   untouched : (url : List ℕ) → AsksFor l.fn.self url → (IsUsable url → ⊥)
       → (l.link ≡ l.initial.link) × (l.out ≡ l.initial.out) × AsksFor l.self url × (l.gained ≡ 0) × (l.self.taken ≡ 0);
@@ -26,4 +26,4 @@ invariant-turns g l = record {
 }
 
 abbrev pub decreases-turns : goal.decreases-turns
-decreases-turns g l = weight_of l.self + 3 * (l.allow - l.self.taken)
+decreases-turns g l = weight_of l.self + 6 * (l.allow - l.self.taken)

@@ -1,11 +1,13 @@
-use Rattle.std.proofs.Common.{◌++◌, sym, subst}
+use Rattle.std.proofs.Common.{◌++◌, List, ℕ, sym, subst}
 use Rattle.reply_reader.specs.Answers.{Turn, Given, Lost}
 use Rattle.reply_reader.specs.declared.loss.Loss.TheVariants.{BadReply, Short}
 use Rattle.request_chain.specs.Courses.{plan_now, CarriesOn}
 use Rattle.request_chain.specs.Plans.{NextAsk, plan_of, asked_of}
 use Rattle.request_chain.specs.Stages.{IsReading, IsBehindHead}
 use Rattle.request_chain.specs.declared.stage.Stage.{Stage}
+use Rattle.request_chain.specs.Contents.{IsReadTo}
 use Rattle.request_chain.proofs.AskLemmas.{asked_in}
+use Rattle.request_chain.proofs.ContentLemmas.{whole_of}
 use Rattle.request_chain.proofs.ReadingLemmas.{content_has, content_on, answer_leads, answer_lost}
 use Rattle.request_chain.proofs.chain.Chain.read_content.Goals as goal
 
@@ -57,3 +59,12 @@ returns-in-Over-clause-reads c parts used bytes reading =
     let loss = Short c.read.new.self.got in
     let has = content_has c.streams_have_one_answer.ensures.stay parts used self.course self.room.inbox c.read.new.inbox bytes read.0 c.args.content c.read.new.self (Lost loss) (λ is. cc) reading read.2 in
     (read.0, read.1, λ faults. answer_lost parts used self.course (bytes ++ read.0) loss has)
+
+pub returns-in-Come-clause-whole : goal.returns-in-Come-clause-whole
+returns-in-Come-clause-whole c tired rests parts used bytes reading =
+    let s = reading.sent in
+    let read = c.in-Come.ensures.reads (asked_of s.part) s.newest.received reading.got reading.read in
+    let over = c.is_read_whole-self.ensures rests in
+    let P : List ℕ → Type 0 = λ waiting. IsReadTo (asked_of s.part) s.newest.received waiting (reading.got ++ read.0) c.read.new.self (Given c.read.new.self.last) in
+    whole_of c.final_heads_are_one_and_stay.ensures.within (asked_of s.part) s.newest.received (reading.got ++ read.0) c.read.new.self (Given c.read.new.self.last)
+    (subst P over.0 read.2) over.1 over.2

@@ -1,4 +1,4 @@
-use Rattle.std.proofs.Common.{List, ℕ, [], sym, subst, ◌∙◌, append-nil, MatchResult}
+use Rattle.std.proofs.Common.{List, ℕ, [], sym, ap, subst, ◌∙◌, arith, length, append-nil, MatchResult}
 use Rattle.request_chain.specs.Chains.{IsChain, TellsLoss}
 use Rattle.request_chain.specs.Stages.{IsReading}
 use Rattle.request_chain.specs.declared.stage.Stage.{Stage}
@@ -9,5 +9,14 @@ returns-in-Head-clause-reads c parts used bytes reading =
     let self = c.args.self.now in
     let P : Stage → Type 0 = λ stage. IsReading stage self.course self.room.inbox parts used bytes in
     let head = subst P (sym c.replace.ensures.value ∙ c.in-Head.is) reading in
-    let Q : List ℕ → Type 0 = λ came. MatchResult c.read_head.result (λ _. IsChain parts used came c.read_head.new.self) (λ loss. (faults : ℕ) → TellsLoss parts used came faults loss) in
-    ([], sym (append-nil c.args.out.now.items), subst Q (sym (append-nil bytes)) (c.read_head.ensures.reads parts used bytes head))
+    let Q : List ℕ → Type 0 = λ came. MatchResult c.read_head-in-Head.result (λ _. IsChain parts used came c.read_head-in-Head.new.self) (λ loss. (faults : ℕ) → TellsLoss parts used came faults loss) in
+    ([], sym (append-nil c.args.out.now.items), subst Q (sym (append-nil bytes)) (c.read_head-in-Head.ensures.reads parts used bytes head))
+
+-- where the first bytes of a reply are due, nothing waits
+pub returns-in-Unheard-clause-reads : goal.returns-in-Unheard-clause-reads
+returns-in-Unheard-clause-reads c parts used bytes reading =
+    let self = c.args.self.now in
+    let P : Stage → Type 0 = λ stage. IsReading stage self.course self.room.inbox parts used bytes in
+    let awaited = subst P (sym c.replace.ensures.value ∙ c.in-Unheard.is) reading in
+    let some = c.requires.some in
+    absurd (omega (arith, some, ap length awaited.none_waits))

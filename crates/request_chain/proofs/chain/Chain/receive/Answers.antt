@@ -1,6 +1,6 @@
 use Rattle.std.proofs.Common.{List, ℕ, refl, sym, ap, subst, ◌∙◌, arith}
 use Rattle.std.proofs.lemmas.Result.{err_from_is_err_and}
-use Rattle.link_source.specs.Streams.{with_received}
+use Rattle.link_source.specs.Exchanges.{with_received}
 use Rattle.reply_reader.specs.declared.loss.Loss.TheVariants.{Short}
 use Rattle.request_chain.specs.Stages.{IsReading, got_at}
 use Rattle.request_chain.proofs.AnsweredLemmas.{answered_received, answered_still, comes_due, sent_later}
@@ -15,10 +15,10 @@ returns-in_ok-check-in-Ok-eq0-clause-receives g c told parts before used bytes i
     let self = c.args.self.now in
     let P : List ℕ → Type 0 = λ waiting. IsReading self.stage self.course waiting parts used bytes in
     let reading = subst P c.requires.none_waits is.reading in
-    let has = short_answer parts used self.course bytes self.stage reading c.in_ok-check-in-Ok-eq0.ensures.due c.requires.sent in
+    let has = short_answer parts used self.course bytes self.stage reading c.in_ok-check-in-Ok-eq0.ensures.due c.requires.sent c.requires.heard in
     let none = no_bytes c.refill.new.self (sym c.in-Ok-eq0.ensures.count ∙ c.in-Ok-eq0.field-0-test) in
-    let ended = c.in-Ok-eq0.ensures.received told ∙ ap (λ came. with_received came (g.L.Links.state c.args.link.now).streams) none in
-    rw c.got.ensures (ended_loses parts before used _ _ self.course bytes _ _ _ refl (Short (got_at self.stage)) tt has gains ended)
+    let ended = c.in-Ok-eq0.ensures.received told ∙ ap (λ came. with_received came (g.L.Links.state c.args.link.now).exchanges) none in
+    rw c.got.ensures (ended_loses parts before used _ _ self.course bytes _ _ _ refl (Short (got_at self.stage)) tt has.0 has.1 gains ended)
 
 pub returns-in_err-check-in-Ok-eq0-clause-receives : goal.returns-in_err-check-in-Ok-eq0-clause-receives
 returns-in_err-check-in-Ok-eq0-clause-receives g c told parts before used bytes is gains =
@@ -27,8 +27,8 @@ returns-in_err-check-in-Ok-eq0-clause-receives g c told parts before used bytes 
     let P : List ℕ → Type 0 = λ waiting. IsReading self.stage self.course waiting parts used bytes in
     let reading = subst P c.requires.none_waits is.reading in
     let none = no_bytes c.refill.new.self (sym c.in-Ok-eq0.ensures.count ∙ c.in-Ok-eq0.field-0-test) in
-    let ended = c.in-Ok-eq0.ensures.received told ∙ ap (λ came. with_received came (g.L.Links.state c.args.link.now).streams) none in
-    rw (p.1, p.2) (unchecked_ended parts before used _ _ self.course bytes _ _ _ refl self.stage _ c.in_err-check-in-Ok-eq0.ensures.lost reading c.requires.sent gains ended)
+    let ended = c.in-Ok-eq0.ensures.received told ∙ ap (λ came. with_received came (g.L.Links.state c.args.link.now).exchanges) none in
+    rw (p.1, p.2) (unchecked_ended parts before used _ _ self.course bytes _ _ _ refl self.stage _ c.in_err-check-in-Ok-eq0.ensures.lost reading c.requires.sent c.requires.heard gains ended)
 
 pub returns-in_err-check-in-Err-clause-receives : goal.returns-in_err-check-in-Err-clause-receives
 returns-in_err-check-in-Err-clause-receives g c told parts before used bytes is gains =
@@ -44,7 +44,7 @@ returns-in-Ok-clause-receives g c told parts before used bytes is gains =
     let P : List ℕ → Type 0 = λ waiting. IsReading self.stage self.course waiting parts used bytes in
     let reading = subst P c.requires.none_waits is.reading in
     let refilled = c.in-Ok.ensures in
-    let later = more_reading parts before used _ _ self.course self.stage c.refill.new.self bytes (omega (arith, refilled.count)) gains (refilled.received told) c.requires.sent reading in
+    let later = more_reading parts before used _ _ self.course self.stage c.refill.new.self bytes (omega (arith, refilled.count)) gains (refilled.received told) c.requires.sent c.requires.heard reading in
     record { later = later.0; gains = later.1; taken_is = omega (arith, later.2, refilled.count); reading = later.3 }
 
 pub returns-in_ok-check-in-Err-clause-receives : goal.returns-in_ok-check-in-Err-clause-receives
@@ -58,7 +58,7 @@ pub returns-in_ok-check-in-Ok-eq0-clause-answered : goal.returns-in_ok-check-in-
 returns-in_ok-check-in-Ok-eq0-clause-answered g c told parts before used bytes is gains =
     let self = c.args.self.now in
     answered_received before _ _ c.refill.new.self
-    (sent_later parts before _ used self.course bytes self.room.inbox self.stage is.reading c.requires.sent gains)
+    (sent_later parts before _ used self.course bytes self.room.inbox self.stage is.reading c.requires.sent gains) (c.requires.listens told)
     (c.in-Ok-eq0.ensures.received told) (comes_due _ c.refill.new.self _ _ c.in-Ok-eq0.ensures.count (c.in-Ok-eq0.ensures.given told)) (c.refill.ensures.kept told)
     (little_newest c.replies_are_read_short.ensures.final_head c.replies_are_read_short.ensures.heads c.replies_are_read_short.ensures.not_final c.replies_are_read_short.ensures.slices
     parts before _ used self.course bytes c.refill.new.self c.most_asked.result (omega (arith, c.in-Ok-eq0.ensures.count, c.in-Ok-eq0.ensures.most)) (omega (arith, c.in-Ok-eq0.ensures.count, c.in-Ok-eq0.ensures.most, c.most_asked.ensures.few))
@@ -68,7 +68,7 @@ pub returns-in_err-check-in-Ok-eq0-clause-answered : goal.returns-in_err-check-i
 returns-in_err-check-in-Ok-eq0-clause-answered g c told parts before used bytes is gains =
     let self = c.args.self.now in
     answered_received before _ _ c.refill.new.self
-    (sent_later parts before _ used self.course bytes self.room.inbox self.stage is.reading c.requires.sent gains)
+    (sent_later parts before _ used self.course bytes self.room.inbox self.stage is.reading c.requires.sent gains) (c.requires.listens told)
     (c.in-Ok-eq0.ensures.received told) (comes_due _ c.refill.new.self _ _ c.in-Ok-eq0.ensures.count (c.in-Ok-eq0.ensures.given told)) (c.refill.ensures.kept told)
     (little_newest c.replies_are_read_short.ensures.final_head c.replies_are_read_short.ensures.heads c.replies_are_read_short.ensures.not_final c.replies_are_read_short.ensures.slices
     parts before _ used self.course bytes c.refill.new.self c.most_asked.result (omega (arith, c.in-Ok-eq0.ensures.count, c.in-Ok-eq0.ensures.most)) (omega (arith, c.in-Ok-eq0.ensures.count, c.in-Ok-eq0.ensures.most, c.most_asked.ensures.few))
@@ -78,7 +78,7 @@ pub returns-in-Ok-clause-answered : goal.returns-in-Ok-clause-answered
 returns-in-Ok-clause-answered g c told parts before used bytes is gains =
     let self = c.args.self.now in
     answered_received before _ _ c.refill.new.self
-    (sent_later parts before _ used self.course bytes self.room.inbox self.stage is.reading c.requires.sent gains)
+    (sent_later parts before _ used self.course bytes self.room.inbox self.stage is.reading c.requires.sent gains) (c.requires.listens told)
     (c.in-Ok.ensures.received told) (comes_due _ c.refill.new.self _ _ c.in-Ok.ensures.count (c.in-Ok.ensures.given told)) (c.refill.ensures.kept told)
     (little_newest c.replies_are_read_short.ensures.final_head c.replies_are_read_short.ensures.heads c.replies_are_read_short.ensures.not_final c.replies_are_read_short.ensures.slices
     parts before _ used self.course bytes c.refill.new.self c.most_asked.result (omega (arith, c.in-Ok.ensures.count, c.in-Ok.ensures.most)) (omega (arith, c.in-Ok.ensures.count, c.in-Ok.ensures.most, c.most_asked.ensures.few))
@@ -86,8 +86,8 @@ returns-in-Ok-clause-answered g c told parts before used bytes is gains =
 
 pub returns-in_err-check-in-Err-clause-answered : goal.returns-in_err-check-in-Err-clause-answered
 returns-in_err-check-in-Err-clause-answered g c told parts before used bytes is gains =
-    answered_still before _ _ (c.refill.ensures.kept told) (c.in-Err.ensures.failed told) (c.in-Err.ensures.held told)
+    answered_still before _ _ (c.requires.listens told) (c.refill.ensures.kept told) (c.in-Err.ensures.failed told) (c.in-Err.ensures.held told)
 
 pub returns-in_ok-check-in-Err-clause-answered : goal.returns-in_ok-check-in-Err-clause-answered
 returns-in_ok-check-in-Err-clause-answered g c told parts before used bytes is gains =
-    answered_still before _ _ (c.refill.ensures.kept told) (c.in-Err.ensures.failed told) (c.in-Err.ensures.held told)
+    answered_still before _ _ (c.requires.listens told) (c.refill.ensures.kept told) (c.in-Err.ensures.failed told) (c.in-Err.ensures.held told)

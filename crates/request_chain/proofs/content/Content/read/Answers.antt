@@ -12,4 +12,4 @@ returns-clause-reads c = λ asked received got is.
     (λ added grown small.
     let long = length-append c.args.out.now.items added in
     let grew = ap length grown in
-    omega (arith, c.saturating_add-self.ensures, c.saturating_sub-gained.ensures, c.len.ensures, c.len-before.ensures)))
+    omega (arith, c.saturating_add-self.ensures, c.saturating_sub-gained.ensures, c.len.ensures, c.len-before.ensures)) refl c.count_on-behind.ensures)

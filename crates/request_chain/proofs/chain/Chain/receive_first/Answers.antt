@@ -1,0 +1,73 @@
+use Rattle.std.proofs.Common.{List, ℕ, refl, sym, ap, subst, ◌∙◌, arith}
+use Rattle.std.proofs.lemmas.Result.{err_from_is_err_and}
+use Rattle.link_source.specs.Exchanges.{with_received}
+use Rattle.request_chain.specs.Stages.{IsReading}
+use Rattle.request_chain.proofs.AnsweredLemmas.{answered_received, answered_still, comes_due, sent_later}
+use Rattle.request_chain.proofs.Little.{little_newest}
+use Rattle.request_chain.proofs.TurnLemmas.{no_bytes, unchecked_still, link_loses}
+use Rattle.request_chain.proofs.VainLemmas.{first_vain, first_heard, unheard_behind, unheard_sent}
+use Rattle.request_chain.proofs.chain.Chain.receive_first.Goals as goal
+
+pub returns-in-Ok-eq0-clause-receives : goal.returns-in-Ok-eq0-clause-receives
+returns-in-Ok-eq0-clause-receives g c told parts before used bytes is gains =
+    let self = c.args.self.now in
+    let none = no_bytes c.refill.new.self (sym c.in-Ok-eq0.ensures.count ∙ c.in-Ok-eq0.field-0-test) in
+    let ended = c.in-Ok-eq0.ensures.received told ∙ ap (λ came. with_received came (g.L.Links.state c.args.link.now).exchanges) none in
+    let later = first_vain parts before used _ _ self.course bytes self.room.inbox self.stage c.requires.sent is.reading gains ended in
+    record { later = later.0; gains = later.1; taken_is = omega (arith, later.2); reading = (later.3, none) }
+
+pub returns-in-Ok-clause-receives : goal.returns-in-Ok-clause-receives
+returns-in-Ok-clause-receives g c told parts before used bytes is gains =
+    let self = c.args.self.now in
+    let refilled = c.in-Ok.ensures in
+    let later = first_heard parts before used _ _ self.course bytes self.room.inbox self.stage c.requires.sent is.reading c.refill.new.self (omega (arith, refilled.count)) gains
+    (refilled.received told) c.new.result c.new.ensures.at in
+    record { later = later.0; gains = later.1; taken_is = omega (arith, later.2, refilled.count); reading = later.3 }
+
+pub returns-in_err-check-in-Err-clause-receives : goal.returns-in_err-check-in-Err-clause-receives
+returns-in_err-check-in-Err-clause-receives g c told parts before used bytes is gains =
+    let p = err_from_is_err_and c.from_residual.result c.from_residual.ensures.1 in
+    let self = c.args.self.now in
+    let P : List ℕ → Type 0 = λ waiting. IsReading self.stage self.course waiting parts used bytes in
+    let reading = subst P (unheard_behind self.stage self.room.inbox c.requires.sent is.behind) is.reading in
+    rw (p.1, p.2) (unchecked_still parts before used _ _ self.course bytes _ _ _ refl self.stage _ c.in_err-check-in-Err.ensures.lost reading gains (c.in-Err.ensures.failed told))
+
+pub returns-in_ok-check-in-Err-clause-receives : goal.returns-in_ok-check-in-Err-clause-receives
+returns-in_ok-check-in-Err-clause-receives g c told parts before used bytes is gains =
+    let self = c.args.self.now in
+    let P : List ℕ → Type 0 = λ waiting. IsReading self.stage self.course waiting parts used bytes in
+    let reading = subst P (unheard_behind self.stage self.room.inbox c.requires.sent is.behind) is.reading in
+    link_loses parts before used _ _ self.course bytes _ _ _ refl c.in-Err.error _ self.stage c.link_loss.ensures.loss reading c.in_ok-check-in-Err.ensures.due
+    (unheard_sent self.stage c.requires.sent) gains (c.in-Err.ensures.failed told)
+
+pub returns-in-Ok-eq0-clause-answered : goal.returns-in-Ok-eq0-clause-answered
+returns-in-Ok-eq0-clause-answered g c told parts before used bytes is gains =
+    let self = c.args.self.now in
+    let P : List ℕ → Type 0 = λ waiting. IsReading self.stage self.course waiting parts used bytes in
+    let reading = subst P (unheard_behind self.stage self.room.inbox c.requires.sent is.behind) is.reading in
+    answered_received before _ _ c.refill.new.self
+    (sent_later parts before _ used self.course bytes self.room.inbox self.stage is.reading (unheard_sent self.stage c.requires.sent) gains) (c.requires.listens told)
+    (c.in-Ok-eq0.ensures.received told) (comes_due _ c.refill.new.self _ _ c.in-Ok-eq0.ensures.count (c.in-Ok-eq0.ensures.given told)) (c.refill.ensures.kept told)
+    (little_newest c.replies_are_read_short.ensures.final_head c.replies_are_read_short.ensures.heads c.replies_are_read_short.ensures.not_final c.replies_are_read_short.ensures.slices
+    parts before _ used self.course bytes c.refill.new.self c.most_asked.result (omega (arith, c.in-Ok-eq0.ensures.count, c.in-Ok-eq0.ensures.most)) (omega (arith, c.in-Ok-eq0.ensures.count, c.in-Ok-eq0.ensures.most, c.most_asked.ensures.few))
+    self.stage c.most_asked.ensures.head (unheard_sent self.stage c.requires.sent) reading gains)
+
+pub returns-in-Ok-clause-answered : goal.returns-in-Ok-clause-answered
+returns-in-Ok-clause-answered g c told parts before used bytes is gains =
+    let self = c.args.self.now in
+    let P : List ℕ → Type 0 = λ waiting. IsReading self.stage self.course waiting parts used bytes in
+    let reading = subst P (unheard_behind self.stage self.room.inbox c.requires.sent is.behind) is.reading in
+    answered_received before _ _ c.refill.new.self
+    (sent_later parts before _ used self.course bytes self.room.inbox self.stage is.reading (unheard_sent self.stage c.requires.sent) gains) (c.requires.listens told)
+    (c.in-Ok.ensures.received told) (comes_due _ c.refill.new.self _ _ c.in-Ok.ensures.count (c.in-Ok.ensures.given told)) (c.refill.ensures.kept told)
+    (little_newest c.replies_are_read_short.ensures.final_head c.replies_are_read_short.ensures.heads c.replies_are_read_short.ensures.not_final c.replies_are_read_short.ensures.slices
+    parts before _ used self.course bytes c.refill.new.self c.most_asked.result (omega (arith, c.in-Ok.ensures.count, c.in-Ok.ensures.most)) (omega (arith, c.in-Ok.ensures.count, c.in-Ok.ensures.most, c.most_asked.ensures.few))
+    self.stage c.most_asked.ensures.head (unheard_sent self.stage c.requires.sent) reading gains)
+
+pub returns-in_err-check-in-Err-clause-answered : goal.returns-in_err-check-in-Err-clause-answered
+returns-in_err-check-in-Err-clause-answered g c told parts before used bytes is gains =
+    answered_still before _ _ (c.requires.listens told) (c.refill.ensures.kept told) (c.in-Err.ensures.failed told) (c.in-Err.ensures.held told)
+
+pub returns-in_ok-check-in-Err-clause-answered : goal.returns-in_ok-check-in-Err-clause-answered
+returns-in_ok-check-in-Err-clause-answered g c told parts before used bytes is gains =
+    answered_still before _ _ (c.requires.listens told) (c.refill.ensures.kept told) (c.in-Err.ensures.failed told) (c.in-Err.ensures.held told)
