@@ -8,9 +8,10 @@ ghost use Rattle.durable_progress.specs.HeldSteps.{HeldAreHeldStill, IsHeldNow, 
 ghost use Rattle.payload_files.specs.Payload.{HasFiles};
 ghost use Rattle.resume_core.specs.Causes.{HasStoreCause};
 ghost use Rattle.resume_core.specs.Openings.{KeepsBesides};
-ghost use Rattle.resume_core.specs.Runs.{HoldsRun, run_len};
+ghost use Rattle.resume_core.specs.Runs.{HoldsRun, TornRun, run_len};
+ghost use Rattle.resume_core.specs.States.{SamePayload, StaysSound};
 ghost use Rattle.resume_core.specs.Steps.{AreFinished};
-ghost use Rattle.resume_core.specs.Tables.{IsTableOf};
+ghost use Rattle.resume_core.specs.Tables.{IsTableOf, MatchesTable};
 ghost use Rattle.resume_core.specs.declared.fault.StoreErr.TheVariants.{NoMemory};
 ghost use Rattle.span_map.specs.Jobs.{IsRun};
 
@@ -44,6 +45,10 @@ pub fn save_held<D: Disk>(
     ensures besides { IsTrue D.tells → KeepsBesides want.now (D.state disk.old) (D.state disk.new) }
     ensures others { IsTrue D.tells
         → OthersStaySound want.now (D.state disk.old) (D.state disk.new) }
+    ensures payload { IsTrue D.tells
+        → SamePayload want.now (D.state disk.old) (D.state disk.new) }
+    ensures sound { IsTrue D.tells → MatchesTable want.now table.now (D.state disk.old).seen
+        → StaysSound want.now (D.state disk.old) (D.state disk.new) }
     ensures cause { HasStoreCause (D.faults disk.old) (D.faults disk.new) result }
 {
     plan_laws();
@@ -74,6 +79,10 @@ pub fn write_held<D: Disk>(
     ensures besides { IsTrue D.tells → KeepsBesides want.now (D.state disk.old) (D.state disk.new) }
     ensures others { IsTrue D.tells
         → OthersStaySound want.now (D.state disk.old) (D.state disk.new) }
+    ensures torn { IsTrue D.tells
+        → TornRun want.now run (D.state disk.old).seen (D.state disk.new).seen }
+    ensures sound { IsTrue D.tells
+        → StaysSound want.now (D.state disk.old) (D.state disk.new) }
     ensures cause { HasStoreCause (D.faults disk.old) (D.faults disk.new) result }
 {
     plan_laws();
@@ -96,6 +105,10 @@ pub fn finish_held<D: Disk>(alloc: Global, disk: &mut D, want: &Want) -> Result<
     ensures besides { IsTrue D.tells → KeepsBesides want.now (D.state disk.old) (D.state disk.new) }
     ensures others { IsTrue D.tells
         → OthersStaySound want.now (D.state disk.old) (D.state disk.new) }
+    ensures payload { IsTrue D.tells
+        → SamePayload want.now (D.state disk.old) (D.state disk.new) }
+    ensures sound { IsTrue D.tells
+        → StaysSound want.now (D.state disk.old) (D.state disk.new) }
     ensures cause { HasStoreCause (D.faults disk.old) (D.faults disk.new) result }
 {
     finish(alloc, disk, want)

@@ -1,10 +1,10 @@
 -- The files of a want with their lengths.
-use Rattle.std.proofs.Common.{◌≡◌, ◌∙◌, ℕ, ◌-◌, ◌<◌, ◌≤◌, suc, List, [], ◌∷◌, ◌++◌, length, map, take, drop, get_or, replicate, Option, Some, None, sym, subst, refl, ap, arith}
+use Rattle.std.proofs.Common.{◌≡◌, ◌∙◌, ℕ, ◌-◌, ◌<◌, suc, List, [], ◌∷◌, ◌++◌, length, map, take, drop, get_or, replicate, Option, Some, None, sym, subst, refl, ap, arith}
 use Rattle.std.specs.Prelude.{IsSomeAnd, option_map}
 use Rattle.std.specs.List.{AllByRecursion}
-use Rattle.std.proofs.lemmas.List.{append-nil, take_all, same_lists}
+use Rattle.std.proofs.lemmas.List.{append-nil, take_all}
 use Rattle.std.proofs.lemmas.List.Elements.{recursion_from_All, All-from_recursion}
-use Rattle.dl_disk.specs.Files.{Files, IsSame, file_bytes, lengthened, resized}
+use Rattle.dl_disk.specs.Files.{Files, file_bytes, resized}
 use Rattle.dl_kinds.specs.Plan.{piece_start, piece_end}
 use Rattle.span_map.specs.declared.files.FileLen.{FileLen}
 use Rattle.payload_files.specs.Changes.{Stretches}

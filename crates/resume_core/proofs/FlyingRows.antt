@@ -1,5 +1,5 @@
 -- Rows of the blocks that have come of pieces in flight.
-use Rattle.std.proofs.Common.{◌≡◌, ◌↔◌, ◌⊎◌, inl, inr, ⊎_elim, ◌∙◌, ℕ, ◌+◌, ◌*◌, ◌<◌, ◌≤◌, Bool, true, false, List, length, set, slice_get, Some, sym, subst, refl, ap, arith}
+use Rattle.std.proofs.Common.{◌≡◌, ◌↔◌, ◌⊎◌, inl, inr, ⊎_elim, ◌∙◌, ℕ, ◌+◌, ◌*◌, ◌<◌, Bool, true, false, List, length, set, slice_get, Some, sym, ap, arith}
 use Rattle.std.proofs.lemmas.Bool.{cases_eq}
 use Rattle.dl_kinds.specs.Plan.{full_blocks, piece_of, place_of, IsNumber}
 use Rattle.piece_table.proofs.Landing.{slice_get-set_same, slice_get-set_other}

@@ -1,5 +1,5 @@
 -- Causes of errors that are handed on.
-use Rattle.std.proofs.Common.{◌≡◌, ◌∙◌, ℕ, Some, sym, subst, refl, arith}
+use Rattle.std.proofs.Common.{◌≡◌, ◌∙◌, ℕ, Some, subst, refl, arith}
 use Rattle.std.specs.Prelude.{Result, Ok, Err, IsErrAnd, IfErr}
 use Rattle.dl_words.specs.Counts.{Rose}
 use Rattle.dl_kinds.specs.Causes.{HasCause}
@@ -13,7 +13,6 @@ use Rattle.resume_core.specs.Refusals.{IsRefusal, RefusesJust, open_refusal}
 use Rattle.resume_core.specs.declared.fault.StoreErr.{StoreErr}
 use Rattle.resume_core.specs.declared.fault.StoreErr.TheVariants.{Disk, NoMemory}
 use Rattle.resume_core.specs.declared.refusing.OpenErr.{OpenErr}
-use Rattle.resume_core.specs.declared.refusing.OpenErr.TheVariants.{Disk as Unopened, NoMemory as NoRoom}
 
 pub store_cause_moved : {T U : Type 0} (start before now : ℕ) (e : StoreErr) (result : Result T StoreErr)
     → HasStoreCause {T = U} before now (Err e) → before ≡ start → IsErrAnd result (λ f. f ≡ e)

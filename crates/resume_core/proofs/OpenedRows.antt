@@ -1,32 +1,29 @@
 -- The rows with which a download is opened say what its files give.
-use Rattle.std.proofs.Common.{◌≡◌, ◌↔◌, ◌⊎◌, inl, inr, ⊎_elim, ◌∙◌, ℕ, ◌+◌, ◌*◌, ◌<◌, ◌≤◌, Bool, true, false, ◌&&◌, ◌||◌, not, List, length, get_or, slice_get, ◌++◌, [], ◌∷◌, replicate, take, Option, Some, None, sym, subst, refl, ap, arith}
-use Rattle.std.specs.Prelude.{IsSome, IsTrue, is_some, Contains, IfSome, if◌then◌else◌, ◌==◌}
-use Rattle.std.proofs.lemmas.Bool.{cases_eq, eqb-true, false≢true}
+use Rattle.std.proofs.Common.{◌≡◌, ◌↔◌, ◌⊎◌, inl, inr, ⊎_elim, ◌∙◌, ℕ, ◌+◌, ◌*◌, ◌<◌, ◌≤◌, Bool, true, false, ◌&&◌, not, List, length, get_or, slice_get, ◌++◌, [], ◌∷◌, replicate, take, Option, Some, None, sym, subst, refl, ap, arith}
+use Rattle.std.specs.Prelude.{is_some, Contains, IfSome, if◌then◌else◌, ◌==◌}
+use Rattle.std.proofs.lemmas.Bool.{eqb-true, false≢true}
 use Rattle.std.proofs.lemmas.List.{length-replicate, take_more}
 use Rattle.std.proofs.lemmas.List.Elements.{All-contains, Contains-append_left, Contains-push, Contains-push_cases}
 use Rattle.std.proofs.lemmas.Nat.{div-add-mod'}
-use Rattle.std.proofs.lemmas.Option.{slice_get-get_or, slice_get_within, get_or_from_slice_get}
+use Rattle.std.proofs.lemmas.Option.{slice_get_within, get_or_from_slice_get}
 use Rattle.std.specs.Str.{bytes_eq}
 use Rattle.dl_disk.specs.Files.{Files}
 use Rattle.dl_kinds.specs.Plan.{pieces_of, blocks_of, blocks_of_piece, full_blocks, piece_of, place_of, piece_start, piece_end, block_start, block_end}
-use Rattle.dl_kinds.proofs.Cuts.{blocks_within, piece_within, place_within, number}
-use Rattle.piece_table.specs.Progress.{IsStart, IsFull, piece_part}
+use Rattle.dl_kinds.proofs.Cuts.{blocks_within, number}
+use Rattle.piece_table.specs.Progress.{IsStart, piece_part}
 use Rattle.piece_table.proofs.Parts.{length-part}
-use Rattle.control_file.specs.Reading.{control_in}
 use Rattle.control_file.specs.Spelling.{IsInFlight, IsReadableControl}
 use Rattle.control_file.specs.declared.control.Control.{Control}
 use Rattle.control_file.specs.declared.control.InFlight.{InFlight}
 use Rattle.control_file.specs.declared.want.Want.{Want}
-use Rattle.control_file.specs.declared.want.Opened.{Opened}
-use Rattle.resume_core.specs.Found.{Found, Absent, Refused, Used, found, found_in, hash_bytes, is_control_of, judged, IsBlockInFlight, ListsPiece, ListsInFlight}
-use Rattle.resume_core.specs.Lens.{lens_in, lens_of, SpanStands, PieceStands, BlockStands}
-use Rattle.resume_core.specs.Listing.{PieceListed, BlockListed}
-use Rattle.resume_core.specs.Openings.{MatchesPiece, OpensPiece, OpensBlock, OpensJust, AreOpenedRows}
+use Rattle.resume_core.specs.Found.{Found, Absent, Refused, Used, found, hash_bytes, is_control_of, judged, IsBlockInFlight, ListsInFlight}
+use Rattle.resume_core.specs.Lens.{lens_in, PieceStands, BlockStands}
+use Rattle.resume_core.specs.Openings.{MatchesPiece, OpensPiece, OpensBlock, OpensJust}
 use Rattle.resume_core.specs.Refusals.{foreign}
-use Rattle.resume_core.specs.Resume.{ReachesPiece, ReachesBlock, HasDigest, PieceResumed, BlockResumed, ResumesPiece, ResumesBlock, IsHashed}
-use Rattle.resume_core.specs.Rows.{IsRowWhere, ListedStands, IsBlockIn, IsBlockOfOne, BlockGiven, IsOurControl, IsControlOf, IsListedPiece, IsFlyingBlock, hashes, ListsNothing, IsSurvey}
+use Rattle.resume_core.specs.Resume.{ReachesPiece, ReachesBlock, PieceResumed, ResumesPiece, ResumesBlock}
+use Rattle.resume_core.specs.Rows.{IsRowWhere, IsBlockIn, IsBlockOfOne, BlockGiven, IsOurControl, IsControlOf, IsListedPiece, IsFlyingBlock, hashes, ListsNothing, IsSurvey}
 use Rattle.resume_core.specs.Tables.{ListsJust}
-use Rattle.control_file.specs.Wants.{IsWant, IsListedWant}
+use Rattle.control_file.specs.Wants.{IsWant}
 use Rattle.resume_core.specs.Wants.{control_name, files_in}
 use Rattle.resume_core.specs.declared.refusing.OpenErr.{OpenErr}
 use Rattle.resume_core.specs.declared.refusing.OpenErr.TheVariants.{InfoHash, Length, PieceLength}

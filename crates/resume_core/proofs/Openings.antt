@@ -1,6 +1,6 @@
 -- What the steps of an opening do to a disk, one after the other.
-use Rattle.std.proofs.Common.{◌≡◌, ◌≤◌, ◌⊎◌, inl, inr, ⊎_elim, ◌∙◌, ℕ, List, Bool, true, false, Option, Some, None, sym, subst, refl, ap, arith}
-use Rattle.std.specs.Prelude.{IsSome, IsTrue, slice_get, Result, Ok, Err, if◌then◌else◌}
+use Rattle.std.proofs.Common.{◌≡◌, ◌≤◌, inl, inr, ⊎_elim, ◌∙◌, ℕ, List, Bool, true, false, Option, Some, None, sym, subst, refl, ap, arith}
+use Rattle.std.specs.Prelude.{IsSome, slice_get, Result, Ok, Err, if◌then◌else◌}
 use Rattle.sha1.specs.Sha1.{sha1}
 use Rattle.dl_disk.specs.Files.{Files, IsSame}
 use Rattle.dl_disk.specs.Passes.{Passes, Performs, passes_none, passes_more, passes_wider, present, since_split}
@@ -16,9 +16,9 @@ use Rattle.control_file.specs.declared.fields.ByteOrder.TheVariants.{Big}
 use Rattle.control_file.specs.declared.want.Want.{Want}
 use Rattle.control_file.specs.declared.want.Opened.{Opened}
 use Rattle.resume_core.specs.Found.{Found, Refused, Used, ControlStands, found, found_in, is_control_of, judged, ListsPiece, ListsInFlight}
-use Rattle.resume_core.specs.Listing.{MatchesListed, BlockListed}
-use Rattle.resume_core.specs.Openings.{FitsPayload, KeepsBesides, KeepsSound, KeepsGiven, GivesMoreOrOpened, GivesOpened, HasControl, HaveControl, MatchesOpened, IsOpenedIn, AreOpenedIn}
-use Rattle.resume_core.specs.Resume.{Sound, Agrees, AreSound, GivesAtLeast, ResumesPiece, ResumesBlock, PieceResumed, BlockResumed, byte_at}
+use Rattle.resume_core.specs.Listing.{MatchesListed}
+use Rattle.resume_core.specs.Openings.{FitsPayload, KeepsBesides, KeepsSound, KeepsGiven, GivesMoreOrOpened, GivesOpened, HaveControl, MatchesOpened, AreOpenedIn}
+use Rattle.resume_core.specs.Resume.{Sound, Agrees, AreSound, GivesAtLeast, ResumesPiece, ResumesBlock, PieceResumed, BlockResumed}
 use Rattle.resume_core.specs.Rows.{ListsNothing}
 use Rattle.resume_core.specs.SaveLaws.{SavesListing}
 use Rattle.resume_core.specs.States.{SamePayload}
@@ -31,7 +31,7 @@ use Rattle.resume_core.proofs.Filed.{files_kept}
 use Rattle.resume_core.proofs.Fitted.{has_same}
 use Rattle.resume_core.proofs.Same.{give_same, sound_same, agrees_same, agrees_seen}
 use Rattle.resume_core.proofs.Saved.{written_is_used, gives_just, sound_saved, agrees_saved}
-use Rattle.resume_core.proofs.Saving.{gives_either, sound_either, agrees_either}
+use Rattle.resume_core.proofs.Saving.{sound_either, agrees_either}
 use Rattle.resume_core.proofs.Savings.{files_put}
 use Rattle.resume_core.proofs.Stretched.{still_piece, still_block, sound_still, agrees_still, block_reached}
 use Rattle.resume_core.proofs.Stretching.{kept}

@@ -1,23 +1,21 @@
 -- An opening as a whole: what was looked up, and then what was written.
-use Rattle.std.proofs.Common.{◌≡◌, ◌↔◌, ◌⊎◌, inl, inr, ⊎_elim, ◌∙◌, ℕ, ◌<◌, Bool, true, false, ◌&&◌, ◌||◌, not, List, length, Option, Some, None, sym, subst, refl, ap, arith}
-use Rattle.std.specs.Prelude.{IsSome, IsTrue, is_some, slice_get}
+use Rattle.std.proofs.Common.{◌≡◌, inr, ⊎_elim, ◌∙◌, ℕ, Bool, true, false, ◌&&◌, not, List, Option, Some, None, sym, subst, refl, ap, arith}
+use Rattle.std.specs.Prelude.{IsSome, is_some, slice_get}
 use Rattle.std.proofs.lemmas.Bool.{false≢true}
 use Rattle.std.proofs.lemmas.Option.{slice_get_within}
-use Rattle.dl_disk.specs.Calls.{Stays}
 use Rattle.dl_disk.specs.Files.{Files, IsSame}
 use Rattle.dl_disk.specs.Passes.{since_split}
-use Rattle.dl_disk.specs.State.{DiskState, LeftSince}
-use Rattle.dl_kinds.specs.Plan.{blocks_of, piece_of}
+use Rattle.dl_disk.specs.State.{DiskState}
+use Rattle.dl_kinds.specs.Plan.{piece_of}
 use Rattle.payload_files.specs.Payload.{HasFiles}
-use Rattle.sha1.specs.Sha1.{sha1}
 use Rattle.control_file.specs.declared.control.Control.{Control}
 use Rattle.control_file.specs.declared.want.Want.{Want}
 use Rattle.control_file.specs.declared.want.Opened.{Opened}
-use Rattle.resume_core.specs.Found.{Found, Absent, found, found_in, ListsInFlight}
-use Rattle.resume_core.specs.Openings.{KeepsBesides, KeepsSound, KeepsGiven, KeepsPieces, GivesPieces, GivesMoreOrOpened, GivesOpened, HasControl, LacksControl, MatchesOpened, MatchesPiece, OpensPiece, OpensBlock, OpensJust, LooksPast, is_compared}
-use Rattle.resume_core.specs.Resume.{Sound, AreSound, ResumesPiece, ResumesBlock, PieceResumed, BlockResumed, GivesAtLeast}
+use Rattle.resume_core.specs.Found.{Found, Absent, found}
+use Rattle.resume_core.specs.Openings.{KeepsBesides, KeepsSound, KeepsGiven, KeepsPieces, GivesMoreOrOpened, HasControl, LacksControl, MatchesOpened, MatchesPiece, OpensJust, LooksPast, is_compared}
+use Rattle.resume_core.specs.Resume.{Sound, ResumesPiece, ResumesBlock, PieceResumed, BlockResumed}
 use Rattle.resume_core.specs.Rows.{IsSurvey, IsOurControl, StoodOrWhole, hashes}
-use Rattle.resume_core.specs.Steps.{SameFor, SameBesides}
+use Rattle.resume_core.specs.Steps.{SameBesides}
 use Rattle.control_file.specs.Wants.{IsWant, IsListedWant}
 use Rattle.resume_core.specs.Wants.{control_name, files_in}
 use Rattle.resume_core.specs.declared.surveying.Survey.{Survey}

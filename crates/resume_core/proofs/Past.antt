@@ -1,15 +1,15 @@
 -- Calls that change nothing, and read none of some files.
-use Rattle.std.proofs.Common.{◌≡◌, ◌≢◌, ◌∙◌, ℕ, List, refl}
+use Rattle.std.proofs.Common.{◌≢◌, ◌∙◌, ℕ, List, refl}
 use Rattle.std.specs.Prelude.{Result}
 use Rattle.dl_kinds.specs.declared.outside.IoErr.{IoErr}
-use Rattle.dl_disk.specs.Calls.{Stays, Looks, LooksInto}
+use Rattle.dl_disk.specs.Calls.{Looks, LooksInto}
 use Rattle.dl_disk.specs.Files.{IsSame}
 use Rattle.dl_disk.specs.Passes.{passes_none, passes_more, passes_look, passes_look_into}
 use Rattle.dl_disk.specs.State.{DiskState}
 use Rattle.span_map.specs.declared.files.FileLen.{FileLen}
 use Rattle.payload_files.specs.Names.{IsOther}
 use Rattle.payload_files.specs.Reading.{ReadsOnly}
-use Rattle.resume_core.specs.Openings.{LooksPast, AnyFile}
+use Rattle.resume_core.specs.Openings.{LooksPast}
 
 pub past_none : (passed : List ℕ → Type 0) (a : DiskState) → LooksPast passed a a
 past_none passed a = record {

@@ -1,11 +1,11 @@
 -- A byte of the payload stands just where the length of its file reaches behind it.
-use Rattle.std.proofs.Common.{◌≡◌, ◌↔◌, ◌∙◌, inl, inr, ⊎_elim, ℕ, ◌+◌, ◌-◌, ◌<◌, ◌≤◌, suc, max, min, Bool, true, false, cond, List, [], ◌∷◌, ◌++◌, length, map, get_or, slice_get, Option, Some, None, sym, subst, refl, ap, arith}
+use Rattle.std.proofs.Common.{◌≡◌, ◌↔◌, ◌∙◌, inl, inr, ℕ, ◌+◌, ◌-◌, ◌<◌, ◌≤◌, suc, max, min, false, List, [], ◌∷◌, ◌++◌, length, get_or, slice_get, Option, Some, None, sym, subst, refl, ap, arith}
 use Rattle.std.specs.Prelude.{IsSome, IsSomeAnd, IsTrue, All, unwrap_or, option_map, nat_lt}
 use Rattle.std.proofs.lemmas.Bool.{cases_lt, lt-ltb, le-ltb}
 use Rattle.std.proofs.lemmas.List.Elements.{All-head, All-tail, All-cons, All-nil}
 use Rattle.std.proofs.lemmas.List.Sums.{sum_by-cons}
 use Rattle.std.proofs.lemmas.Option.{slice_get-get_or, slice_get_past}
-use Rattle.dl_disk.specs.Files.{Files, file_bytes}
+use Rattle.dl_disk.specs.Files.{file_bytes}
 use Rattle.span_map.specs.Layout.{total_of}
 use Rattle.span_map.specs.Slices.{parts_from, slice_of}
 use Rattle.span_map.specs.declared.files.FileLen.{FileLen}

@@ -1,5 +1,5 @@
 -- What was looked up of a want stands still where nothing changes.
-use Rattle.std.proofs.Common.{◌≡◌, ◌∙◌, ℕ, List, [], ◌∷◌, ◌++◌, length, map, take, arith, Option, Some, None, sym, subst, refl, ap}
+use Rattle.std.proofs.Common.{◌≡◌, ◌∙◌, ℕ, List, [], ◌∷◌, ◌++◌, length, take, arith, Option, Some, None, sym, subst, refl, ap}
 use Rattle.std.specs.Prelude.{option_map, IfErr, Result, Ok, Err}
 use Rattle.std.proofs.lemmas.List.{take-append-le, take_all}
 use Rattle.std.proofs.lemmas.Option.{same_Some}
@@ -10,7 +10,7 @@ use Rattle.control_file.specs.declared.control.Control.{Control}
 use Rattle.control_file.specs.declared.want.Want.{Want}
 use Rattle.resume_core.specs.Refusals.{in_the_way, refused_over, control_refusal}
 use Rattle.resume_core.specs.declared.refusing.OpenErr.{OpenErr}
-use Rattle.resume_core.specs.Lens.{lens_in, lens_of_files}
+use Rattle.resume_core.specs.Lens.{lens_of_files}
 use Rattle.resume_core.specs.Rows.{IsSurvey, IsOurControl}
 use Rattle.resume_core.specs.Wants.{control_name}
 use Rattle.resume_core.specs.declared.surveying.Survey.{Survey}

@@ -1,8 +1,6 @@
 -- Where a store keeps a download.
-use Rattle.std.specs.Prelude.{◌≡◌, ℕ, List, [], ◌∷◌, ◌++◌, length, map, codes, Option, None, IfSome, All, IsSome}
+use Rattle.std.specs.Prelude.{ℕ, List, [], ◌∷◌, ◌++◌, map, codes, Option}
 use Rattle.dl_disk.specs.Files.{Files}
-use Rattle.dl_kinds.specs.Plan.{IsPlan, pieces_of}
-use Rattle.span_map.specs.Layout.{IsLayout, total_of}
 use Rattle.payload_files.specs.Names.{name_of}
 use Rattle.control_file.specs.declared.want.Want.{Want}
 

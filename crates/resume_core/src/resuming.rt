@@ -4,7 +4,7 @@ ghost use Rattle.dl_disk.specs.Calls.{Stays};
 ghost use Rattle.payload_files.specs.Names.{HasFolders, KeepsFolders};
 ghost use Rattle.payload_files.specs.Payload.{HasFiles};
 ghost use Rattle.resume_core.specs.Openings.{AreOpenedIn, AreOpenedRows, FitsPayload, HasControl, HasOpenCause, IsNoControl, KeepsBesides, KeepsGiven, KeepsPieces, LacksControl, OpensJust, ReadsNoPayload, ReadsOnlyOwn, is_compared};
-ghost use Rattle.resume_core.specs.Refusals.{IsRefusal, RefusesJust};
+ghost use Rattle.resume_core.specs.Refusals.{IsRefusal, RefusesJust, TellsWant};
 ghost use Rattle.resume_core.specs.Resume.{AreSound};
 ghost use Rattle.resume_core.specs.States.{StaysSound};
 ghost use Rattle.control_file.specs.Wants.{IsWant};
@@ -31,6 +31,7 @@ pub fn resume<D: Disk>(
     ensures refuses { IsTrue D.tells → RefusesJust want.now (D.state disk.old).seen result }
     ensures refused { IfErr result (λ err. IsTrue D.tells → IsRefusal err
         → Stays (D.state disk.old) (D.state disk.new)) }
+    ensures told { IfErr result (TellsWant want.now) }
 
     // It is opened with what the disk's own files give, or with the pieces that match.
     ensures rows { IfOk result (AreOpenedRows want.now) }

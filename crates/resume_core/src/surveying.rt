@@ -6,7 +6,7 @@ ghost use Rattle.std.specs.Str.{bytes_eq};
 ghost use Rattle.resume_core.specs.Found.{hash_bytes};
 ghost use Rattle.resume_core.specs.Lens.{first_len};
 ghost use Rattle.resume_core.specs.Openings.{HasOpenCause, IsNoControl, LooksPast};
-ghost use Rattle.resume_core.specs.Refusals.{IsRefusal, RefusesJust, foreign, in_the_way, refused_over, control_refusal};
+ghost use Rattle.resume_core.specs.Refusals.{IsRefusal, RefusesJust, TellsWant, control_refusal, foreign, in_the_way, refused_over};
 ghost use Rattle.resume_core.specs.Rows.{IsControlOf, IsSurvey, IsOurControl};
 ghost use Rattle.control_file.specs.Wants.{IsWant};
 ghost use Rattle.resume_core.specs.Wants.{control_name};
@@ -59,6 +59,7 @@ fn compare(want: &Want, control: &Control) -> Result<(), OpenErr>
     requires { IsWant want.now }
     ensures same { OnOk result (foreign want.now control.now ≡ None) }
     ensures differs { IfErr result (λ err. foreign want.now control.now ≡ Some err) }
+    ensures told { IfErr result (TellsWant want.now) }
 {
     if !has_hash(want, control) {
         return Err(OpenErr::InfoHash);
@@ -85,6 +86,7 @@ fn control_of_bytes(alloc: Global, want: &Want, bytes: &[u8]) -> Result<Control,
     ensures rules { IfOk result (IsControlOf want.now) }
     ensures refused { IfErr result (λ err. IsRefusal err
         → control_refusal want.now (control_in bytes.now) ≡ Some err) }
+    ensures told { IfErr result (TellsWant want.now) }
     ensures no_fault { IfErr result (λ err. err ≢ Unopened) }
 {
     let control = Control::read(alloc, bytes)?;
@@ -107,6 +109,7 @@ fn read_control<D: Disk>(
         → (standing : Option ℕ)
         → refused_over want.now ((D.state disk.old).seen (control_name want.now)) standing
         ≡ Some err) }
+    ensures told { IfErr result (TellsWant want.now) }
     ensures rules { IfOk result (λ control. IfSome control (IsControlOf want.now)) }
     ensures looks { IsTrue D.tells
         → LooksPast (IsNoControl want.now) (D.state disk.old) (D.state disk.new) }
@@ -125,6 +128,7 @@ fn guarded(want: &Want, control: Option<Control>, lens: Vec<Option<u64>>) -> Res
         → in_the_way want.now (first_len lens.items) ≡ None) }
     ensures stands { IfErr result (λ err. control ≡ None) }
     ensures refused { IfErr result (λ err. in_the_way want.now (first_len lens.items) ≡ Some err) }
+    ensures told { IfErr result (TellsWant want.now) }
     ensures no_fault { IfErr result (λ err. err ≢ Unopened) }
 {
     if control.is_none() && want.info_hash.is_none() {
@@ -143,6 +147,7 @@ pub(crate) fn look_up<D: Disk>(alloc: Global, disk: &mut D, want: &Want) -> Resu
     ensures control { IfOk result (λ survey. IfSome survey.control (IsControlOf want.now)) }
     ensures count { IfOk result (λ survey. length survey.lens.items ≡ length want.now.layout) }
     ensures refuses { IsTrue D.tells → RefusesJust want.now (D.state disk.old).seen result }
+    ensures told { IfErr result (TellsWant want.now) }
     ensures looks { IsTrue D.tells
         → LooksPast (IsNoControl want.now) (D.state disk.old) (D.state disk.new) }
     ensures cause { HasOpenCause (D.faults disk.old) (D.faults disk.new) result }

@@ -1,7 +1,4 @@
-use Rattle.std.proofs.Common.{◌≡◌, Bool, List, false, replicate, sym, subst, ap}
 use Rattle.std.proofs.lemmas.Result.{IfOk-weaker}
-use Rattle.piece_table.specs.Progress.{IsStart}
-use Rattle.resume_core.specs.Tables.{ListsJust}
 use Rattle.resume_core.proofs.OpenedRows.{empty_start, lists_nothing}
 use Rattle.resume_core.proofs.holding.empty_control.Goals as goal
 

@@ -1,5 +1,5 @@
 use Rattle.resume_core.proofs.Filed.{files_kept}
-use Rattle.resume_core.proofs.Openings.{besides_same, sound_same_step, given_same_step}
+use Rattle.resume_core.proofs.Openings.{sound_same_step, given_same_step}
 use Rattle.resume_core.proofs.holding.hold_control.Goals as goal
 
 pub returns-then-stood-clause-payload : goal.returns-then-stood-clause-payload

@@ -1,4 +1,3 @@
-use Rattle.std.proofs.Common.{◌∙◌, inl}
 use Rattle.dl_disk.specs.Files.{IsSame}
 use Rattle.dl_disk.specs.Passes.{performs_on}
 use Rattle.resume_core.specs.Steps.{PutsOrKeeps}

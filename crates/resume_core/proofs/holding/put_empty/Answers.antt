@@ -1,12 +1,5 @@
-use Rattle.std.proofs.Common.{◌≡◌, ◌∙◌, List, ℕ, Some, sym, subst, refl}
-use Rattle.std.specs.Prelude.{IsSome}
-use Rattle.std.proofs.lemmas.Result.{on_ok_weaker}
-use Rattle.dl_disk.specs.Passes.{Performs}
-use Rattle.control_file.specs.Spelling.{control_bytes}
-use Rattle.control_file.specs.declared.fields.ByteOrder.TheVariants.{Big}
-use Rattle.resume_core.specs.Steps.{PutsOrKeeps}
-use Rattle.resume_core.specs.Wants.{control_name, temporary_name}
-use Rattle.resume_core.proofs.Openings.{besides_none, sound_none, put_payload, put_besides, put_sound, held_put}
+use Rattle.std.proofs.Common.{◌∙◌}
+use Rattle.resume_core.proofs.Openings.{sound_none, put_payload, put_besides, put_sound, held_put}
 use Rattle.resume_core.proofs.Savings.{ok_both}
 use Rattle.resume_core.proofs.holding.put_empty.Goals as goal
 

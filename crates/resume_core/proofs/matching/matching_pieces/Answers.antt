@@ -1,4 +1,4 @@
-use Rattle.std.proofs.Common.{◌≡◌, ◌∙◌, ℕ, List, Bool, true, length, sym, ap, arith}
+use Rattle.std.proofs.Common.{◌∙◌, List, Bool, true, length, sym, ap, arith}
 use Rattle.std.proofs.lemmas.List.{length-set}
 use Rattle.std.proofs.lemmas.Bool.{false≢true}
 use Rattle.payload_files.specs.Names.{IsOther}

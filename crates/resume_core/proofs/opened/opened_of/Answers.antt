@@ -1,4 +1,4 @@
-use Rattle.std.proofs.Common.{◌≡◌, ◌∙◌, ℕ, Bool, inl, sym, subst}
+use Rattle.std.proofs.Common.{Bool, inl, subst}
 use Rattle.resume_core.specs.Openings.{OpensJust}
 use Rattle.resume_core.proofs.OpenedRows.{rows_start, opens_just}
 use Rattle.resume_core.proofs.opened.opened_of.Goals as goal

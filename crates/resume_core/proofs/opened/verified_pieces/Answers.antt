@@ -1,4 +1,4 @@
-use Rattle.std.proofs.Common.{◌≡◌, ◌∙◌, ℕ, sym}
+use Rattle.std.proofs.Common.{◌∙◌, sym}
 use Rattle.std.proofs.lemmas.Result.{IfOk-weaker}
 use Rattle.resume_core.proofs.OpenedRows.{opens_hashed, opens_listed}
 use Rattle.resume_core.proofs.opened.verified_pieces.Goals as goal

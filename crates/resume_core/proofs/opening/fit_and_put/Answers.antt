@@ -1,4 +1,3 @@
-use Rattle.std.proofs.Common.{◌≡◌}
 use Rattle.std.proofs.lemmas.Result.{on_ok_weaker}
 use Rattle.resume_core.proofs.Fitted.{fits_to}
 use Rattle.resume_core.proofs.Openings.{besides_on, sound_on, given_or, given_or_on, matches_on}

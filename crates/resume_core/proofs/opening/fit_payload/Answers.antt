@@ -1,6 +1,5 @@
-use Rattle.std.proofs.Common.{◌≡◌, ◌∙◌, ⊎_elim, sym, List, Option, ℕ, subst}
+use Rattle.std.proofs.Common.{◌∙◌, ⊎_elim, sym}
 use Rattle.std.proofs.lemmas.Bool.{false≢true}
-use Rattle.resume_core.specs.Lens.{AreWhole, lens_in}
 use Rattle.resume_core.proofs.Fitted.{whole_files, fits_as_is}
 use Rattle.resume_core.proofs.Openings.{sound_none, given_none}
 use Rattle.resume_core.proofs.opening.fit_payload.Goals as goal

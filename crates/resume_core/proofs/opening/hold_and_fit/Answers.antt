@@ -1,6 +1,5 @@
 use Rattle.resume_core.proofs.Fitted.{fits_stretched}
 use Rattle.resume_core.proofs.Openings.{besides_on, sound_on, given_on}
-use Rattle.resume_core.proofs.Savings.{ok_both}
 use Rattle.std.proofs.lemmas.Result.{on_ok_weaker}
 use Rattle.resume_core.proofs.opening.hold_and_fit.Goals as goal
 

@@ -1,5 +1,5 @@
 use Rattle.std.proofs.lemmas.Result.{on_ok_weaker}
-use Rattle.resume_core.proofs.Openings.{sound_none, saved_besides, saved_payload, saved_gives, saved_opened, saved_sound, saved_verified}
+use Rattle.resume_core.proofs.Openings.{sound_none, saved_besides, saved_gives, saved_opened, saved_sound, saved_verified}
 use Rattle.resume_core.proofs.opening.put_opened.Goals as goal
 
 pub returns-in_err-control-clause-sound : goal.returns-in_err-control-clause-sound

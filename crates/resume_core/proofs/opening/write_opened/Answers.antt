@@ -1,7 +1,5 @@
-use Rattle.std.proofs.Common.{◌≡◌, ◌∙◌, List, ℕ, subst, sym}
-use Rattle.std.specs.Prelude.{Contains}
+use Rattle.std.proofs.Common.{sym}
 use Rattle.std.proofs.lemmas.Result.{on_ok_weaker}
-use Rattle.payload_files.specs.Names.{HasFolders}
 use Rattle.resume_core.proofs.Filed.{files_kept}
 use Rattle.resume_core.proofs.Fitted.{fits_from}
 use Rattle.resume_core.proofs.Openings.{besides_same, besides_on, sound_same_step, sound_on, given_same_step, given_or, given_or_on, matches_same}

@@ -1,9 +1,8 @@
-use Rattle.std.proofs.Common.{◌≡◌, ◌∙◌, inl, inr, ℕ, Bool, true, List, Some, sym, subst, refl}
-use Rattle.std.specs.Prelude.{Contains, IsErrAnd}
-use Rattle.std.proofs.lemmas.Result.{on_ok_weaker}
+use Rattle.std.proofs.Common.{◌∙◌, inl, ℕ, List, sym, subst}
+use Rattle.std.specs.Prelude.{Contains}
 use Rattle.dl_disk.specs.Calls.{Stays}
 use Rattle.payload_files.specs.Names.{IsOther}
-use Rattle.resume_core.specs.Openings.{IsNoControl, OpensJust, is_compared}
+use Rattle.resume_core.specs.Openings.{IsNoControl, is_compared}
 use Rattle.resume_core.proofs.Filed.{files_kept}
 use Rattle.resume_core.proofs.Fitted.{fits_from}
 use Rattle.resume_core.proofs.Moved.{disk_cause_moved, refuses_disk, refuses_store, plain_disk, plain_store, told_plain}

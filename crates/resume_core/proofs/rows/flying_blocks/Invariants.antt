@@ -1,5 +1,4 @@
 use Rattle.std.proofs.Common.{◌≡◌, ◌<◌, ◌↔◌, ℕ, take, length, slice_get, Some, true}
-use Rattle.std.specs.Prelude.{Contains}
 use Rattle.dl_kinds.specs.Plan.{blocks_of}
 use Rattle.resume_core.specs.Rows.{IsBlockOfOne}
 use Rattle.resume_core.proofs.rows.flying_blocks.Given as goal

@@ -1,4 +1,4 @@
-use Rattle.std.proofs.Common.{◌≡◌, ◌∙◌, inl, inr, ⊎_elim, ℕ, ◌+◌, ◌*◌, List, Bool, true, length, set, sym, subst, ap, arith}
+use Rattle.std.proofs.Common.{◌∙◌, inl, inr, ⊎_elim, ℕ, ◌+◌, ◌*◌, List, Bool, true, length, set, ap, arith}
 use Rattle.std.proofs.lemmas.List.{length-set}
 use Rattle.std.proofs.lemmas.Option.{slice_get_within}
 use Rattle.dl_kinds.specs.Plan.{place_of}

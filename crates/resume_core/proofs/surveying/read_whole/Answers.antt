@@ -1,4 +1,4 @@
-use Rattle.std.proofs.Common.{◌≡◌, ◌∙◌, List, Some, Option, ℕ, sym, subst, ap, arith}
+use Rattle.std.proofs.Common.{◌∙◌, List, Option, ℕ, sym, subst, arith}
 use Rattle.dl_disk.specs.Files.{ReadsAt}
 use Rattle.resume_core.proofs.Surveys.{whole_read}
 use Rattle.resume_core.proofs.surveying.read_whole.Goals as goal
