@@ -1,11 +1,9 @@
 -- A call that is applied keeps the machine's run.
-use Rattle.std.proofs.Common.{◌≡◌, ℕ, zero, suc, Bool, false, cond, ◌<◌, ◌≤◌, List, [], ◌∷◌, ◌++◌, length, reverse, refl, sym, ap, ◌∙◌, subst, inl, inr, ⊎_elim, arith}
-use Rattle.std.specs.Prelude.{eqb, map, slice_index_or}
+use Rattle.std.proofs.Common.{◌≡◌, ℕ, zero, suc, ◌<◌, ◌≤◌, List, [], ◌∷◌, ◌++◌, length, reverse, refl, sym, ap, ◌∙◌, subst, ⊎_elim, arith}
+use Rattle.std.specs.Prelude.{map, slice_index_or}
 use Rattle.std.specs.List.{position_or_len}
 use Rattle.std.proofs.lemmas.Bool.{cases_lt}
-use Rattle.std.proofs.lemmas.Bool.Decides.{nat_tests}
 use Rattle.std.proofs.lemmas.List.{reverse-append}
-use Rattle.std.proofs.lemmas.List.Folds.{position_or_len_push}
 use Rattle.dl_kinds.specs.declared.gid.Gid.{Gid}
 use Rattle.dl_kinds.specs.declared.runs.Moment.{Moment}
 use Rattle.machine_core.specs.Answers.{applied_by}
@@ -23,7 +21,7 @@ use Rattle.machine_core.specs.declared.events.Event.TheVariants.{Called}
 use Rattle.machine_core.proofs.Called.{in_order}
 use Rattle.machine_core.proofs.Here.{Seen, may_here}
 use Rattle.machine_core.proofs.Lists.{element_at}
-use Rattle.machine_core.proofs.Parts.{Adds, call_adds}
+use Rattle.machine_core.proofs.Parts.{Adds, call_adds, place_stays}
 use Rattle.machine_core.proofs.Rooms.{read_spare}
 
 pub ordered : (s : MachineState) (v : MachineView) → Seen s v → StandInOrder s.queue.added s.entries
@@ -69,22 +67,6 @@ none_past [] zero past = refl
 none_past [] (suc i) past = refl
 none_past (x ∷ xs) zero past = absurd (omega arith)
 none_past (x ∷ xs) (suc i) past = none_past xs i (omega arith)
-
-first_where : (n m : ℕ) (last : ℕ) → n < m → cond (eqb n m) last n ≡ n
-first_where n m last within = let off : eqb n m ≡ false = grind (arith, nat_tests) in rw off refl
-
--- the first that passes stays so once one more comes behind
-first_stays : (p : Download → Bool) (ds : List Download) (d : Download) → position_or_len p ds < length ds
-    → position_or_len p (ds ++ d ∷ []) ≡ position_or_len p ds
-first_stays p ds d within = position_or_len_push p ds d ∙ first_where (position_or_len p ds) (length ds) _ within
-
-place_stays : (old new : List Download) (gid : Gid) → Adds old new
-    → position_or_len (is_download gid) old < length old
-    → position_or_len (is_download gid) new ≡ position_or_len (is_download gid) old
-place_stays old new gid (inl same) within = ap (λ (ds : List Download). position_or_len (is_download gid) ds) same
-place_stays old new gid (inr more) within =
-    ap (λ (ds : List Download). position_or_len (is_download gid) ds) more.1
-    ∙ first_stays (is_download gid) old more.0 within
 
 no_less : (old new : List Download) (xs ys : List Entry) (gid : Gid) → Adds old new → length xs ≡ length old
     → KeepMarkRooms xs ys

@@ -94,16 +94,9 @@ has_event s v gid at x o seen h is =
     let e = element_at s.events x.called (called_within s v at x seen h.is.there) in
     copied_some o e.0 (is ∙ e.1)
 
-meta_there : (events : List Event) (called : ℕ) (e : Event) (subject : Subject) → slice_get events called ≡ Some e
-    → option_and_then subject_of_event (slice_get events called) ≡ Some subject → meta_of_event e ≡ meta_of_subject subject
-meta_there events called e subject at is =
-    ap (option_and_then meta_of_subject) (sym (ap (option_and_then subject_of_event) at) ∙ is)
-
-pub meta_here : (s : MachineState) (v : MachineView) (gid : Gid) (at : ℕ) (x : Entry) (e : Event) → Seen s v
-    → (h : Here s gid at x) → slice_get s.events x.called ≡ Some e → meta_of_event e ≡ meta_of_subject h.download.subject
-meta_here s v gid at x e seen h there =
-    meta_there s.events x.called e h.download.subject there
-    (seen.keeps.called at h.download x h.is.added h.is.there)
+pub meta_by : (e : Event) (subject : Subject) → subject_of_event e ≡ Some subject
+    → meta_of_event e ≡ meta_of_subject subject
+meta_by e subject is = ap (option_and_then meta_of_subject) is
 
 -- ---- its lengths
 

@@ -91,6 +91,17 @@ here s v gid o at x seen found is x_is =
       };
     }
 
+-- the download at a place, as contracts see it
+pub added_seen : (s : MachineState) (v : MachineView) (gid : Gid) (at : ℕ) (x : Entry) → Seen s v → (h : Here s gid at x)
+    → slice_get (replay_of v.start v.past).downloads at ≡ Some h.download
+added_seen s v gid at x seen h =
+    subst (λ (w : MachineView). slice_get (replay_of w.start w.past).downloads at ≡ Some h.download) seen.view_is h.is.added
+
+pub place_below : (s : MachineState) (v : MachineView) (gid : Gid) (at : ℕ) (x : Entry) → Seen s v → Here s gid at x
+    → at < length (replay_of v.start v.past).downloads
+place_below s v gid at x seen h =
+    slice_get_within (replay_of v.start v.past).downloads at h.download (added_seen s v gid at x seen h)
+
 -- an event that may come next by what contracts see
 pub may_here : (s : MachineState) (v : MachineView) (e : Event) → Seen s v → MayFollow v.start v.past e
     → MayFollow s.start (reverse s.events) e

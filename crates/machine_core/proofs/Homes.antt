@@ -53,6 +53,13 @@ place_found gid ds added n added_is number =
     let f = found (is_download gid) ds e.0 (find_at (is_download gid) ds ∙ (ap (slice_get ds) at ∙ e.1)) in
     (e.0, e.1, gid_is gid e.0.gid f.passes)
 
+pub place_first : (gid : Gid) (ds : List Download) (added : List Added) (n : ℕ) → added ≡ map added_as ds
+    → adding_place added gid ≡ Some n → n ≡ position_or_len (is_download gid) ds
+place_first gid ds added n added_is number =
+    let same : added_place gid added ≡ position_or_len (is_download gid) ds =
+    ap (added_place gid) added_is ∙ place_same gid ds in
+    sym (cond_some _ _ n number).1 ∙ same
+
 not_added : (b : Bool) (n : ℕ) → cond b (Some n) None ≡ None → b ≡ false
 not_added true n is = absurd cc
 not_added false n is = refl

@@ -1,8 +1,11 @@
 -- What each event of a run leaves of a download's part.
-use Rattle.std.proofs.Common.{◌≡◌, ◌⊎◌, ℕ, Bool, true, false, cond, Option, Some, None, List, [], ◌∷◌, ◌++◌, refl, sym, ap, ◌∙◌, subst, inl, inr}
-use Rattle.std.specs.Prelude.{find}
+use Rattle.std.proofs.Common.{◌≡◌, ◌⊎◌, ℕ, Bool, true, false, cond, Option, Some, None, List, [], ◌∷◌, ◌++◌, refl, sym, ap, ◌∙◌, subst, inl, inr, ◌<◌, length, arith}
+use Rattle.std.specs.Prelude.{eqb, find}
+use Rattle.std.specs.List.{position_or_len}
 use Rattle.std.specs.Option.{is_some, unwrap_or, option_and_then}
 use Rattle.std.proofs.lemmas.Bool.{eqb-true}
+use Rattle.std.proofs.lemmas.Bool.Decides.{nat_tests}
+use Rattle.std.proofs.lemmas.List.Folds.{position_or_len_push}
 use Rattle.dl_kinds.specs.declared.gid.Gid.{Gid}
 use Rattle.dl_queue.specs.Calls.{QueueCall, Remove, Pause, Unpause, Forget, ChangePosition}
 use Rattle.dl_history.specs.HistoryLaws.{HistoriesAreSound}
@@ -77,6 +80,22 @@ pub stays_added : (gid : Gid) (old new : List Download) → Adds old new → is_
 stays_added gid old new (inl same) there = ap (λ (xs : List Download). download_of xs gid) same
 stays_added gid old new (inr more) there =
     ap (λ (xs : List Download). download_of xs gid) more.1 ∙ found_still (is_download gid) old more.0 there
+
+first_where : (n m : ℕ) (last : ℕ) → n < m → cond (eqb n m) last n ≡ n
+first_where n m last within = let off : eqb n m ≡ false = grind (arith, nat_tests) in rw off refl
+
+-- the first that passes stays so once one more comes behind
+first_stays : (p : Download → Bool) (ds : List Download) (d : Download) → position_or_len p ds < length ds
+    → position_or_len p (ds ++ d ∷ []) ≡ position_or_len p ds
+first_stays p ds d within = position_or_len_push p ds d ∙ first_where (position_or_len p ds) (length ds) _ within
+
+pub place_stays : (old new : List Download) (gid : Gid) → Adds old new
+    → position_or_len (is_download gid) old < length old
+    → position_or_len (is_download gid) new ≡ position_or_len (is_download gid) old
+place_stays old new gid (inl same) within = ap (λ (ds : List Download). position_or_len (is_download gid) ds) same
+place_stays old new gid (inr more) within =
+    ap (λ (ds : List Download). position_or_len (is_download gid) ds) more.1
+    ∙ first_stays (is_download gid) old more.0 within
 
 -- ---- lengths
 

@@ -11,14 +11,14 @@ use Rattle.dl_kinds.specs.declared.runs.Run.{Run}
 use Rattle.dl_queue.specs.Calls.{adding_place}
 use Rattle.dl_history.specs.OwnEvents.{Lands, Loses, Sizes}
 use Rattle.machine_core.specs.MachineParts.{KeepsRun, MachineState}
-use Rattle.machine_core.specs.MachineViews.{IsLandingOf, IsLossOfClaim, IsNext, IsPlaceOf, IsSizingBy, MachineView, StandsNowhere, StandsUnder, standing_in}
+use Rattle.machine_core.specs.MachineViews.{IsLandingOf, IsLossOfClaim, IsNext, IsPlaceOf, IsSizingBy, MachineView, StandsNowhere, StandsUnder, place_in, standing_in}
 use Rattle.machine_core.specs.Replays.{replay_of}
 use Rattle.machine_core.specs.RunLegal.{IsLaterThan, MayFollow, MayOwn, download_in}
 use Rattle.machine_core.specs.Starts.{Download}
 use Rattle.machine_core.specs.declared.entries.Entry.{Entry}
 use Rattle.machine_core.specs.declared.events.Event.{Event}
 use Rattle.machine_core.specs.declared.events.Event.TheVariants.{Landed, Lost, Sized}
-use Rattle.machine_core.proofs.Homes.{place_found, place_none}
+use Rattle.machine_core.proofs.Homes.{place_first, place_found, place_none}
 use Rattle.machine_core.proofs.Steps.{IsAt}
 
 abbrev pub view_of : List Event → MachineState → ℕ → List ℕ → MachineView
@@ -33,6 +33,14 @@ told_found past s spare marks gid (Some n) k is =
     let f = place_found gid (replay_of s.start past).downloads s.queue.added n
     (ap (λ q. q.added) k.queue.queue_is ∙ k.queue.added) (sym is) in
     record { download = f.0; added = f.1; gid_is = f.2 }
+
+pub told_first : (past : List Event) (s : MachineState) (spare : ℕ) (marks : List ℕ) (gid : Gid) (o : Option ℕ)
+    → KeepsRun past s → o ≡ adding_place s.queue.added gid
+    → IfSome o (λ n. n ≡ place_in (view_of past s spare marks).start (view_of past s spare marks).past gid)
+told_first past s spare marks gid None k is = tt
+told_first past s spare marks gid (Some n) k is =
+    place_first gid (replay_of s.start past).downloads s.queue.added n
+    (ap (λ q. q.added) k.queue.queue_is ∙ k.queue.added) (sym is)
 
 pub told_none : (past : List Event) (s : MachineState) (gid : Gid) (o : Option ℕ)
     → KeepsRun past s → o ≡ adding_place s.queue.added gid → IfNone o (download_in s.start past gid ≡ None)

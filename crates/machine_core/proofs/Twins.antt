@@ -1,29 +1,28 @@
 -- Downloads of the same payload.
-use Rattle.std.proofs.Common.{◌≡◌, ℕ, true, false, Option, Some, None, ◌<◌, List, length, get_or, reverse, slice_get, refl, sym, ap, ◌∙◌, subst, arith}
-use Rattle.std.specs.Prelude.{IfSome}
-use Rattle.std.specs.List.{list_any, position_or_len}
+use Rattle.std.proofs.Common.{◌≡◌, ℕ, Bool, true, false, Option, Some, None, ◌<◌, List, length, get_or, reverse, slice_get, refl, sym, ap, ◌∙◌, subst, arith}
+use Rattle.std.specs.Prelude.{IfSome, MatchBool}
+use Rattle.std.specs.List.{position_or_len}
 use Rattle.std.specs.Option.{is_some, option_map}
 use Rattle.std.proofs.lemmas.List.Folds.{find_at}
 use Rattle.std.proofs.lemmas.Option.{get_or_from_slice_get, same_Some, slice_get_read, slice_get_within}
 use Rattle.dl_kinds.specs.declared.gid.Gid.{Gid}
 use Rattle.dl_queue.specs.Lists.{QueueLists}
-use Rattle.dl_queue.specs.declared.kinds.Stopped.{Stopped}
 use Rattle.dl_history.specs.PayloadParts.{is_opened}
 use Rattle.metainfo.specs.declared.meta.Meta.{Meta}
 use Rattle.one_download.specs.DownloadLaws.{AccountsTellOpening}
 use Rattle.one_download.specs.DownloadViews.{is_opened_by}
-use Rattle.machine_core.specs.Clashes.{HasHashAt, IsHashTwin}
-use Rattle.machine_core.specs.MachineParts.{MachineState}
+use Rattle.machine_core.specs.Clashes.{HasHashAt, IsBesideAt, IsHashTwin}
+use Rattle.machine_core.specs.MachineParts.{MachineState, subject_of_event}
 use Rattle.machine_core.specs.MachineViews.{IsPlaceOf, MachineView}
 use Rattle.machine_core.specs.Openings.{meta_of_event, meta_of_subject}
 use Rattle.machine_core.specs.OwnParts.{own_of}
 use Rattle.machine_core.specs.Reads.{downloads_in}
-use Rattle.machine_core.specs.Replays.{is_download, is_same_gid, replay_of}
-use Rattle.machine_core.specs.RunLegal.{IsOpenedBeside, download_in, has_stopped_in, info_hash_by}
+use Rattle.machine_core.specs.Replays.{is_download, replay_of}
+use Rattle.machine_core.specs.RunLegal.{IsOpenedBeside, download_in, goes_on, goes_on_in, info_hash_by}
 use Rattle.machine_core.specs.Starts.{Download, Subject, Listed, Unlisted}
 use Rattle.machine_core.specs.declared.entries.Entry.{Entry}
 use Rattle.machine_core.specs.declared.events.Event.{Event}
-use Rattle.machine_core.proofs.Begun.{meta_here}
+use Rattle.machine_core.proofs.Begun.{meta_by}
 use Rattle.machine_core.proofs.Here.{Here, Seen, here, opened_here, within}
 use Rattle.machine_core.proofs.Legal.{Laws}
 use Rattle.machine_core.proofs.Lists.{element_at, found}
@@ -69,74 +68,91 @@ hash_of_subject : (subject : Subject)
 hash_of_subject (Listed meta uris) = refl
 hash_of_subject (Unlisted uris) = refl
 
-pub hash_here : (s : MachineState) (v : MachineView) (at : ℕ) (x : Entry) (e : Event) (hash : Option (List ℕ)) → Seen s v
-    → Stands s v at x → slice_get s.events x.called ≡ Some e
+pub hash_by : (v : MachineView) (at : ℕ) (e : Event) (hash : Option (List ℕ))
+    → ((d : Download) → slice_get (downloads_in v) at ≡ Some d → subject_of_event e ≡ Some d.subject)
     → hash ≡ option_map (λ (m : Meta). m.info_hash) (meta_of_event e)
     → (d : Download) → slice_get (downloads_in v) at ≡ Some d → hash ≡ info_hash_by d.subject
-hash_here s v at x e hash seen st there is d added =
-    let d_is : st.here.download ≡ d = st.same ∙ same_Some st.download d (sym st.seen_added ∙ added) in
+hash_by v at e hash subject is d added =
     is
-    ∙ (ap (option_map (λ (m : Meta). m.info_hash)) (meta_here s v st.download.gid at x e seen st.here there)
-    ∙ (hash_of_subject st.here.download.subject ∙ ap (λ (b : Download). info_hash_by b.subject) d_is))
+    ∙ (ap (option_map (λ (m : Meta). m.info_hash)) (meta_by e d.subject (subject d added))
+    ∙ hash_of_subject d.subject)
 
 -- ---- another download
 
-stopped_here : (s : MachineState) (v : MachineView) (gid : Gid) → Seen s v
-    → list_any (λ (t : Stopped). is_same_gid gid t.gid) s.queue.stopped ≡ has_stopped_in v.start v.past gid
-stopped_here s v gid seen =
-    ap (λ (q : QueueLists). list_any (λ (t : Stopped). is_same_gid gid t.gid) q.stopped) seen.keeps.queue.queue_is
-    ∙ ap (λ (w : MachineView). has_stopped_in w.start w.past gid) seen.view_is
+going_here : (s : MachineState) (v : MachineView) (gid : Gid) → Seen s v
+    → goes_on s.queue gid ≡ goes_on_in v.start v.past gid
+going_here s v gid seen =
+    ap (λ (q : QueueLists). goes_on q gid) seen.keeps.queue.queue_is
+    ∙ ap (λ (w : MachineView). goes_on_in w.start w.past gid) seen.view_is
 
-same_download : (s : MachineState) (v : MachineView) (gid : Gid) (hash : List ℕ) (at : ℕ) (x : Entry)
-    → (st : Stands s v at x) → (h : HasHashAt v gid hash at) → h.download ≡ st.download
-same_download s v gid hash at x st h = same_Some h.download st.download (sym h.added ∙ st.seen_added)
+same_download : (s : MachineState) (v : MachineView) (at : ℕ) (x : Entry) (d : Download) → (st : Stands s v at x)
+    → slice_get (downloads_in v) at ≡ Some d → d ≡ st.download
+same_download s v at x d st added = same_Some d st.download (sym added ∙ st.seen_added)
 
-pub not_apart : (s : MachineState) (v : MachineView) (gid : Gid) (hash : List ℕ) (at : ℕ) (x : Entry) → Stands s v at x
-    → x.gid.0 ≡ gid.0 → HasHashAt v gid hash at → ⊥
-not_apart s v gid hash at x st same h =
-    h.beside.apart (ap (λ (d : Download). d.gid.0) (same_download s v gid hash at x st h)
+pub not_apart : (s : MachineState) (v : MachineView) (gid : Gid) (at : ℕ) (x : Entry) → Stands s v at x
+    → x.gid.0 ≡ gid.0 → IsBesideAt v gid at → ⊥
+not_apart s v gid at x st same h =
+    h.beside.apart (ap (λ (d : Download). d.gid.0) (same_download s v at x h.download st h.added)
     ∙ (ap (λ (g : Gid). g.0) (sym st.gid_is) ∙ same))
 
-pub not_opened : Laws → AccountsTellOpening → (s : MachineState) (v : MachineView) (gid : Gid) (hash : List ℕ) (at : ℕ)
-    (x : Entry) → Seen s v → Stands s v at x → is_opened_by x.state.account ≡ false → HasHashAt v gid hash at → ⊥
-not_opened laws tells s v gid hash at x seen st un h =
+pub not_opened : Laws → AccountsTellOpening → (s : MachineState) (v : MachineView) (gid : Gid) (at : ℕ)
+    (x : Entry) → Seen s v → Stands s v at x → is_opened_by x.state.account ≡ false → IsBesideAt v gid at → ⊥
+not_opened laws tells s v gid at x seen st un h =
     let opened : is_opened (own_of v.start v.past st.download.gid) ≡ true =
-    subst (λ (d : Download). is_opened (own_of v.start v.past d.gid) ≡ true) (same_download s v gid hash at x st h) h.beside.opened in
+    subst (λ (d : Download). is_opened (own_of v.start v.past d.gid) ≡ true)
+    (same_download s v at x h.download st h.added) h.beside.opened in
     let f : false ≡ true = sym un ∙ (opened_here laws tells s v st.download.gid at x seen st.here ∙ opened) in
     cc
 
-pub not_hash : (s : MachineState) (v : MachineView) (gid : Gid) (hash : List ℕ) (at : ℕ) (x : Entry) (o : Option (List ℕ))
-    → Stands s v at x → ((d : Download) → slice_get (downloads_in v) at ≡ Some d → o ≡ info_hash_by d.subject)
-    → (o ≡ Some hash → ⊥) → HasHashAt v gid hash at → ⊥
-not_hash s v gid hash at x o st is other h = other (is h.download h.added ∙ h.hash_is)
-
-pub not_going : (s : MachineState) (v : MachineView) (gid : Gid) (hash : List ℕ) (at : ℕ) (x : Entry) → Seen s v
-    → Stands s v at x → list_any (λ (t : Stopped). is_same_gid x.gid t.gid) s.queue.stopped ≡ true
-    → HasHashAt v gid hash at → ⊥
-not_going s v gid hash at x seen st stopped h =
-    let going : has_stopped_in v.start v.past x.gid ≡ false =
-    subst (λ (g : Gid). has_stopped_in v.start v.past g ≡ false)
-    (ap (λ (d : Download). d.gid) (same_download s v gid hash at x st h) ∙ sym st.gid_is) h.beside.going in
-    let f : true ≡ false = sym stopped ∙ (stopped_here s v x.gid seen ∙ going) in
+pub not_going : (s : MachineState) (v : MachineView) (gid : Gid) (at : ℕ) (x : Entry) → Seen s v
+    → Stands s v at x → goes_on s.queue x.gid ≡ false → IsBesideAt v gid at → ⊥
+not_going s v gid at x seen st stopped h =
+    let going : goes_on_in v.start v.past x.gid ≡ true =
+    subst (λ (g : Gid). goes_on_in v.start v.past g ≡ true)
+    (ap (λ (d : Download). d.gid) (same_download s v at x h.download st h.added) ∙ sym st.gid_is) h.beside.going in
+    let f : false ≡ true = sym stopped ∙ (going_here s v x.gid seen ∙ going) in
     cc
 
-pub has_hash : Laws → AccountsTellOpening → (s : MachineState) (v : MachineView) (gid : Gid) (hash : List ℕ) (at : ℕ)
-    (x : Entry) (o : Option (List ℕ)) → Seen s v → Stands s v at x → (x.gid.0 ≡ gid.0 → ⊥)
+pub goes_beside : Laws → AccountsTellOpening → (s : MachineState) (v : MachineView) (gid : Gid) (at : ℕ)
+    (x : Entry) → Seen s v → Stands s v at x → (x.gid.0 ≡ gid.0 → ⊥)
     → is_opened_by x.state.account ≡ true
-    → ((d : Download) → slice_get (downloads_in v) at ≡ Some d → o ≡ info_hash_by d.subject) → o ≡ Some hash
-    → list_any (λ (t : Stopped). is_same_gid x.gid t.gid) s.queue.stopped ≡ false → HasHashAt v gid hash at
-has_hash laws tells s v gid hash at x o seen st apart opened is hash_is going =
+    → goes_on s.queue x.gid ≡ true → IsBesideAt v gid at
+goes_beside laws tells s v gid at x seen st apart opened going =
     record {
       download = st.download;
       added = st.seen_added;
       beside = record {
         apart = λ same. apart (ap (λ (g : Gid). g.0) st.gid_is ∙ same);
         opened = sym (opened_here laws tells s v st.download.gid at x seen st.here) ∙ opened;
-        going = subst (λ (g : Gid). has_stopped_in v.start v.past g ≡ false) st.gid_is
-            (sym (stopped_here s v x.gid seen) ∙ going);
+        going = subst (λ (g : Gid). goes_on_in v.start v.past g ≡ true) st.gid_is
+            (sym (going_here s v x.gid seen) ∙ going);
       };
-      hash_is = sym (is st.download st.seen_added) ∙ hash_is;
     }
+
+-- whether it goes on decides it
+pub beside_by : (b : Bool) (P : Type 0) → (b ≡ false → P → ⊥) → (b ≡ true → P) → MatchBool b P (P → ⊥)
+beside_by true P none one = one refl
+beside_by false P none one = none refl
+
+-- .. with its info hash
+pub hash_beside : (v : MachineView) (gid : Gid) (hash : List ℕ) (at : ℕ) (o : Option (List ℕ)) (b : Bool)
+    → ((d : Download) → slice_get (downloads_in v) at ≡ Some d → o ≡ info_hash_by d.subject) → o ≡ Some hash
+    → MatchBool b (IsBesideAt v gid at) (IsBesideAt v gid at → ⊥)
+    → MatchBool b (HasHashAt v gid hash at) (HasHashAt v gid hash at → ⊥)
+hash_beside v gid hash at o true is hash_is h =
+    record {
+      download = h.download;
+      added = h.added;
+      beside = h.beside;
+      hash_is = sym (is h.download h.added) ∙ hash_is;
+    }
+hash_beside v gid hash at o false is hash_is none =
+    λ h. none (record { download = h.download; added = h.added; beside = h.beside })
+
+pub not_hash : (v : MachineView) (gid : Gid) (hash : List ℕ) (at : ℕ) (o : Option (List ℕ))
+    → ((d : Download) → slice_get (downloads_in v) at ≡ Some d → o ≡ info_hash_by d.subject)
+    → (o ≡ Some hash → ⊥) → HasHashAt v gid hash at → ⊥
+not_hash v gid hash at o is other h = other (is h.download h.added ∙ h.hash_is)
 
 -- ---- all downloads
 
@@ -147,7 +163,7 @@ twin_at s v gid place at x y hash seen h own st t =
     let added : slice_get (downloads_in v) place ≡ Some h.download =
     subst (λ (w : MachineView). slice_get (replay_of w.start w.past).downloads place ≡ Some h.download) seen.view_is h.is.added in
     let own_hash : Some hash ≡ info_hash_by h.download.subject = own h.download added in
-    let same : t.download ≡ st.download = same_download s v gid hash at y st t in
+    let same : t.download ≡ st.download = same_download s v at y t.download st t.added in
     let twin : download_in v.start v.past st.download.gid ≡ Some st.download =
     subst (λ (w : MachineView). download_in w.start w.past st.download.gid ≡ Some st.download) seen.view_is
     (added_here s v st.download.gid at y seen st.here ∙ ap Some st.same) in

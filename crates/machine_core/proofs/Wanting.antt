@@ -20,7 +20,8 @@ use Rattle.machine_core.specs.MachineViews.{MachineView}
 use Rattle.machine_core.specs.Openings.{lengths_of_plan, lengths_with}
 use Rattle.machine_core.specs.OwnParts.{PayloadLengths, payload_lengths_of}
 use Rattle.machine_core.specs.RunLegal.{IsLegal, MayFollow, download_in}
-use Rattle.machine_core.specs.Starts.{RunStart}
+use Rattle.machine_core.specs.Reads.{downloads_in}
+use Rattle.machine_core.specs.Starts.{Download, RunStart}
 use Rattle.machine_core.specs.declared.entries.Entry.{Entry}
 use Rattle.machine_core.specs.declared.events.Event.{Event}
 use Rattle.machine_core.specs.declared.events.Event.TheVariants.{Called, Opened, Sized, Claimed, Landed, Settled, Cleared, Lost, Checked, Saved, Ended, Left, Stopped}
@@ -28,6 +29,7 @@ use Rattle.machine_core.proofs.Here.{Here, Seen}
 use Rattle.machine_core.proofs.Legal.{Laws}
 use Rattle.machine_core.proofs.Rooms.{added_here}
 use Rattle.machine_core.proofs.Staying.{downloads_stay, lengths_stay}
+use Rattle.machine_core.proofs.Twins.{Stands}
 
 -- each path of a sound metainfo file begins with its name
 behind_name : (name : List ℕ) (files : List FileLen) → IsSingle name files ⊎ AreBehind name files
@@ -108,6 +110,14 @@ pub subject_here : (s : MachineState) (v : MachineView) (gid : Gid) (at : ℕ) (
     → (h : Here s gid at x) → slice_get s.events x.called ≡ Some e → subject_of_event e ≡ Some h.download.subject
 subject_here s v gid at x e seen h there =
     sym (ap (option_and_then subject_of_event) there) ∙ seen.keeps.called at h.download x h.is.added h.is.there
+
+-- .. of the download at a place
+pub subject_there : (s : MachineState) (v : MachineView) (at : ℕ) (x : Entry) (e : Event) → Seen s v
+    → (st : Stands s v at x) → slice_get s.events x.called ≡ Some e
+    → (d : Download) → slice_get (downloads_in v) at ≡ Some d → subject_of_event e ≡ Some d.subject
+subject_there s v at x e seen st there d added =
+    subject_here s v st.download.gid at x e seen st.here there
+    ∙ ap (λ (b : Download). Some b.subject) (st.same ∙ same_Some st.download d (sym st.seen_added ∙ added))
 
 pub has_want : (s : MachineState) (v : MachineView) (gid : Gid) (at : ℕ) (x : Entry) (plan : Plan) (want : Want)
     (told : Option PayloadLengths) → Seen s v → (h : Here s gid at x) → told ≡ payload_lengths_of v.start v.past gid

@@ -21,3 +21,4 @@ pub mod Clashes
 pub mod TurnRooms
 pub mod KeptOffers
 pub mod Claiming
+pub mod Done

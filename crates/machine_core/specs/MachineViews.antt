@@ -1,5 +1,5 @@
 -- What contracts see of a machine, and how its steps are told.
-use Rattle.std.specs.Prelude.{◌≡◌, ◌≢◌, ℕ, ◌+◌, ◌-◌, ◌≤◌, Bool, Option, Some, None, List, ◌∷◌, All, Contains, slice_get, slice_index_or}
+use Rattle.std.specs.Prelude.{◌≡◌, ◌≢◌, ℕ, ◌+◌, ◌-◌, ◌≤◌, Bool, Option, Some, None, List, ◌∷◌, All, Contains, length, slice_get, slice_index_or}
 use Rattle.std.specs.List.{position_or_len}
 use Rattle.std.specs.Option.{is_some}
 use Rattle.dl_kinds.specs.declared.claims.Claim.{Claim}
@@ -26,6 +26,23 @@ pub record MachineView : Type 0 where
 -- the place of a download in the order of their adding; the number of all, where it wasn't added
 abbrev pub place_in : RunStart → List Event → Gid → ℕ
 place_in start past gid = position_or_len (is_download gid) (replay_of start past).downloads
+
+-- it keeps its place, whatever comes
+abbrev pub PlacesStay : Type 0
+PlacesStay =
+    (start : RunStart) (past : List Event) (event : Event) (gid : Gid) (download : Download)
+    → download_in start past gid ≡ Some download → place_in start (event ∷ past) gid ≡ place_in start past gid
+
+-- none goes, and one that comes stands behind the others
+abbrev pub PlacesAreBehind : Type 0
+PlacesAreBehind =
+    (start : RunStart) (past : List Event) (event : Event) (gid : Gid) → download_in start past gid ≡ None
+    → length (replay_of start past).downloads ≤ place_in start (event ∷ past) gid
+
+abbrev pub NoneGoes : Type 0
+NoneGoes =
+    (start : RunStart) (past : List Event) (event : Event)
+    → length (replay_of start past).downloads ≤ length (replay_of start (event ∷ past)).downloads
 
 -- room for how many more marks of a download
 abbrev pub mark_spare_in : MachineView → Gid → ℕ

@@ -1,13 +1,15 @@
 -- Which event of a run may come next, and which histories of a run are legal.
-use Rattle.std.specs.Prelude.{◌≡◌, ◌≢◌, ◌⊎◌, ◌+◌, ◌-◌, ◌^◌, ◌<◌, ◌≤◌, ℕ, Bool, true, false, Option, Some, None, List, [], ◌∷◌, All, count_by, length}
+use Rattle.std.specs.Prelude.{◌≡◌, ◌≢◌, ◌⊎◌, ◌&&◌, ◌+◌, ◌-◌, ◌^◌, ◌<◌, ◌≤◌, not, ℕ, Bool, true, false, Option, Some, None, List, [], ◌∷◌, All, count_by, length}
 use Rattle.std.specs.List.{list_any, filter_map}
-use Rattle.std.specs.Option.{is_some, unwrap_or}
+use Rattle.std.specs.Option.{is_some, option_map_or, unwrap_or}
 use Rattle.dl_kinds.specs.Plan.{IsPlan}
 use Rattle.dl_kinds.specs.declared.gid.Gid.{Gid}
 use Rattle.dl_kinds.specs.declared.claims.Claim.{Claim}
 use Rattle.dl_kinds.specs.declared.marks.Mark.{Mark}
 use Rattle.dl_kinds.specs.declared.runs.Moment.{Moment}
-use Rattle.dl_queue.specs.declared.kinds.Stopped.{Stopped}
+use Rattle.dl_queue.specs.Calls.{is_unfinished}
+use Rattle.dl_queue.specs.Lists.{QueueLists}
+use Rattle.dl_queue.specs.Places.{status_of}
 use Rattle.mirror_blame.specs.declared.blame.Blame.{Blame}
 use Rattle.mirror_blame.specs.Marks.{IsDead, last_mark_of}
 use Rattle.option_set.specs.Values.{number_value, text_of_word}
@@ -19,7 +21,7 @@ use Rattle.dl_history.specs.OwnEvents.{OwnEvent, Lands, Settles, Clears, Loses, 
 use Rattle.dl_history.specs.OwnLegal.{MayHappen, IsCompleteIn, IsLossOf, LegalOwn}
 use Rattle.dl_history.specs.PayloadParts.{is_opened, blames_in, told_total, last_check}
 use Rattle.machine_core.specs.Starts.{RunStart, Download, Subject, Listed, Unlisted}
-use Rattle.machine_core.specs.Replays.{replay_of, queue_in, download_of, is_active_in, is_same_gid}
+use Rattle.machine_core.specs.Replays.{replay_of, queue_in, download_of, is_active_in}
 use Rattle.machine_core.specs.Choices.{IsGranted}
 use Rattle.machine_core.specs.FileNames.{ShareName}
 use Rattle.machine_core.specs.Wanted.{wanted_pieces}
@@ -111,6 +113,10 @@ pub record MayBeSettled (start : RunStart) (past : List Event) (gid : Gid) (e : 
     pub own : MayOwn start past gid e
     pub right_is : is_listed own.download.subject ≡ false → right ≡ true
 
+-- the whole payload is to have a checksum; it counts for a download without a metainfo file, whose pieces have no digests
+abbrev pub has_checksum : Download → Bool
+has_checksum download = not (is_listed download.subject) && is_some (text_of_word download.options word.Checksum)
+
 -- a download without a metainfo file that has a checksum
 pub record MayBeChecked (start : RunStart) (past : List Event) (gid : Gid) (right : Bool) : Type 0 where
   pub own : MayOwn start past gid (Checks right)
@@ -161,14 +167,18 @@ pub record IsOpening (start : RunStart) (past : List Event) (gid : Gid) : Type 0
   pub known : is_some (payload_lengths_of start past gid) ≡ true
   pub unopened : is_opened (own_of start past gid) ≡ false
 
-abbrev pub has_stopped_in : RunStart → List Event → Gid → Bool
-has_stopped_in start past gid = list_any (λ (s : Stopped). is_same_gid gid s.gid) (queue_in start past).stopped
+-- it is active, or waits
+abbrev pub goes_on : QueueLists → Gid → Bool
+goes_on queue gid = option_map_or is_unfinished (status_of queue gid) false
 
--- another download that is opened and hasn't stopped
+abbrev pub goes_on_in : RunStart → List Event → Gid → Bool
+goes_on_in start past gid = goes_on (queue_in start past) gid
+
+-- another download that is opened and goes on
 pub record IsOpenedBeside (start : RunStart) (past : List Event) (gid other : Gid) : Type 0 where
   pub apart : other.0 ≢ gid.0
   pub opened : is_opened (own_of start past other) ≡ true
-  pub going : has_stopped_in start past other ≡ false
+  pub going : goes_on_in start past other ≡ true
 
 abbrev pub info_hash_by : Subject → Option (List ℕ)
 info_hash_by (Listed meta uris) = Some meta.info_hash
@@ -197,7 +207,7 @@ pub record IsTooLong (own : List OwnEvent) (download : Download) (total : ℕ) :
 -- the kept values show why
 abbrev pub IsEndCause : RunStart → List Event → Download → List Bool → End → Type 0
 IsEndCause start past download wanted end.Complete =
-    IsCompleteIn wanted (is_some (text_of_word download.options word.Checksum)) (own_of start past download.gid)
+    IsCompleteIn wanted (has_checksum download) (own_of start past download.gid)
 IsEndCause start past download wanted (end.Dead piece mark) = IsDeadIn start past download piece mark
 IsEndCause start past download wanted (end.Disk count) = IsNewFault past count
 IsEndCause start past download wanted (end.Exists length) =

@@ -1,4 +1,5 @@
 // What holds of every legal history of a run.
+ghost use Rattle.machine_core.specs.MachineViews.{NoneGoes, PlacesAreBehind, PlacesStay};
 ghost use Rattle.machine_core.specs.RunLegal.{DownloadsAreLegal, DownloadsStay, KnownAreIdle, LengthsStay};
 ghost use Rattle.machine_core.specs.WorkedAnswers.{WorkedAnswers};
 ghost use Rattle.machine_core.specs.WorkedRuns.{WorkedRuns};
@@ -25,9 +26,12 @@ pub fn known_downloads_are_idle()
     accounts_match_events();
 }
 
-/// A download stays what it was added as, and its lengths stay once they are known.
+/// A download stays what it was added as, and where it is in the order of adding, and its lengths stay once they are known.
 pub fn downloads_stay()
     ensures downloads { DownloadsStay }
+    ensures places { PlacesStay }
+    ensures behind { PlacesAreBehind }
+    ensures none { NoneGoes }
     ensures lengths { LengthsStay }
 {
     plan_laws();

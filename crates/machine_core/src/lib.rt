@@ -2,6 +2,7 @@
 //! machine that keeps it.
 #![tactic(auto)]
 
+mod added;
 mod adding;
 mod applied;
 mod calling;
@@ -10,6 +11,7 @@ mod changes;
 mod choosing;
 mod claiming;
 mod clashes;
+mod done;
 mod ends;
 mod entries;
 mod events;

@@ -9,7 +9,7 @@ ghost use Rattle.dl_queue.specs.Places.{status_of};
 ghost use Rattle.machine_core.specs.Replays.{queue_in};
 ghost use Rattle.machine_core.specs.OwnParts.{own_of};
 ghost use Rattle.machine_core.specs.LawfulCalls.{IsLawful};
-ghost use Rattle.machine_core.specs.MachineViews.{Appends, HasMarkRoomAt, IsFindingOf, IsLandingOf, IsLossOfClaim, IsNext, IsPlaceOf, IsSizingBy, StandsNowhere, StandsSomewhere, StandsUnder, IsFirstOpen, account_of_gid, is_added_in, UsesMarkRoomAt, UsesMarkRoomOf, UsesRoom, mark_spare_in};
+ghost use Rattle.machine_core.specs.MachineViews.{Appends, HasMarkRoomAt, IsFindingOf, IsLandingOf, IsLossOfClaim, IsNext, IsPlaceOf, IsSizingBy, StandsNowhere, StandsSomewhere, StandsUnder, IsFirstOpen, account_of_gid, is_added_in, UsesMarkRoomAt, UsesMarkRoomOf, UsesRoom, mark_spare_in, place_in};
 ghost use Rattle.machine_core.specs.Reads.{HasNoDeadMark, IsPieceOfGid, IsAdding, IsAllSaved, IsDeadPiece, IsOpenedGid, IsPieceUnlisted, downloads_in, is_finished_in};
 ghost use Rattle.machine_core.specs.RunLegal.{IsLaterThan, IsLegal, MayFollow, doors_left, download_in};
 ghost use Rattle.machine_core.specs.TurnRooms.{HasTurnMarkRoom, IsRoomierRun};
@@ -128,8 +128,11 @@ impl Machine {
         self.journal
     }
 
-    pub(crate) fn place(&self, gid: Gid) -> Option<usize>
+    /// The place of a download in the order of adding, from 0.
+    pub fn place(&self, gid: Gid) -> Option<usize>
         ensures found { IfSome result (λ place. IsPlaceOf self.now gid place) }
+        ensures first { IfSome result (λ place.
+            place ≡ place_in self.now.start self.now.past gid) }
         ensures none { IfNone result (download_in self.now.start self.now.past gid ≡ None) }
     {
         self.queue.adding_place(gid)

@@ -85,8 +85,7 @@ impl Machine {
         let place = self.place(gid).unwrap();
         let entry = &self.entries[place];
         let begun = self.queue.options(gid).unwrap();
-        let _ = self.journal.len();
-        let meta = meta_of(self.journal.get(entry.called as u32).unwrap());
+        let meta = meta_of(self.adding_event(place));
         let piece_len = begun.number(Num::PieceLength) as u32;
         let plan = plan_with(meta, piece_len, entry.state.told()).unwrap();
         let wanted = wanted_by_plan(alloc, meta, &plan, begun.text(Word::SelectFile))?;

@@ -1,7 +1,8 @@
 // What a store is to keep of downloads.
-ghost use Rattle.std.specs.Prelude.{◌≡◌, ◌≤◌, ◌∷◌, [], All, IfNone, IfOk, IfSome, None, Some, length, unwrap_or};
+ghost use Rattle.std.specs.Prelude.{◌≡◌, ◌≤◌, ◌∷◌, [], All, IfNone, IfOk, IfSome, IsSome, None, Some, length, unwrap_or};
 ghost use Rattle.std.specs.Option.{option_and_then};
 ghost use Rattle.control_file.specs.Wants.{IsWant};
+ghost use Rattle.dl_kinds.specs.declared.plan.TheConstants.{MAX_PAYLOAD_LEN};
 ghost use Rattle.link_source.specs.Endpoint.{IsUsable};
 ghost use Rattle.metainfo.specs.Info.{info_of, IsSound};
 ghost use Rattle.option_set.specs.Values.{text_of_word};
@@ -22,7 +23,7 @@ use dl_kinds::{Digests, Gid, Plan, Text, Texts, plan_laws};
 use metainfo::{Meta, metainfo_is_sound};
 use one_download::steps_match_events;
 use option_set::{Num, Options, Word};
-use span_map::{FileLen, Layout};
+use span_map::{FileLen, Layout, LayoutErr};
 use std::alloc::{AllocError, Global};
 use url_names::name_of_url;
 
@@ -39,7 +40,8 @@ fn dir_of(alloc: Global, begun: &Options) -> Result<Text, AllocError>
 fn base_of(alloc: Global, begun: &Options, uris: &Texts) -> Result<Text, AllocError>
     requires some { 1 ≤ length uris.now }
     requires usable { All IsUsable uris.now }
-    ensures { IfOk result (IsUnlistedName (text_of_word begun.now word.Out) uris.now) }
+    ensures named { IfOk result (IsUnlistedName (text_of_word begun.now word.Out) uris.now) }
+    ensures valid { IfOk result IsValidPart }
 {
     match begun.text(Word::Out) {
         Some(out) => Text::of(alloc, out),
@@ -48,6 +50,8 @@ fn base_of(alloc: Global, begun: &Options, uris: &Texts) -> Result<Text, AllocEr
 }
 
 fn one_file(alloc: Global, name: &Text, total: u64) -> Result<Layout, AllocError>
+    requires name { IsValidPart name.now }
+    requires bounded { total ≤ MAX_PAYLOAD_LEN }
     ensures { IfOk result (λ layout.
         layout ≡ record { path = name.now ∷ []; len = total } ∷ []) }
 {
@@ -57,8 +61,9 @@ fn one_file(alloc: Global, name: &Text, total: u64) -> Result<Layout, AllocError
     files.push(FileLen { path, len: total })?;
     match Layout::new(alloc, files) {
         Ok(layout) => Ok(layout),
+        Err(LayoutErr::NoMemory) => Err(AllocError),
         // One file of a valid name, which isn't longer than a plan's payload, is a layout.
-        Err(_) => Err(AllocError),
+        Err(_) => unreachable!(),
     }
 }
 
@@ -122,6 +127,7 @@ fn unlisted_want(
 // The want of the download that a call adds.
 fn want_by_call(alloc: Global, call: &Call, begun: &Options, plan: Plan) -> Result<Want, AllocError>
     requires lawful { IsLawful call.now }
+    requires adds { IsSome (subject_of_call call.now) }
     requires plan { IfSome (option_and_then meta_of_subject (subject_of_call call.now))
         (λ meta. lengths_of_plan meta.plan ≡ lengths_of_plan plan) }
     ensures want { IfOk result IsWant }
@@ -133,12 +139,13 @@ fn want_by_call(alloc: Global, call: &Call, begun: &Options, plan: Plan) -> Resu
         Call::AddTorrent { meta, .. } => listed_want(alloc, meta, begun),
         Call::AddUri { uris, .. } => unlisted_want(alloc, uris, begun, plan),
         // No other call adds one.
-        _ => Err(AllocError),
+        _ => unreachable!(),
     }
 }
 
 fn want_by(alloc: Global, event: &Event, begun: &Options, plan: Plan) -> Result<Want, AllocError>
     requires lawful { IsLawfulEvent event.now }
+    requires adds { IsSome (subject_of_event event.now) }
     requires plan { IfSome (meta_of_event event.now)
         (λ meta. lengths_of_plan meta.plan ≡ lengths_of_plan plan) }
     ensures want { IfOk result IsWant }
@@ -148,7 +155,7 @@ fn want_by(alloc: Global, event: &Event, begun: &Options, plan: Plan) -> Result<
     match event {
         Event::Called { call, .. } => want_by_call(alloc, call, begun, plan),
         // No other event adds one.
-        _ => Err(AllocError),
+        _ => unreachable!(),
     }
 }
 
@@ -179,8 +186,7 @@ impl Machine {
         };
         let entry = &self.entries[place];
         let begun = self.queue.options(gid).unwrap();
-        let _ = self.journal.len();
-        let event = self.journal.get(entry.called as u32).unwrap();
+        let event = self.adding_event(place);
         let piece_len = begun.number(Num::PieceLength) as u32;
         let Some(plan) = plan_with(meta_of(event), piece_len, entry.state.told()) else {
             return Ok(None);

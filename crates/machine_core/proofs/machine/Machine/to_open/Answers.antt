@@ -1,9 +1,8 @@
 use Rattle.std.proofs.Common.{◌≡◌, ◌∙◌, Some, arith}
 use Rattle.std.specs.Prelude.{option_copied}
 use Rattle.machine_core.specs.Openings.{lengths_of_plan, lengths_with}
-use Rattle.machine_core.proofs.Begun.{begun_options, copied_is, copied_now, copied_some, has_event, has_plan, lengths_read, meta_here, to_open}
-use Rattle.machine_core.proofs.Here.{here, sees, told_some, within}
-use Rattle.machine_core.proofs.Reading.{called_within}
+use Rattle.machine_core.proofs.Begun.{begun_options, copied_is, copied_some, has_plan, lengths_read, meta_by, to_open}
+use Rattle.machine_core.proofs.Here.{added_seen, here, place_below, sees, told_some, within}
 use Rattle.machine_core.proofs.machine.Machine.to_open.Goals as goal
 
 pub unwrap-begun-requires : goal.unwrap-begun-requires
@@ -21,28 +20,21 @@ index-entry-requires c =
     c.unwrap-place.ensures in
     omega (arith, c.self.inside.entries.ok.0)
 
-pub overflow_cast-entry : goal.overflow_cast-entry
-overflow_cast-entry c =
+pub adding_event-requires : goal.adding_event-requires
+adding_event-requires c =
     let seen = sees _ c.args.self.now c.self.invariant c.self.view_is in
     let h = here _ c.args.self.now c.args.gid c.place.result c.unwrap-place.result c.index-entry.result.now seen
     c.place.ensures.found c.unwrap-place.ensures c.index-entry.ensures in
-    let w = called_within _ c.args.self.now c.unwrap-place.result c.index-entry.result.now seen h.is.there in
-    omega (arith, c.len.ensures)
-
-pub unwrap-requires : goal.unwrap-requires
-unwrap-requires c =
-    let seen = sees _ c.args.self.now c.self.invariant c.self.view_is in
-    let h = here _ c.args.self.now c.args.gid c.place.result c.unwrap-place.result c.index-entry.result.now seen
-    c.place.ensures.found c.unwrap-place.ensures c.index-entry.ensures in
-    has_event _ c.args.self.now c.args.gid c.unwrap-place.result c.index-entry.result.now c.get.result seen h c.get.ensures
+    place_below _ c.args.self.now c.args.gid c.unwrap-place.result c.index-entry.result.now seen h
 
 pub unwrap-plan-requires : goal.unwrap-plan-requires
 unwrap-plan-requires c =
     let seen = sees _ c.args.self.now c.self.invariant c.self.view_is in
     let h = here _ c.args.self.now c.args.gid c.place.result c.unwrap-place.result c.index-entry.result.now seen
     c.place.ensures.found c.unwrap-place.ensures c.index-entry.ensures in
-    let meta = c.meta_of-meta.ensures ∙ meta_here _ c.args.self.now c.args.gid c.unwrap-place.result c.index-entry.result.now _ seen h
-    (copied_now c.get.result c.unwrap.result _ c.unwrap.ensures c.get.ensures) in
+    let subject = c.adding_event.ensures.added h.download
+    (added_seen _ c.args.self.now c.args.gid c.unwrap-place.result c.index-entry.result.now seen h) in
+    let meta = c.meta_of-meta.ensures ∙ meta_by c.adding_event.result.now h.download.subject subject in
     let begun = copied_is c.options.result c.unwrap-begun.result h.download.options c.unwrap-begun.ensures
     (c.options.ensures ∙ begun_options _ c.args.self.now c.args.gid c.unwrap-place.result c.index-entry.result.now seen h) in
     let told = lengths_read (record {
@@ -58,8 +50,9 @@ returns c =
     let seen = sees _ c.args.self.now c.self.invariant c.self.view_is in
     let h = here _ c.args.self.now c.args.gid c.place.result c.unwrap-place.result c.index-entry.result.now seen
     c.place.ensures.found c.unwrap-place.ensures c.index-entry.ensures in
-    let meta = c.meta_of-meta.ensures ∙ meta_here _ c.args.self.now c.args.gid c.unwrap-place.result c.index-entry.result.now _ seen h
-    (copied_now c.get.result c.unwrap.result _ c.unwrap.ensures c.get.ensures) in
+    let subject = c.adding_event.ensures.added h.download
+    (added_seen _ c.args.self.now c.args.gid c.unwrap-place.result c.index-entry.result.now seen h) in
+    let meta = c.meta_of-meta.ensures ∙ meta_by c.adding_event.result.now h.download.subject subject in
     let begun = copied_is c.options.result c.unwrap-begun.result h.download.options c.unwrap-begun.ensures
     (c.options.ensures ∙ begun_options _ c.args.self.now c.args.gid c.unwrap-place.result c.index-entry.result.now seen h) in
     let told = lengths_read (record {
