@@ -70,7 +70,7 @@ adds_none q c same = unless_added (refusal q c) q (moved_up (effect q c)) same
 
 -- ---- a download among those that were added
 
-abbrev is_added : Gid → Added → Bool
+abbrev pub is_added : Gid → Added → Bool
 is_added g a = a.gid.0 == g.0
 
 lt_suc_on : (a b : ℕ) (x : Bool) → nat_lt a b ≡ x → nat_lt (1 + a) (suc b) ≡ x
@@ -85,7 +85,7 @@ any_added_on : (g : Gid) (x : Added) (xs : List Added) (b : Bool) → (x.gid.0 =
 any_added_on g x xs true is rest = rw is (lt-ltb 0 (suc (length xs)) (omega arith))
 any_added_on g x xs false is rest = rw is (lt_suc (added_place g xs) (length xs) ∙ rest)
 
-any_added : (g : Gid) (xs : List Added) → was_added xs g ≡ list_any (is_added g) xs
+pub any_added : (g : Gid) (xs : List Added) → was_added xs g ≡ list_any (is_added g) xs
 any_added g [] = refl
 any_added g (x ∷ xs) = any_added_on g x xs (x.gid.0 == g.0) refl (any_added g xs)
 
@@ -110,7 +110,7 @@ any_known_on : (g : Gid) (x : Download) (ds : List Download) (d : Download) (b :
 any_known_on g x ds d true here rest is = rw here refl
 any_known_on g x ds d false here rest is = rw here (rest (rw here at is))
 
-any_known : (g : Gid) (ds : List Download) (d : Download) → download_of ds g ≡ Some d
+pub any_known : (g : Gid) (ds : List Download) (d : Download) → download_of ds g ≡ Some d
     → list_any (is_added g) (map added_as ds) ≡ true
 any_known g [] d is = absurd cc
 any_known g (x ∷ ds) d is = any_known_on g x ds d (x.gid.0 == g.0) refl (any_known g ds d) is
@@ -329,7 +329,7 @@ call_are start replay (call.RemoveResult key) are = keyed_are replay key Forget 
 call_are start replay call.GetVersion are = are
 call_are start replay call.Shutdown are = are
 
-added_are : (start : RunStart) (past : List Event) → AddedAre (replay_of start past)
+pub added_are : (start : RunStart) (past : List Event) → AddedAre (replay_of start past)
 added_are start [] = refl
 added_are start (Called session asked now ∷ past) = call_are start (replay_of start past) asked (added_are start past)
 added_are start (Opened gid verified blocks now ∷ past) = added_are start past
@@ -352,7 +352,7 @@ added_are start (Stopped ∷ past) = added_are start past
 
 -- ---- every legal history
 
-call_on : (g : Gid) (start : RunStart) (replay : Replay) (asked : Call) (own own' : List OwnEvent) → Once g
+pub call_on : (g : Gid) (start : RunStart) (replay : Replay) (asked : Call) (own own' : List OwnEvent) → Once g
     replay.queue own
     → is_ended own' ≡ is_ended own → Once g (after_call start replay asked).queue own'
 call_on g start replay (call.AddUri uris options position) own own' o same =
@@ -442,7 +442,7 @@ ended_on g start past gid how may o = by (is_same_gid g gid) refl
         rw is (goes_on g q (after q (stop_of gid how)) (own_of start past g) (own_of start past g) o (stops g).less
         added refl)
 
-once : (g : Gid) (start : RunStart) (past : List Event) → IsLegal start past
+pub once : (g : Gid) (start : RunStart) (past : List Event) → IsLegal start past
     → Once g (queue_in start past) (own_of start past g)
 once g start [] legal =
     record { one = omega arith; ended = λ e. absurd cc; unadded = λ un. refl; ended_added = λ e. absurd cc }

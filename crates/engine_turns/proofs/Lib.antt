@@ -3,3 +3,4 @@ pub mod Once
 pub mod Going
 pub mod Idle
 pub mod Worked
+pub mod Gone

@@ -408,3 +408,20 @@ some_active g (x ∷ xs) is = some_on g x xs (x.0 == g.0) refl (some_active g xs
 
 pub active_counts : (g : Gid) (q : QueueLists) → list_any (is_same_gid g) q.active ≡ true → 1 ≤ times g q
 active_counts g q is = let some = some_active g q.active is in omega arith
+
+-- ---- a download that stands there
+
+pub there_in_active : (g : Gid) (q : QueueLists) → active_place g q.active < length q.active → 1 ≤ times g q
+there_in_active g q within =
+    let taken = sum_by-remove (in_active g) q.active (active_place g q.active) g within in
+    let there = active_there g g q.active within in
+    let one = own_one g in
+    omega arith
+
+pub there_in_waiting : (g : Gid) (q : QueueLists) → queued_place g q.waiting < length q.waiting → 1 ≤ times g q
+there_in_waiting g q within =
+    let d : Queued = record { gid = g; paused = false } in
+    let taken = sum_by-remove (in_waiting g) q.waiting (queued_place g q.waiting) d within in
+    let there = waiting_there g g d q.waiting within in
+    let one = own_one g in
+    omega arith

@@ -10,7 +10,7 @@ use Rattle.machine_core.specs.declared.ends.End.TheVariants as end
 use Rattle.machine_core.specs.declared.events.Event.{Event}
 use Rattle.machine_core.specs.declared.events.Event.TheVariants.{Called, Ended, Stopped}
 use Rattle.engine_turns.specs.ClaimRows.{MoreRow}
-use Rattle.engine_turns.specs.Phases.{Went}
+use Rattle.engine_turns.specs.declared.outcome.Outcome.TheVariants.{Went}
 use Rattle.engine_turns.specs.RunTurns.{IsTurnAnswered, turn_start}
 use Rattle.engine_turns.specs.Standings.{OfClaim, standing_after}
 use Rattle.engine_turns.specs.WorkedTurns.{WorkedRows, WorkedTurns, moment_at, more_granted}

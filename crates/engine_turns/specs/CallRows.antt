@@ -7,12 +7,14 @@ use Rattle.machine_core.specs.Answers.{applied_by}
 use Rattle.machine_core.specs.OwnParts.{own_of}
 use Rattle.machine_core.specs.Reads.{IsSavedIn}
 use Rattle.machine_core.specs.Replays.{is_active_in, replay_of}
-use Rattle.machine_core.specs.RunLegal.{doors_left, has_stopped_in, is_stop}
+use Rattle.machine_core.specs.RunLegal.{doors_left, goes_on_in, is_stop}
 use Rattle.machine_core.specs.Starts.{Download, RunStart}
 use Rattle.machine_core.specs.declared.calls.Call.{Call}
 use Rattle.machine_core.specs.declared.events.Event.{Event}
 use Rattle.machine_core.specs.declared.events.Event.TheVariants.{Called, Left, Stopped}
-use Rattle.engine_turns.specs.Phases.{Outcome, Over, SavesPhase, Starved, TurnStart, Went}
+use Rattle.engine_turns.specs.Phases.{SavesPhase, TurnStart}
+use Rattle.engine_turns.specs.declared.outcome.Outcome.{Outcome}
+use Rattle.engine_turns.specs.declared.outcome.Outcome.TheVariants.{Over, Starved, Went}
 use Rattle.engine_turns.specs.Standings.{AnswersUnlessStarved, RunStanding}
 use Rattle.engine_turns.specs.Told.{history_after}
 use Rattle.engine_turns.specs.declared.operations.Said.{Said}
@@ -36,11 +38,11 @@ pub record HasUnsaved (start : RunStart) (past : List Event) (gid : Gid) : Type 
 
 -- ---- a call
 
--- it was active and isn't, or it is stopped now and wasn't
+-- it was active and isn't, or it went on and doesn't
 abbrev pub IsTakenOff : RunStart → (past after : List Event) → Gid → Type 0
 IsTakenOff start past after gid =
     ((is_active_in start past gid ≡ true) × (is_active_in start after gid ≡ false))
-    ⊎ ((has_stopped_in start past gid ≡ false) × (has_stopped_in start after gid ≡ true))
+    ⊎ ((goes_on_in start past gid ≡ true) × (goes_on_in start after gid ≡ false))
 
 -- taken off by what came, with something to save
 pub record IsSavedOff (start : RunStart) (past after : List Event) (gid : Gid) : Type 0 where
@@ -78,9 +80,9 @@ abbrev pub stop_events : Bool → List Event
 stop_events true = []
 stop_events false = Stopped ∷ []
 
--- it hasn't stopped, and has something to save
+-- it goes on, and has something to save
 pub record IsSavedLast (start : RunStart) (past : List Event) (gid : Gid) : Type 0 where
-  pub going : has_stopped_in start past gid ≡ false
+  pub goes : goes_on_in start past gid ≡ true
   pub unsaved : HasUnsaved start past gid
 
 pub record StopRow (at : TurnStart) (s : RunStanding) (events : List Event) (said : Said) : Type 0 where

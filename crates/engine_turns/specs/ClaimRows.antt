@@ -24,7 +24,8 @@ use Rattle.machine_core.specs.Starts.{Download, RunStart}
 use Rattle.machine_core.specs.declared.ends.End.TheVariants as end
 use Rattle.machine_core.specs.declared.events.Event.{Event}
 use Rattle.machine_core.specs.declared.events.Event.TheVariants.{Cleared, Ended, Landed, Lost, Sized}
-use Rattle.engine_turns.specs.Phases.{AllRightPhase, AndThen, ByHistory, DeadPhase, EndingOr, IfElse, JustEnd, JustEvent, LandingsPhase, NoEvent, Outcome, Phase, SavePhase, TurnStart}
+use Rattle.engine_turns.specs.Phases.{AllRightPhase, AndThen, ByHistory, DeadPhase, EndingOr, IfElse, JustEnd, JustEvent, LandingsPhase, NoEvent, Phase, SavePhase, TurnStart}
+use Rattle.engine_turns.specs.declared.outcome.Outcome.{Outcome}
 use Rattle.engine_turns.specs.Standings.{AnswersOnly, AnswersUnlessStarved, RunStanding, levels_in}
 use Rattle.engine_turns.specs.declared.limits.TheConstants.{MAX_ALLOWANCE, MAX_DELIVERY}
 use Rattle.engine_turns.specs.declared.operations.Said.{Said}

@@ -10,13 +10,13 @@ use Rattle.span_map.specs.declared.jobs.Job.{Job}
 use Rattle.span_map.specs.declared.jobs.JobPart.{JobPart}
 use Rattle.machine_core.specs.Choices.{mirror_urls}
 use Rattle.machine_core.specs.Claiming.{next_to_open}
+pub use Rattle.machine_core.specs.Clashes.{HasNoClash, IsClash}
 use Rattle.machine_core.specs.Offers.{IsOffer, IsOffered, active_credits, no_blocks, offered_claim}
 use Rattle.machine_core.specs.OwnParts.{PayloadLengths}
 use Rattle.machine_core.specs.Replays.{queue_in}
-use Rattle.machine_core.specs.RunLegal.{HasSameFile, HasSameHash, download_in, is_listed, known_lengths}
-use Rattle.machine_core.specs.Starts.{Download, RunStart, Subject, Listed, Unlisted}
+use Rattle.machine_core.specs.RunLegal.{download_in, is_listed, known_lengths}
+use Rattle.machine_core.specs.Starts.{Download, Subject, Listed, Unlisted}
 use Rattle.machine_core.specs.declared.ends.End.{End}
-use Rattle.machine_core.specs.declared.ends.End.TheVariants as end
 use Rattle.machine_core.specs.declared.events.Event.{Event}
 use Rattle.machine_core.specs.declared.events.Event.TheVariants.{Claimed, Ended}
 use Rattle.machine_core.specs.declared.offers.Offer.{Offer}
@@ -24,7 +24,8 @@ use Rattle.machine_core.specs.declared.offers.Offer.TheVariants as offer
 use Rattle.machine_core.specs.declared.offers.Offered.{Offered}
 use Rattle.machine_core.specs.declared.offers.Offered.TheVariants as offered
 use Rattle.engine_turns.specs.ClaimRows.{allowance}
-use Rattle.engine_turns.specs.Phases.{AndThen, EndingOr, DiskFaultEnds, NoEvent, OpeningPhase, Outcome, SettlingPhase, TurnStart}
+use Rattle.engine_turns.specs.Phases.{AndThen, EndingOr, DiskFaultEnds, NoEvent, OpeningPhase, SettlingPhase, TurnStart}
+use Rattle.engine_turns.specs.declared.outcome.Outcome.{Outcome}
 use Rattle.engine_turns.specs.Standings.{AnswersOnly, AnswersUnlessStarved, RunStanding, levels_in}
 use Rattle.engine_turns.specs.declared.limits.TheConstants.{MAX_ALLOWANCE}
 use Rattle.engine_turns.specs.declared.operations.FetchGrant.{FetchGrant}
@@ -33,16 +34,6 @@ use Rattle.engine_turns.specs.declared.operations.Said.{Said}
 use Rattle.engine_turns.specs.declared.operations.Said.TheVariants.{Done, Grant, Hold, Idle, NoMemory}
 
 -- ---- an opening
-
--- another download that goes on has its info hash or, where none has, writes one of its files
-abbrev pub IsClash : RunStart → List Event → Download → End → Type 0
-IsClash start past download (end.SameHash other) = HasSameHash start past download other
-IsClash start past download (end.SameFile other) =
-    HasSameFile start past download other × ((gid : Gid) → HasSameHash start past download gid → ⊥)
-IsClash start past download how = ⊥
-
-abbrev pub HasNoClash : RunStart → List Event → Download → Type 0
-HasNoClash start past download = (how : End) → IsClash start past download how → ⊥
 
 -- the store opens it, and it ends where each wanted piece is verified
 abbrev pub IsOpeningTurn : TurnStart → RunStanding → Download → List Event → Said → Type 0

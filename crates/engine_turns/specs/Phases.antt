@@ -1,19 +1,16 @@
 -- What the events of a turn are made of, in order.
-use Rattle.std.specs.Prelude.{◌≡◌, ◌≢◌, ◌⊎◌, ℕ, ◌-◌, ◌^◌, ◌<◌, ◌≤◌, Bool, true, false, List, [], ◌∷◌, ◌++◌, slice_index_or}
-use Rattle.std.specs.Option.{is_some}
+use Rattle.std.specs.Prelude.{◌≡◌, ◌≢◌, ◌⊎◌, ℕ, ◌-◌, ◌^◌, ◌<◌, ◌≤◌, Bool, true, false, Contains, List, [], ◌∷◌, ◌++◌, slice_index_or}
 use Rattle.dl_kinds.specs.declared.gid.Gid.{Gid}
 use Rattle.dl_kinds.specs.declared.marks.Mark.{Mark}
 use Rattle.dl_kinds.specs.declared.runs.Moment.{Moment}
 use Rattle.dl_kinds.specs.declared.runs.Run.{Run}
 use Rattle.dl_history.specs.PayloadParts.{is_verified_in, sources_in}
-use Rattle.option_set.specs.Values.{text_of_word}
-use Rattle.option_set.specs.declared.kinds.Word.TheVariants.{Checksum}
 use Rattle.piece_table.specs.Changes.{IsGiver}
 use Rattle.piece_table.specs.Progress.{piece_part}
 use Rattle.piece_table.specs.declared.giver.Giver.{Giver}
 use Rattle.machine_core.specs.OwnParts.{own_of}
 use Rattle.machine_core.specs.Reads.{IsUnlistedIn}
-use Rattle.machine_core.specs.RunLegal.{IsDeadIn, known_lengths}
+use Rattle.machine_core.specs.RunLegal.{IsDeadIn, has_checksum, known_lengths}
 use Rattle.machine_core.specs.Starts.{Download, RunStart}
 use Rattle.machine_core.specs.Wanted.{wanted_pieces}
 use Rattle.machine_core.specs.declared.ends.End.{End}
@@ -21,12 +18,8 @@ use Rattle.machine_core.specs.declared.ends.End.TheVariants as end
 use Rattle.machine_core.specs.declared.events.Event.{Event}
 use Rattle.machine_core.specs.declared.events.Event.TheVariants.{Opened, Landed, Settled, Cleared, Checked, Saved, Ended}
 use Rattle.engine_turns.specs.Told.{history_after}
-
--- how a part of a turn came out
-pub data Outcome : Type 0 where
-  Went : Outcome  -- all of it came
-  Over : Outcome  -- the download ended
-  Starved : Outcome  -- memory ran out
+use Rattle.engine_turns.specs.declared.outcome.Outcome.{Outcome}
+use Rattle.engine_turns.specs.declared.outcome.Outcome.TheVariants.{Went, Over, Starved}
 
 -- the history before it, its events in order, and how it came out
 abbrev pub Phase : Type 1
@@ -168,9 +161,6 @@ CompletionPhase at gid false past events outcome = EndAfterDisk at gid end.Compl
 CompletionPhase at gid true past events outcome =
     (right : Bool) × AndThen (AfterDisk at gid (Checked gid right ∷ [])) (CheckedPhase at gid right) past events outcome
 
-abbrev pub has_checksum : Download → Bool
-has_checksum download = is_some (text_of_word download.options Checksum)
-
 -- each wanted piece is verified
 abbrev pub IsWantedVerified : RunStart → List Event → Download → Type 0
 IsWantedVerified start past download =
@@ -233,3 +223,4 @@ pub record Did (P : ℕ → Phase) (old : List Event) (faults : ℕ) (new : List
   pub grown : new ≡ history_after old events
   pub is : (from : ℕ) → from ≤ faults → P from old events outcome
   pub later : faults ≤ faults_after
+  pub counts : (gid : Gid) (count : ℕ) → Contains events (Ended gid (end.Disk count)) → count ≤ faults_after

@@ -7,7 +7,8 @@ use Rattle.machine_core.specs.Offers.{is_handed_out}
 use Rattle.machine_core.specs.RunLegal.{download_in}
 use Rattle.machine_core.specs.Starts.{Download, Subject, Listed, Unlisted}
 use Rattle.machine_core.specs.declared.events.Event.{Event}
-use Rattle.engine_turns.specs.Phases.{AfterDisk, AndThen, EndingOr, NoEvent, Outcome, Phase, SettlingPhase, TurnStart}
+use Rattle.engine_turns.specs.Phases.{AfterDisk, AndThen, EndingOr, NoEvent, Phase, SettlingPhase, TurnStart}
+use Rattle.engine_turns.specs.declared.outcome.Outcome.{Outcome}
 use Rattle.engine_turns.specs.Standings.{AnswersOnly, AnswersUnlessStarved, RunStanding}
 use Rattle.engine_turns.specs.declared.operations.Said.{Said}
 use Rattle.engine_turns.specs.declared.operations.Said.TheVariants.{Done, Void}

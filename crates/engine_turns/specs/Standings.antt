@@ -11,7 +11,9 @@ use Rattle.machine_core.specs.Starts.{Download, RunStart}
 use Rattle.machine_core.specs.declared.events.Event.{Event}
 use Rattle.machine_core.specs.declared.handed.Handed.{Handed}
 use Rattle.engine_turns.specs.Levels.{overall_level, own_levels}
-use Rattle.engine_turns.specs.Phases.{Outcome, Went, Over, Starved, TurnStart}
+use Rattle.engine_turns.specs.Phases.{TurnStart}
+use Rattle.engine_turns.specs.declared.outcome.Outcome.{Outcome}
+use Rattle.engine_turns.specs.declared.outcome.Outcome.TheVariants.{Went, Over, Starved}
 use Rattle.engine_turns.specs.Told.{RunTurn, handed_in, history_of}
 use Rattle.engine_turns.specs.declared.operations.Said.{Said}
 use Rattle.engine_turns.specs.declared.operations.Said.TheVariants.{NoMemory, Void}

@@ -1,5 +1,5 @@
 // What holds of the turns of every run.
-ghost use Rattle.engine_turns.specs.RunLaws.{ActiveAreGoing, InactiveAreIdle};
+ghost use Rattle.engine_turns.specs.RunLaws.{ActiveAreGoing, EndedAreGone, GoneStay, InactiveAreIdle};
 ghost use Rattle.engine_turns.specs.TurnLaws.{HandedAreActive, MomentsNeverFall, TurnsAppend};
 ghost use Rattle.engine_turns.specs.WorkedTurns.{WorkedRows, WorkedTurns};
 
@@ -21,4 +21,10 @@ pub fn worked_turns_are_told()
 pub fn active_downloads_are_going()
     ensures going { ActiveAreGoing }
     ensures idle { InactiveAreIdle }
+{}
+
+/// A download goes on until it ends or is removed, and never again. It does nothing when it runs.
+pub fn downloads_go_on_once()
+    ensures gone { GoneStay }
+    ensures ended { EndedAreGone }
 {}

@@ -4,7 +4,11 @@
 mod laws;
 mod limits;
 mod operations;
+mod outcome;
 
-pub use laws::{active_downloads_are_going, turns_tell_runs, worked_turns_are_told};
+pub use laws::{
+    active_downloads_are_going, downloads_go_on_once, turns_tell_runs, worked_turns_are_told,
+};
 pub use limits::{MAX_ALLOWANCE, MAX_DELIVERY, MAX_ENTRIES};
 pub use operations::{Answer, FetchGrant, Grant, Operation, Said};
+pub use outcome::Outcome;
