@@ -1,0 +1,14 @@
+//! Worked histories of a run through the machine, and random steps beside a plain program.
+#![tactic(auto)]
+
+#[cfg(test)]
+mod histories;
+#[cfg(test)]
+mod lines;
+#[cfg(test)]
+mod plain;
+mod rig;
+#[cfg(test)]
+mod steps;
+
+pub use rig::{Rig, Taken};

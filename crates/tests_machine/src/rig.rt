@@ -1,0 +1,339 @@
+// A run whose steps have no premises: what may not come is left out.
+ghost use Rattle.std.specs.Prelude.{◌≡◌, ◌+◌, ◌<◌, ◌≤◌, ◌^◌, false, true, IfOk, IfSome, length};
+ghost use Rattle.machine_core.specs.Claiming.{MayBeTaken};
+ghost use Rattle.machine_core.specs.LawfulCalls.{IsLawful};
+ghost use Rattle.machine_core.specs.MachineViews.{IsFindingOf, IsNext};
+ghost use Rattle.machine_core.specs.RunLegal.{IsLaterThan};
+ghost use Rattle.machine_core.specs.TurnRooms.{HasTurnMarkRoom};
+ghost use Rattle.machine_core.specs.declared.offers.Offered.TheVariants.{Next};
+ghost use Rattle.piece_table.specs.Progress.{IsStart};
+
+use bit_rows::BitRow;
+use control_file::Opened;
+use dl_kinds::{Code, Gid, MAX_MIRRORS, Mark, Moment, Plan, Run, Text, Texts};
+use link_source::is_usable;
+use machine_core::{Applied, Call, HandedPieces, Machine, Offer, Offered, downloads_stay};
+use metainfo::Meta;
+use option_set::{Options, Settings};
+use rate_limits::RateLimits;
+use std::alloc::{AllocError, Global};
+
+/// A run and its latest moment, with the pieces that workers compare and the buckets.
+#[derive(Drop)]
+pub struct Rig {
+    machine: Machine,
+    handed: HandedPieces,
+    limits: RateLimits,
+    now: Moment,
+    ghost later: { IsLaterThan machine.past now },
+}
+
+/// What a worker was given.
+#[derive(Clone, Copy, Debug, PartialEq, Eq)]
+pub enum Taken {
+    Claim {
+        id: u64,
+        gid: Gid,
+        mirror: u16,
+        run: Run,
+        victim: Option<u64>,
+    },
+    Probe {
+        id: u64,
+        gid: Gid,
+        mirror: u16,
+    },
+    /// A full piece, which was found right.
+    Right {
+        gid: Gid,
+        piece: u32,
+    },
+    /// One which was found wrong, and cleared.
+    Wrong {
+        gid: Gid,
+        piece: u32,
+    },
+    Held {
+        ms: u64,
+    },
+    Idle,
+}
+
+// A call that adds a download of this URL, where it can be asked.
+fn uri_call(alloc: Global, url: &str) -> Result<Option<Call>, AllocError>
+    ensures { IfOk result (λ call. IfSome call IsLawful) }
+{
+    if !is_usable(alloc, url)? {
+        return Ok(None);
+    }
+    let mut uris = Texts::new(alloc);
+    uris.push(Text::of(alloc, url)?)?;
+    Ok(Some(Call::AddUri {
+        uris,
+        options: Settings::new(alloc),
+        position: None,
+    }))
+}
+
+// A call that adds the download of a metainfo file, which has web seeds.
+fn torrent_call(alloc: Global, bytes: &[u8]) -> Result<Option<Call>, AllocError>
+    requires { length bytes.now < 2 ^ 32 }
+    ensures { IfOk result (λ call. IfSome call IsLawful) }
+{
+    let Ok(meta) = Meta::read(alloc, bytes) else {
+        return Ok(None);
+    };
+    if meta.seeds.is_empty() || meta.seeds.len() > MAX_MIRRORS as usize {
+        return Ok(None);
+    }
+    Ok(Some(Call::AddTorrent {
+        meta: Box::new(alloc, meta)?,
+        uris: Texts::new(alloc),
+        options: Settings::new(alloc),
+        position: None,
+    }))
+}
+
+// Rows of which these blocks have landed, and no piece is verified.
+fn rows(alloc: Global, plan: &Plan, landed: &[u32]) -> Result<Opened, AllocError>
+    ensures { IfOk result (λ opened.
+        IsStart plan.now.total plan.now.piece_len opened.verified opened.blocks) }
+{
+    let verified = BitRow::new(alloc, plan.pieces)?;
+    let mut blocks = BitRow::new(alloc, plan.blocks())?;
+    for block in landed {
+        if *block < blocks.len() {
+            blocks.set(*block);
+        }
+    }
+    Ok(Opened { verified, blocks })
+}
+
+impl Rig {
+    /// A run in which nothing happened, without limits of speed. Gids are made from 1.
+    pub fn new(alloc: Global, options: Options) -> Result<Rig, AllocError> {
+        Ok(Rig {
+            machine: Machine::new(alloc, 1, options, 0)?,
+            handed: HandedPieces::new(alloc),
+            limits: RateLimits::new(alloc, 0, Moment(0)),
+            now: Moment(0),
+        })
+    }
+
+    pub fn machine(&self) -> &Machine {
+        &self.machine
+    }
+
+    /// Time goes on.
+    pub fn pass(&mut self, ms: u64) {
+        self.now = Moment(self.now.0.saturating_add(ms));
+    }
+
+    /// A call comes. A download that it adds gets a bucket.
+    pub fn call(&mut self, alloc: Global, call: Call) -> Result<Applied, AllocError>
+        requires { IsLawful call }
+    {
+        self.limits.reserve(1)?;
+        let applied = self.machine.apply_call(alloc, 0, call, self.now)?;
+        self.limits.add(0, self.now);
+        Ok(applied)
+    }
+
+    /// A download of a URL is added, where it can be asked.
+    pub fn add_uri(&mut self, alloc: Global, url: &str) -> Result<Option<Applied>, AllocError> {
+        match uri_call(alloc, url)? {
+            Some(call) => Ok(Some(self.call(alloc, call)?)),
+            None => Ok(None),
+        }
+    }
+
+    /// A download of a metainfo file is added, where the bytes are one with web seeds. They are 1,000,000 at most.
+    pub fn add_torrent(
+        &mut self,
+        alloc: Global,
+        bytes: &[u8],
+    ) -> Result<Option<Applied>, AllocError> {
+        if bytes.len() > 1_000_000 {
+            return Ok(None);
+        }
+        match torrent_call(alloc, bytes)? {
+            Some(call) => Ok(Some(self.call(alloc, call)?)),
+            None => Ok(None),
+        }
+    }
+
+    /// An active download whose length is known is opened, with these blocks landed and no piece verified. Told is whether
+    /// it was.
+    pub fn open(&mut self, alloc: Global, gid: Gid, landed: &[u32]) -> Result<bool, AllocError> {
+        if self.machine.table(gid).is_some() || !self.machine.is_active(gid) {
+            return Ok(false);
+        }
+        let Some(want) = self.machine.make_want(alloc, gid)? else {
+            return Ok(false);
+        };
+        let opened = rows(alloc, &want.plan, landed)?;
+        self.machine.opened(alloc, gid, opened, self.now)?;
+        Ok(true)
+    }
+
+    // A full piece of a download with a metainfo file is found wrong and cleared, where no save lists a block of it. Told is
+    // whether it was.
+    fn find_wrong(&mut self, alloc: Global, gid: Gid, piece: u32) -> Result<bool, AllocError>
+        requires due { IsNext self.old.machine (IsFindingOf gid piece true) }
+        requires room { 2 ≤ self.old.machine.spare }
+        requires marks { HasTurnMarkRoom self.old.machine }
+        ensures same { IfOk result (λ wrong. wrong ≡ false → self.new.machine ≡ self.old.machine) }
+    {
+        let Some(want) = self.machine.make_want(alloc, gid)? else {
+            return Ok(false);
+        };
+        if want.info_hash.is_none() || !self.machine.is_active(gid) {
+            return Ok(false);
+        }
+        if self.machine.lists(gid, piece) {
+            return Ok(false);
+        }
+        downloads_stay();
+        let _ = self.machine.journal().len();
+        self.machine.settled(gid, piece, false);
+        self.machine.cleared(gid, piece);
+        Ok(true)
+    }
+
+    // What was offered is taken.
+    fn give(
+        &mut self,
+        alloc: Global,
+        worker: u32,
+        right: bool,
+        gid: Gid,
+        offer: Offer,
+    ) -> Result<Taken, AllocError>
+        requires due { MayBeTaken self.old.machine self.old.now (Next gid offer) }
+        requires room { 2 ≤ self.old.machine.spare }
+        requires marks { HasTurnMarkRoom self.old.machine }
+    {
+        match offer {
+            Offer::Blocks {
+                mirror,
+                run,
+                victim,
+            } => {
+                let id = self
+                    .machine
+                    .claimed(gid, worker, mirror, run, victim, self.now)?;
+                Ok(Taken::Claim {
+                    id,
+                    gid,
+                    mirror,
+                    run,
+                    victim,
+                })
+            }
+            Offer::Probe { mirror } => {
+                let run = Run { first: 0, count: 0 };
+                let id = self
+                    .machine
+                    .claimed(gid, worker, mirror, run, None, self.now)?;
+                Ok(Taken::Probe { id, gid, mirror })
+            }
+            Offer::Whole { piece } => {
+                if !right && self.find_wrong(alloc, gid, piece)? {
+                    return Ok(Taken::Wrong { gid, piece });
+                }
+                self.machine.settled(gid, piece, true);
+                Ok(Taken::Right { gid, piece })
+            }
+        }
+    }
+
+    /// A worker gets what is offered: a claim is made, and a full piece is found right or wrong.
+    pub fn take(&mut self, alloc: Global, worker: u32, right: bool) -> Result<Taken, AllocError> {
+        self.machine.reserve_turn()?;
+        let count = self.limits.len();
+        if count > 1_000_000 || self.machine.added(count as u32).is_some() {
+            return Ok(Taken::Idle);
+        }
+        match self.machine.offer(&self.handed, &self.limits, self.now)? {
+            Offered::Next { gid, offer } => self.give(alloc, worker, right, gid, offer),
+            Offered::Held { ms } => Ok(Taken::Held { ms }),
+            Offered::Idle => Ok(Taken::Idle),
+        }
+    }
+
+    // The first run of those blocks that are open in a claim lands. Told is how many these are.
+    fn land_first(&mut self, claim: u64, run: Run) -> Result<u32, AllocError>
+        requires few { run.count ≤ 64 }
+        requires bounded { run.first + run.count < 2 ^ 32 }
+    {
+        self.machine.reserve_turn()?;
+        let Some((gid, _)) = self.machine.claim(claim) else {
+            return Ok(0);
+        };
+        if self.machine.options(gid).is_none() {
+            return Ok(0);
+        }
+        match self.machine.new_blocks(claim, run).get(0) {
+            Some(first) => {
+                self.machine.landed(claim, first, self.now);
+                Ok(first.count)
+            }
+            None => Ok(0),
+        }
+    }
+
+    /// A block lands, where it is open in a claim. Told is how many blocks did.
+    pub fn land_block(&mut self, claim: u64, block: u32) -> Result<u32, AllocError> {
+        if block > 1_000_000 {
+            return Ok(0);
+        }
+        let run = Run {
+            first: block,
+            count: 1,
+        };
+        self.land_first(claim, run)
+    }
+
+    /// The blocks of a run that are open in a claim land. Told is how many these are; of more than 64 none does.
+    pub fn land(&mut self, claim: u64, first: u32, count: u32) -> Result<u32, AllocError> {
+        if count > 64 || first > 1_000_000 {
+            return Ok(0);
+        }
+        let run = Run { first, count };
+        let mut landed = 0;
+        for _ in 0..64 {
+            landed = self.land_first(claim, run)?.saturating_add(landed);
+        }
+        Ok(landed)
+    }
+
+    /// A claim fails, where it stands. Told is whether it did.
+    pub fn lose(&mut self, claim: u64) -> Result<bool, AllocError> {
+        self.machine.reserve_turn()?;
+        let Some((gid, _)) = self.machine.claim(claim) else {
+            return Ok(false);
+        };
+        if !self.machine.is_active(gid) || self.machine.options(gid).is_none() {
+            return Ok(false);
+        }
+        let mark = Mark {
+            code: Code(3),
+            count: 0,
+        };
+        self.machine.lost(claim, mark);
+        Ok(true)
+    }
+
+    /// The probe that stands tells the length. Told is whether it did.
+    pub fn size(&mut self, claim: u64, total: u64) -> Result<bool, AllocError> {
+        self.machine.reserve_turn()?;
+        let Some((gid, probe)) = self.machine.claim(claim) else {
+            return Ok(false);
+        };
+        if probe.run.count != 0 || self.machine.options(gid).is_none() {
+            return Ok(false);
+        }
+        self.machine.sized(claim, total);
+        Ok(true)
+    }
+}
