@@ -1,0 +1,218 @@
+use Rattle.std.proofs.Common.{◌≡◌, ◌<◌, ◌^◌, ◌∙◌, ◌∷◌, [], Some, ap, arith, refl, subst, sym, true, false}
+use Rattle.dl_history.specs.OwnEvents.{Checks, Halts}
+use Rattle.engine_turns.specs.Phases.{AfterDisk}
+use Rattle.engine_turns.specs.declared.outcome.Outcome.TheVariants.{Over, Went}
+use Rattle.machine_core.specs.RunLegal.{MayFollow}
+use Rattle.machine_core.specs.declared.ends.End.TheVariants as end
+use Rattle.machine_core.specs.declared.events.Event.{Event}
+use Rattle.machine_core.specs.declared.events.Event.TheVariants.{Checked, Ended}
+use Rattle.control_file.specs.Wants.{IsWant}
+use Rattle.control_file.specs.declared.want.Want.{Want}
+use Rattle.dl_words.specs.Counts.{Rose}
+use Rattle.machine_core.specs.OwnParts.{own_of}
+use Rattle.std.specs.Option.{is_some}
+use Rattle.std.proofs.lemmas.Option.{same_Some}
+use Rattle.payload_files.specs.Payload.{HasFiles}
+use Rattle.stored_run.specs.Settlings.{IsTruly, MayBeCheckedBy}
+use Rattle.stored_run.proofs.Completing.{may_check}
+use Rattle.stored_run.specs.Steps.{turn_from}
+use Rattle.stored_run.specs.Views.{IsGoing, kept_want_of}
+use Rattle.stored_run.specs.declared.run.StoredView.{StoredView}
+use Rattle.stored_run.proofs.Doing.{grown_none}
+use Rattle.stored_run.proofs.Endings.{checked_own, ended_own, fault_ends, going_facts, may_fail, plain_kept, rose_of, same_of}
+use Rattle.stored_run.proofs.Kept.{checks, halts}
+use Rattle.stored_run.proofs.Single.{read_run}
+use Rattle.stored_run.proofs.Steady.{disk_read, grown_to, one_did}
+use Rattle.stored_run.proofs.WantPlaces.{place_some, want_is, want_some, want_within}
+use Rattle.stored_run.proofs.run.StoredRun.check_whole.Goals as goal
+
+pub unwrap-place-requires : goal.unwrap-place-requires
+unwrap-place-requires g c =
+    let m = c.self.inside.machine in
+    let going = subst (λ (v : StoredView _). IsGoing v c.args.gid) (sym c.self.view_is) c.requires.going in
+    let facts = going_facts m.start m.past c.self.inside.wants.items c.args.gid c.self.invariant.wants_are going in
+    place_some m.start m.past c.self.inside.wants.items c.args.gid facts c.place.result c.place.ensures.none
+
+pub index-requires : goal.index-requires
+index-requires g c =
+    let m = c.self.inside.machine in
+    let going = subst (λ (v : StoredView _). IsGoing v c.args.gid) (sym c.self.view_is) c.requires.going in
+    let facts = going_facts m.start m.past c.self.inside.wants.items c.args.gid c.self.invariant.wants_are going in
+    let within = want_within m.start m.past c.self.inside.wants.items c.args.gid facts c.place.result c.unwrap-place.result
+    c.unwrap-place.ensures c.place.ensures.first in
+    omega (arith, c.self.inside.wants.ok.0)
+
+pub unwrap-want-requires : goal.unwrap-want-requires
+unwrap-want-requires g c =
+    let m = c.self.inside.machine in
+    let going = subst (λ (v : StoredView _). IsGoing v c.args.gid) (sym c.self.view_is) c.requires.going in
+    let facts = going_facts m.start m.past c.self.inside.wants.items c.args.gid c.self.invariant.wants_are going in
+    want_some m.start m.past c.self.inside.wants.items c.args.gid facts c.place.result c.unwrap-place.result
+    c.unwrap-place.ensures c.place.ensures.first c.index.result.now c.as_ref.result c.index.ensures
+    c.as_ref.ensures.value
+
+pub check_payload-requires-clause-want : goal.check_payload-requires-clause-want
+check_payload-requires-clause-want g c =
+    let m = c.self.inside.machine in
+    let going = subst (λ (v : StoredView _). IsGoing v c.args.gid) (sym c.self.view_is) c.requires.going in
+    let facts = going_facts m.start m.past c.self.inside.wants.items c.args.gid c.self.invariant.wants_are going in
+    let want_eq = want_is m.start m.past c.self.inside.wants.items c.args.gid facts c.place.result c.unwrap-place.result
+    c.unwrap-place.ensures c.place.ensures.first c.index.result.now c.as_ref.result c.unwrap-want.result c.index.ensures
+    c.as_ref.ensures.value c.unwrap-want.ensures in
+    subst IsWant (sym want_eq) (c.self.invariant.wants_are.sound c.args.gid facts.want facts.kept)
+
+pub ended-requires-clause-legal : goal.ended-requires-clause-legal
+ended-requires-clause-legal g c =
+    let d = g.D.Disk in
+    let m = c.self.inside.machine in
+    let going = subst (λ (v : StoredView _). IsGoing v c.args.gid) (sym c.self.view_is) c.requires.going in
+    let facts = going_facts m.start m.past c.self.inside.wants.items c.args.gid c.self.invariant.wants_are going in
+    subst (λ n. MayFollow m.start m.past (Ended c.args.gid (end.Disk n))) (sym c.faults-count.ensures)
+    (may_fail c.runs_follow.ensures m.start m.past c.self.inside.wants.items c.args.gid (d.faults c.self.inside.disk)
+    (d.faults c.check_payload.new.disk) c.self.invariant.legal c.self.invariant.wants_are c.self.invariant.counted going
+    (rose_of _ _ c.check_payload.result c.in-Err-Disk.field-0 c.check_payload.ensures.cause c.in-Err-Disk.is
+    c.in-Err-Disk.field-0-is) (subst (λ n. n < 2 ^ 64) c.faults-count.ensures c.faults-count.type_inv))
+
+pub invariant_of-self-in-Err-Disk : goal.invariant_of-self-in-Err-Disk
+invariant_of-self-in-Err-Disk g c =
+    let d = g.D.Disk in
+    let m = c.self.inside.machine in
+    let going = subst (λ (v : StoredView _). IsGoing v c.args.gid) (sym c.self.view_is) c.requires.going in
+    let facts = going_facts m.start m.past c.self.inside.wants.items c.args.gid c.self.invariant.wants_are going in
+    let want_eq = want_is m.start m.past c.self.inside.wants.items c.args.gid facts c.place.result c.unwrap-place.result
+    c.unwrap-place.ensures c.place.ensures.first c.index.result.now c.as_ref.result c.unwrap-want.result c.index.ensures
+    c.as_ref.ensures.value c.unwrap-want.ensures in
+    let came = c.ended.ensures.event in
+    let old = d.state c.self.inside.disk in
+    let new = d.state c.check_payload.new.disk in
+    let how = end.Disk c.faults-count.result in
+    plain_kept c.runs_follow.ensures d.tells (d.faults c.self.inside.disk) (d.faults c.check_payload.new.disk) old new m.start
+    c.ended.new.self.start m.past c.ended.new.self.past c.self.inside.wants.items c.self.inside.now (Ended c.args.gid how)
+    c.args.gid (Halts true) c.self.invariant came.start_is (came.past_is ∙ ap (λ (x : Event). x ∷ m.past) came.is)
+    (subst (λ (x : Event). MayFollow m.start m.past x) came.is came.may) (ended_own c.args.gid how) (halts true) tt
+    c.check_payload.ensures.cause.later (omega (arith, c.faults-count.ensures)) (λ told. (c.check_payload.ensures.looks told).stays)
+
+pub invariant_of-self-in-Err-NoMemory : goal.invariant_of-self-in-Err-NoMemory
+invariant_of-self-in-Err-NoMemory g c =
+    let d = g.D.Disk in
+    let m = c.self.inside.machine in
+    let old = d.state c.self.inside.disk in
+    let new = d.state c.check_payload.new.disk in
+    read_run d.tells (d.faults c.self.inside.disk) (d.faults c.check_payload.new.disk) old new m.start m.past
+    c.self.inside.wants.items c.self.inside.now c.self.invariant
+    (sym (same_of _ _ c.check_payload.result c.in-Err-NoMemory.field-0 c.check_payload.ensures.cause c.in-Err-NoMemory.is
+    c.in-Err-NoMemory.field-0-is)) (λ told. (c.check_payload.ensures.looks told).stays)
+
+pub returns-in-Err-Disk-clause-did : goal.returns-in-Err-Disk-clause-did
+returns-in-Err-Disk-clause-did g c =
+    let d = g.D.Disk in
+    let m = c.self.inside.machine in
+    let came = c.ended.ensures.event in
+    let u = c.self.inside in
+    let rose = rose_of _ _ c.check_payload.result c.in-Err-Disk.field-0 c.check_payload.ensures.cause c.in-Err-Disk.is
+    c.in-Err-Disk.field-0-is in
+    let count = c.faults-count.result in
+    one_did _ _ c.self.view_is d.faults (λ v n. AfterDisk (turn_from v n) c.args.gid (Checked c.args.gid false ∷ [])) c.ended.new.self.past
+    (d.faults c.check_payload.new.disk) (Ended c.args.gid (end.Disk count)) Over
+    (came.past_is ∙ ap (λ (x : Event). x ∷ m.past) came.is)
+    c.check_payload.ensures.cause.later
+    (λ from below. fault_ends (record { start = m.start; now = u.now; faults = from }) c.args.gid
+    (d.faults u.disk) count below (subst (λ n. Rose (d.faults u.disk) n) (sym c.faults-count.ensures) rose)
+    c.faults-count.type_inv)
+    (λ h n is. let same : count ≡ n = cc in omega (arith, c.faults-count.ensures, same))
+
+pub returns-in-Err-Disk-clause-disk : goal.returns-in-Err-Disk-clause-disk
+returns-in-Err-Disk-clause-disk g c told =
+    let d = g.D.Disk in
+    let m = c.self.inside.machine in
+    let came = c.ended.ensures.event in
+    let n = c.ended.new.self in
+    let laws = c.runs_follow.ensures in
+    let kept = c.self.invariant.wants_are in
+    let past_is = came.past_is ∙ ap (λ (x : Event). x ∷ m.past) came.is in
+    disk_read _ _ c.self.view_is laws d.state n.start n.past c.args.gid kept
+    (grown_to _ _ c.self.view_is laws d.state n.start n.past c.args.gid kept _ came.start_is past_is)
+    (d.state c.check_payload.new.disk) (c.check_payload.ensures.looks told).stays (c.check_payload.ensures.looks told).passes
+
+pub returns-in-Err-NoMemory-clause-disk : goal.returns-in-Err-NoMemory-clause-disk
+returns-in-Err-NoMemory-clause-disk g c told =
+    let d = g.D.Disk in
+    let m = c.self.inside.machine in
+    disk_read _ _ c.self.view_is c.runs_follow.ensures d.state m.start m.past c.args.gid c.self.invariant.wants_are
+    (grown_none (own_of m.start m.past c.args.gid))
+    (d.state c.check_payload.new.disk) (c.check_payload.ensures.looks told).stays (c.check_payload.ensures.looks told).passes
+
+pub check_payload-requires-clause-files : goal.check_payload-requires-clause-files
+check_payload-requires-clause-files g c told =
+    let d = g.D.Disk in
+    let disk = d.state c.self.inside.disk in
+    let m = c.self.inside.machine in
+    let going = subst (λ (v : StoredView _). IsGoing v c.args.gid) (sym c.self.view_is) c.requires.going in
+    let facts = going_facts m.start m.past c.self.inside.wants.items c.args.gid c.self.invariant.wants_are going in
+    let want_eq = want_is m.start m.past c.self.inside.wants.items c.args.gid facts c.place.result c.unwrap-place.result
+    c.unwrap-place.ensures c.place.ensures.first c.index.result.now c.as_ref.result c.unwrap-want.result c.index.ensures
+    c.as_ref.ensures.value c.unwrap-want.ensures in
+    subst (λ (w : Want). HasFiles w.dir w.layout disk.seen) (sym want_eq)
+    ((c.self.invariant.stored told c.args.gid facts.want going facts.kept).held disk.seen disk.own_image).files
+
+pub checked-requires-clause-legal : goal.checked-requires-clause-legal
+checked-requires-clause-legal g c =
+    let m = c.self.inside.machine in
+    let going = subst (λ (v : StoredView _). IsGoing v c.args.gid) (sym c.self.view_is) c.requires.going in
+    let facts = going_facts m.start m.past c.self.inside.wants.items c.args.gid c.self.invariant.wants_are going in
+    let may = subst (λ (v : StoredView _). MayBeCheckedBy v c.args.gid c.args.check.now) (sym c.self.view_is) c.requires.may in
+    may_check m.start m.past c.args.gid may.download c.in-Ok.right going may.added may.spelled.unlisted
+    (ap is_some may.spelled.option) may.done
+
+pub invariant_of-self : goal.invariant_of-self
+invariant_of-self g c =
+    let d = g.D.Disk in
+    let m = c.self.inside.machine in
+    let came = c.checked.ensures.event in
+    let old = d.state c.self.inside.disk in
+    let new = d.state c.check_payload.new.disk in
+    let e = Checked c.args.gid c.in-Ok.right in
+    plain_kept c.runs_follow.ensures d.tells (d.faults c.self.inside.disk) (d.faults c.check_payload.new.disk) old new m.start
+    c.checked.new.self.start m.past c.checked.new.self.past c.self.inside.wants.items c.self.inside.now e
+    c.args.gid (Checks c.in-Ok.right) c.self.invariant came.start_is
+    (came.past_is ∙ ap (λ (x : Event). x ∷ m.past) came.is)
+    (subst (λ (x : Event). MayFollow m.start m.past x) came.is came.may) (checked_own c.args.gid c.in-Ok.right)
+    (checks c.in-Ok.right) tt c.check_payload.ensures.cause.later tt (λ told. (c.check_payload.ensures.looks told).stays)
+
+pub returns-in-Ok-clause-did : goal.returns-in-Ok-clause-did
+returns-in-Ok-clause-did g c =
+    let d = g.D.Disk in
+    let m = c.self.inside.machine in
+    let came = c.checked.ensures.event in
+    one_did _ _ c.self.view_is d.faults
+    (λ v n. AfterDisk (turn_from v n) c.args.gid (Checked c.args.gid c.in-Ok.right ∷ [])) c.checked.new.self.past
+    (d.faults c.check_payload.new.disk) (Checked c.args.gid c.in-Ok.right) Went
+    (came.past_is ∙ ap (λ (x : Event). x ∷ m.past) came.is)
+    c.check_payload.ensures.cause.later (λ from below. refl) (λ h n is. absurd cc)
+
+pub returns-in-Ok-clause-disk : goal.returns-in-Ok-clause-disk
+returns-in-Ok-clause-disk g c told =
+    let d = g.D.Disk in
+    let m = c.self.inside.machine in
+    let came = c.checked.ensures.event in
+    let n = c.checked.new.self in
+    let laws = c.runs_follow.ensures in
+    let kept = c.self.invariant.wants_are in
+    let past_is = came.past_is ∙ ap (λ (x : Event). x ∷ m.past) came.is in
+    disk_read _ _ c.self.view_is laws d.state n.start n.past c.args.gid kept
+    (grown_to _ _ c.self.view_is laws d.state n.start n.past c.args.gid kept _ came.start_is past_is)
+    (d.state c.check_payload.new.disk) (c.check_payload.ensures.looks told).stays (c.check_payload.ensures.looks told).passes
+
+pub returns-in-Ok-clause-truly : goal.returns-in-Ok-clause-truly
+returns-in-Ok-clause-truly g c went told =
+    let d = g.D.Disk in
+    let m = c.self.inside.machine in
+    let going = subst (λ (v : StoredView _). IsGoing v c.args.gid) (sym c.self.view_is) c.requires.going in
+    let facts = going_facts m.start m.past c.self.inside.wants.items c.args.gid c.self.invariant.wants_are going in
+    let want_eq = want_is m.start m.past c.self.inside.wants.items c.args.gid facts c.place.result c.unwrap-place.result
+    c.unwrap-place.ensures c.place.ensures.first c.index.result.now c.as_ref.result c.unwrap-want.result c.index.ensures
+    c.as_ref.ensures.value c.unwrap-want.ensures in
+    subst (λ (v : StoredView _). (want : Want) → kept_want_of v c.args.gid ≡ Some want
+    → IsTruly c.in-Ok.right c.args.check.now want (d.state v.disk).seen) c.self.view_is
+    (λ want is. subst (λ (w : Want). IsTruly c.in-Ok.right c.args.check.now w (d.state c.self.inside.disk).seen)
+    (want_eq ∙ same_Some facts.want want (sym facts.kept ∙ is)) (c.in-Ok.ensures.exact told))

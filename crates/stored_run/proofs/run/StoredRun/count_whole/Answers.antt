@@ -1,0 +1,25 @@
+use Rattle.std.proofs.Common.{refl, true}
+use Rattle.machine_core.specs.declared.events.Event.TheVariants.{Settled}
+use Rattle.stored_run.proofs.Seals.{counted_row, none_some}
+use Rattle.stored_run.proofs.run.StoredRun.count_whole.Goals as goal
+
+pub settle_and_end-requires-clause-may : goal.settle_and_end-requires-clause-may
+settle_and_end-requires-clause-may g c =
+    let p = c.requires.piece in (
+      Settled c.args.gid c.args.piece true p.giver,
+      (p.giver, refl),
+      record { own = record { download = p.download; added = p.added; may = p.may }; right_is = λ un. refl },
+    )
+
+pub settle_and_end-requires-clause-digest : goal.settle_and_end-requires-clause-digest
+settle_and_end-requires-clause-digest g c right told want kept listed =
+    none_some want.info_hash (c.requires.unlisted want kept) listed
+
+pub returns-clause-row : goal.returns-clause-row
+returns-clause-row g c =
+    let d = g.D.Disk in
+    let v = c.args.self.now in
+    let n = c.settle_and_end.new.self in
+    let p = c.requires.piece in
+    counted_row v n c.args.gid (d.faults v.disk) (d.faults n.disk) c.settle_and_end.result c.done_unless_starved.result
+    c.done_unless_starved.ensures c.args.piece p.download p.added (c.settle_and_end.ensures.did p.download p.added)

@@ -1,0 +1,53 @@
+use Rattle.std.proofs.Common.{◌≡◌, false, true, refl, ◌∙◌, ap, subst, arith, ◌∷◌}
+use Rattle.dl_history.specs.OwnEvents.{Halts}
+use Rattle.dl_history.specs.PayloadParts.{is_ended}
+use Rattle.engine_turns.specs.Phases.{DeadPhase}
+use Rattle.engine_turns.specs.declared.outcome.Outcome.TheVariants.{Over, Went}
+use Rattle.machine_core.specs.Reads.{HasNoDeadMark, IsDeadPiece}
+use Rattle.machine_core.specs.declared.ends.End.TheVariants as end
+use Rattle.machine_core.specs.declared.events.Event.{Event}
+use Rattle.machine_core.specs.declared.events.Event.TheVariants.{Ended}
+use Rattle.stored_run.specs.Steps.{turn_from}
+use Rattle.stored_run.specs.Views.{own_in}
+use Rattle.stored_run.proofs.Doing.{part_event, part_none}
+use Rattle.stored_run.proofs.Kept.{halts}
+use Rattle.stored_run.proofs.Losses.{dead_may, dead_none, dead_over}
+use Rattle.stored_run.proofs.PlainEvents.{back_to, plain_after}
+use Rattle.stored_run.proofs.run.StoredRun.end_where_dead.Goals as goal
+
+pub ended-requires-clause-legal : goal.ended-requires-clause-legal
+ended-requires-clause-legal g c =
+    let going = back_to (λ w. is_ended (own_in w c.args.gid) ≡ false) _ _ c.self.view_is c.requires.going in
+    dead_may c.self.inside.machine c.args.gid c.args.piece c.in-Some.mark going c.in-Some.ensures.found
+
+pub invariant_of-self : goal.invariant_of-self
+invariant_of-self g c =
+    let a = c.args in
+    let came = c.ended.ensures.event in
+    let going = back_to (λ w. is_ended (own_in w c.args.gid) ≡ false) _ _ c.self.view_is c.requires.going in
+    let e = Ended a.gid (end.Dead a.piece c.in-Some.mark) in
+    plain_after c.runs_follow.ensures _ _ _ c.self.inside.machine c.ended.new.self _ _ a.gid (Halts true) e
+    c.self.invariant (halts true) (λ g. refl)
+    (dead_may c.self.inside.machine a.gid a.piece c.in-Some.mark going c.in-Some.ensures.found) tt refl
+    (came.past_is ∙ ap (λ (x : Event). x ∷ c.self.inside.machine.past) came.is) came.start_is
+
+pub returns-in-Some-clause-did : goal.returns-in-Some-clause-did
+returns-in-Some-clause-did g c download added =
+    let a = c.args in
+    let came = c.ended.ensures.event in
+    let same = ap (λ w. g.D.Disk.faults w.disk) c.self.view_is in
+    let dead = subst (λ w. IsDeadPiece w.machine a.gid a.piece c.in-Some.mark) c.self.view_is c.in-Some.ensures.found in
+    let e = Ended a.gid (end.Dead a.piece c.in-Some.mark) in
+    part_event (λ at. DeadPhase at download a.piece) e a.self.now (record a.self.now { machine = c.ended.new.self }) _ _
+    Over
+    (came.past_is ∙ (ap (λ (x : Event). x ∷ c.self.inside.machine.past) came.is
+    ∙ ap (λ w. e ∷ w.machine.past) c.self.view_is))
+    (omega (arith, same)) tt
+    (λ n below. dead_over (turn_from a.self.now n) a.self.now.machine a.gid a.piece c.in-Some.mark download refl added dead)
+
+pub returns-in-None-clause-did : goal.returns-in-None-clause-did
+returns-in-None-clause-did g c download added =
+    let a = c.args in
+    let none = subst (λ w. HasNoDeadMark w.machine a.gid a.piece) c.self.view_is c.in-None.ensures.none in
+    part_none (λ at. DeadPhase at download a.piece) a.self.now a.self.now _ _ Went refl (omega arith)
+    (λ n below. dead_none (turn_from a.self.now n) a.self.now.machine a.gid a.piece download refl added none)

@@ -1,0 +1,56 @@
+use Rattle.std.proofs.Common.{◌≡◌, ◌≤◌, [], ◌∷◌, refl, sym, ◌∙◌, subst, arith}
+use Rattle.machine_core.specs.RunLegal.{MayFollow, doors_left}
+use Rattle.machine_core.specs.declared.events.Event.TheVariants.{Left}
+use Rattle.stored_run.specs.Steps.{turn_from}
+use Rattle.stored_run.specs.Stored.{IsStoredWith}
+use Rattle.stored_run.proofs.Doing.{fault_in, no_counts}
+use Rattle.stored_run.proofs.Doors.{leaves, leaves_none}
+use Rattle.stored_run.proofs.Kept.{after_event}
+use Rattle.stored_run.proofs.SaveOne.{appended, past_by}
+use Rattle.stored_run.proofs.run.StoredRun.leave.Goals as goal
+
+pub invariant_of-self : goal.invariant_of-self
+invariant_of-self g c =
+    let m = c.self.inside.machine in
+    let disk = g.D.Disk.state c.self.inside.disk in
+    let faults = g.D.Disk.faults c.self.inside.disk in
+    let event = c.left.ensures.event in
+    appended m c.left.new.self Left
+    (λ s p. IsStoredWith g.D.Disk.tells faults disk s p c.self.inside.wants.items c.self.inside.now) event
+    (after_event c.runs_follow.ensures g.D.Disk.tells faults faults disk disk m.start m.past c.self.inside.wants.items
+    c.self.inside.now Left c.self.invariant (record {
+      may = subst (λ e. MayFollow m.start m.past e) event.is event.may;
+      none = λ gid is. is;
+      moment = tt;
+      more = omega arith;
+      fault = tt;
+      still = λ told gid want goes went had stays. stays;
+    }))
+
+pub returns-then-doors-eq0-clause-row : goal.returns-then-doors-eq0-clause-row
+returns-then-doors-eq0-clause-row g c =
+    let v = c.args.self.now in
+    let none : doors_left v.machine.start v.machine.past ≡ 0 =
+    subst (λ r. doors_left r.machine.start r.machine.past ≡ 0) c.self.view_is (sym c.doors.ensures ∙ c.if-doors-eq0.true) in
+    record {
+      events = [];
+      grown = refl;
+      is = λ from s below standing. leaves_none (turn_from v from) s v.machine.past standing none;
+      later = omega arith;
+      counts = no_counts (g.D.Disk.faults v.disk);
+    }
+
+pub returns-clause-row : goal.returns-clause-row
+returns-clause-row g c =
+    let v = c.args.self.now in
+    let some : 1 ≤ doors_left v.machine.start v.machine.past =
+    subst (λ r. 1 ≤ doors_left r.machine.start r.machine.past) c.self.view_is
+    (let is = c.doors.ensures in let not = c.if-doors-eq0.false in omega arith) in
+    record {
+      events = Left ∷ [];
+      grown = subst (λ r. c.left.new.self.past ≡ Left ∷ r.machine.past) c.self.view_is
+          (past_by c.self.inside.machine c.left.new.self Left c.left.ensures.event);
+      is = λ from s below standing. leaves (turn_from v from) s v.machine.past standing some;
+      later = subst (λ r. g.D.Disk.faults r.disk ≤ g.D.Disk.faults c.self.inside.disk) c.self.view_is (omega arith);
+      counts = fault_in Left (g.D.Disk.faults c.self.inside.disk) tt;
+    }

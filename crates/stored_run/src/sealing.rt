@@ -1,0 +1,122 @@
+// Full pieces are read, and count as right where their download has no digests.
+ghost use Rattle.std.specs.Prelude.{◌≡◌, ◌≤◌, [], false, IfErr, IfOk, IsTrue, None, OnOk, true};
+ghost use Rattle.engine_turns.specs.Phases.{AfterDisk, AndThen, EndingOr, NoEvent, SettlingPhase};
+ghost use Rattle.engine_turns.specs.Standings.{AnswersUnlessStarved};
+ghost use Rattle.engine_turns.specs.declared.operations.Said.TheVariants.{Done};
+ghost use Rattle.engine_turns.specs.declared.outcome.Outcome.TheVariants.{Went};
+ghost use Rattle.machine_core.specs.MachineViews.{IsFindingOf, IsNext, mark_spare_in};
+ghost use Rattle.machine_core.specs.Reads.{IsPieceOfGid};
+ghost use Rattle.stored_run.specs.Settlings.{CountedRow, HasItsDigest, IsToBeSettled, OfDownload, OfWant, ReadsPieceOf, UnreadRow};
+ghost use Rattle.stored_run.specs.Views.{IsGoing};
+ghost use Rattle.stored_run.specs.Steps.{Continues, DoesPart, DoesRow, EndsGid, StoresGid};
+
+use crate::StoredRun;
+use crate::following::runs_follow;
+use dl_disk::Disk;
+use dl_kinds::{Blob, Gid};
+use engine_turns::{Outcome, Said};
+use machine_core::End;
+use resume_core::{StoreErr, read_piece, same_files_give_the_same};
+
+// Want of memory is answered as such, and all else as done.
+fn done_unless_starved(outcome: Outcome) -> Said
+    ensures { AnswersUnlessStarved Done outcome result }
+{
+    match outcome {
+        Outcome::Starved => Said::NoMemory,
+        _ => Said::Done,
+    }
+}
+
+impl<D: Disk> StoredRun<D> {
+    // Reads a piece. A fault of the disk ends its download.
+    fn read_into(&mut self, gid: Gid, piece: u32, into: &mut Vec<u8>) -> Outcome
+        requires going { IsGoing self.old gid }
+        requires piece { IsPieceOfGid self.old.machine gid piece }
+        requires room { 1 ≤ self.old.machine.spare }
+        ensures did { DoesPart (λ at. AfterDisk at gid [])
+            self.old (D.faults self.old.disk) self.new (D.faults self.new.disk) result }
+        ensures on { Continues 1 self.old self.new }
+        ensures disk { IsTrue D.tells → StoresGid gid self.old self.new
+            (D.state self.old.disk) (D.state self.new.disk) }
+        ensures read { result ≡ Went → IsTrue D.tells
+            → ReadsPieceOf self.old gid piece (D.state self.old.disk).seen into.new.items }
+        ensures same { result ≡ Went → self.new.machine ≡ self.old.machine }
+    {
+        runs_follow();
+        same_files_give_the_same();
+        let place = self.machine.place(gid).unwrap();
+        let want = self.wants[place].as_ref().unwrap();
+        match read_piece(self.alloc, &mut self.disk, want, piece, into) {
+            Ok(()) => Outcome::Went,
+            Err(StoreErr::Disk) => {
+                let count = self.disk.faults();
+                self.machine.ended(gid, End::Disk { count });
+                Outcome::Over
+            }
+            Err(StoreErr::NoMemory) => Outcome::Starved,
+        }
+    }
+
+    // A full piece is found right or wrong, and its download ends where each wanted piece is verified.
+    pub(crate) fn settle_and_end(&mut self, gid: Gid, piece: u32, right: bool) -> Outcome
+        requires going { IsGoing self.old gid }
+        requires may { IsNext self.old.machine (IsFindingOf gid piece right) }
+        requires digest { right ≡ true → IsTrue D.tells
+            → HasItsDigest self.old gid piece (D.state self.old.disk).seen }
+        requires mark_room { right ≡ false → 1 ≤ mark_spare_in self.old.machine gid }
+        requires room { 6 ≤ self.old.machine.spare }
+        ensures did { OfDownload self.old gid (λ download. DoesPart (λ at.
+            AndThen (SettlingPhase at download piece right) (EndingOr at download NoEvent))
+            self.old (D.faults self.old.disk) self.new (D.faults self.new.disk) result) }
+        ensures on { Continues 6 self.old self.new }
+        ensures disk { IsTrue D.tells → EndsGid gid self.old self.new
+            (D.state self.old.disk) (D.state self.new.disk) }
+    {
+        runs_follow();
+        self.tells_kept();
+        match self.settle(gid, piece, right) {
+            Outcome::Went => {
+                self.tells_kept();
+                self.end_if_done(gid)
+            }
+            outcome => outcome,
+        }
+    }
+
+    /// Reads a piece, for a worker to hash it.
+    pub fn read_whole(&mut self, gid: Gid, piece: u32) -> Result<Blob, Said>
+        requires going { IsGoing self.old gid }
+        requires piece { IsPieceOfGid self.old.machine gid piece }
+        requires room { 1 ≤ self.old.machine.spare }
+        ensures read { IfOk result (λ bytes. IsTrue D.tells
+            → ReadsPieceOf self.old gid piece (D.state self.old.disk).seen bytes) }
+        ensures same { OnOk result (self.new.machine ≡ self.old.machine) }
+        ensures row { IfErr result (DoesRow (UnreadRow gid)
+            self.old (D.faults self.old.disk) self.new (D.faults self.new.disk)) }
+        ensures on { Continues 1 self.old self.new }
+        ensures disk { IsTrue D.tells → StoresGid gid self.old self.new
+            (D.state self.old.disk) (D.state self.new.disk) }
+    {
+        let mut bytes = Vec::new(self.alloc);
+        match self.read_into(gid, piece, &mut bytes) {
+            Outcome::Went => Ok(Blob::wrap(bytes)),
+            outcome => Err(done_unless_starved(outcome)),
+        }
+    }
+
+    /// A full piece of a download without digests counts as right.
+    pub fn count_whole(&mut self, gid: Gid, piece: u32) -> Said
+        requires going { IsGoing self.old gid }
+        requires piece { IsToBeSettled self.old gid piece }
+        requires unlisted { OfWant self.old gid (λ want. want.info_hash ≡ None) }
+        requires room { 6 ≤ self.old.machine.spare }
+        ensures row { DoesRow (CountedRow gid piece)
+            self.old (D.faults self.old.disk) self.new (D.faults self.new.disk) result }
+        ensures on { Continues 6 self.old self.new }
+        ensures disk { IsTrue D.tells → EndsGid gid self.old self.new
+            (D.state self.old.disk) (D.state self.new.disk) }
+    {
+        done_unless_starved(self.settle_and_end(gid, piece, true))
+    }
+}
