@@ -8,7 +8,7 @@ import subprocess
 import sys
 import tempfile
 
-from cases import layouts, metainfos, moves, one_request, peers, replies, rests, stores  # each lists its cases
+from cases import connections, layouts, metainfos, moves, one_request, peers, replies, rests, stores  # each lists its cases
 from lib.mirrors import free_port
 from lib.rooms import CASES, PROGRAM, STORE, Room, Skipped, Wrong
 

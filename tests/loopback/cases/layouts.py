@@ -74,10 +74,11 @@ for _status, _what, _bytes in LATER:
 
     @case(f"a second reply that is {_what}")
     def _(room, status=_status, answer=_bytes):
-        with Site({"/a.bin": THREE}, instead={1: answer}) as site:
+        # where nothing comes the request goes once more, on a new connection
+        with Site({"/a.bin": THREE}, instead={1: answer, 2: b""}) as site:
             room.torrent(site.url(), THREE)
             room.fails(status, THREE, PIECE)
-            want(len(site.requests) == 2, f"{len(site.requests)} requests came")
+            want(len(site.requests) == 2 + (not answer), f"{len(site.requests)} requests came")
 
 
 @case("a second reply that is longer than told")
@@ -104,11 +105,12 @@ def _(room):
 
 @case("a run after one that failed")
 def _(room):
-    with Site({"/a.bin": THREE}, instead={1: b""}) as site:
+    # a request that nothing comes of on a connection that was kept goes once more on a new one
+    with Site({"/a.bin": THREE}, instead={1: b"", 2: b""}) as site:
         room.torrent(site.url(), THREE)
         room.fails(6, THREE, PIECE)
         room.fetches(THREE)
-        want(len(site.requests) == 5, f"{len(site.requests)} requests came")
+        want(len(site.requests) == 6, f"{len(site.requests)} requests came")
 
 
 @case("a payload of 16 GiB whose second piece is wrong")

@@ -4,7 +4,7 @@ import os
 from lib.mirrors import head, reply, sends
 from lib.payloads import SMALL, THREE, all_asked, served
 from lib.recording import CHUNKED, Recording, by_manner, in_chunks, shorter
-from lib.rests import FRONT, FRONTS, LOST, RIGHT, in_steps
+from lib.rests import FRONT, FRONTS, LOST, RIGHT, STAYING, in_steps
 from lib.rooms import about, case, want_asked
 
 # The rest of what was asked for is asked for by a further request.
@@ -48,7 +48,8 @@ def _(room):
                 else:
                     room.fetches(b"hello")
                     os.remove(room.path("a"))
-                want_asked(mirror, [("/a.bin", 0, 4), ("/a.bin", 2, 4)])
+                again = how == "with nothing" and name in STAYING
+                want_asked(mirror, [("/a.bin", 0, 4), ("/a.bin", 2, 4)] + [("/a.bin", 2, 4)] * again)
 
 
 @case("a front that is cut")

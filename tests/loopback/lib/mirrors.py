@@ -34,8 +34,9 @@ def head(*fields, status=b"206 Partial Content"):
 class Mirror:
     """Serves each connection by a function, and records its bytes.
 
-    The function gets the connection once a request came, and may give what it read after it. The connection is closed
-    when it returns.
+    The function gets the connection once a request came, and may give what it read after it. When it returns nothing more
+    is sent, and what still comes is taken until the other side closes: so a request that comes then finds an end, and no
+    reset.
     """
 
     def __init__(self, serve, host="127.0.0.1", port=0):
@@ -76,6 +77,8 @@ class Mirror:
         connection.setsockopt(socket.IPPROTO_TCP, socket.TCP_NODELAY, 1)
         with contextlib.suppress(OSError), connection:
             self.converse(connection)
+            connection.shutdown(socket.SHUT_WR)
+            rest_of(connection)
 
     def converse(self, connection):
         place = len(self.requests)
@@ -173,6 +176,7 @@ def sends_and_resets(whole):
         connection.sendall(whole)
         time.sleep(0.1)
         connection.setsockopt(socket.SOL_SOCKET, socket.SO_LINGER, struct.pack("ii", 1, 0))
+        connection.close()
 
     return serve
 
@@ -245,6 +249,7 @@ http {{
     access_log off;
     default_type application/octet-stream;
     sendfile on;
+    {more}
     client_body_temp_path {room}/body;
     proxy_temp_path {room}/proxy;
     fastcgi_temp_path {room}/fastcgi;
@@ -300,18 +305,19 @@ class Served:
 
 
 class Nginx(Served):
-    """nginx, on one port of each of these addresses."""
+    """nginx, on one port of each of these addresses, with more of its directives."""
 
-    def __init__(self, room, hosts):
+    def __init__(self, room, hosts, more=""):
         super().__init__(room)
         self.hosts = hosts
+        self.more = more
 
     def __enter__(self):
         for _ in range(5):
             port = free_port(*self.hosts)
             listen = " ".join(f"listen {f'[{it}]' if ':' in it else it}:{port};" for it in self.hosts)
             with open(f"{self.room}/nginx.conf", "w", encoding="ascii") as it:
-                it.write(CONFIG.format(room=self.room, listen=listen))
+                it.write(CONFIG.format(room=self.room, listen=listen, more=self.more))
             words = ["nginx", "-p", self.room, "-c", f"{self.room}/nginx.conf", "-e", f"{self.room}/error.log"]
             if self.start(words, self.hosts[0], port):
                 return self

@@ -3,7 +3,7 @@ import itertools
 import re
 from typing import NamedTuple
 
-from lib.mirrors import Mirror, head, one_request, reply, sends, sends_and_stays
+from lib.mirrors import Mirror, head, one_request, reply, sends
 
 OK = b"200 OK"
 CHUNKED = b"Transfer-Encoding: chunked"
@@ -18,11 +18,11 @@ class Asked(NamedTuple):
 
 
 class Recording(Mirror):
-    """Answers one request on each connection by its script, and records all bytes that come over the connection.
+    """Answers requests by its script, and records all bytes that come over its connections.
 
     The script is a list of replies, one for each request, or a function that has the reply for what is asked. A reply
-    is some bytes, after which the connection stays until the other side closes it, or a function that serves the
-    connection. A request for which there is no reply ends its connection.
+    is some bytes, behind which the connection may bring another request, or a function that serves the connection to its
+    end. A request for which there is no reply ends its connection.
     """
 
     def __init__(self, script, host="127.0.0.1"):
@@ -30,12 +30,15 @@ class Recording(Mirror):
         self.script = script
 
     def converse(self, connection):
-        place = len(self.requests)
-        self.requests.append(one_request(connection))
-        said = self.reply_to(place)
-        if said is not None:
-            serve = sends_and_stays(said) if isinstance(said, bytes) else said
-            self.requests[place] += serve(connection) or b""
+        while asked := one_request(connection):
+            place = len(self.requests)
+            self.requests.append(asked)
+            said = self.reply_to(place)
+            if not isinstance(said, bytes):
+                if said is not None:
+                    self.requests[place] += said(connection) or b""
+                return
+            connection.sendall(said)
 
     def reply_to(self, place):
         if callable(self.script):

@@ -14,6 +14,8 @@ FRONTS = [
     ("and the mirror closes", sends(FRONT)),
     ("byte by byte, after an interim head", sends_byte_by_byte(interims(1) + FRONT)),
 ]
+# Those behind which the connection stays: a request that nothing comes of there goes once more on a new one.
+STAYING = {"with a length", "and no total"}
 # Replies with the rest, and replies with something else and how the run ends.
 RIGHT = [
     (0, "with the rest", reply(b"llo", first=2, total=5)),
