@@ -56,7 +56,7 @@ pub record RefusesJust {T : Type 0} (want : Want) (seen : Files) (result : Resul
   pub opened : OnOk result (open_refusal want seen ≡ None)
   pub refused : IfErr result (λ err. IsRefusal err → open_refusal want seen ≡ Some err)
 
--- What a refusal tells of the want: it has no info hash, or the control file's length is another than this.
+-- What a refusal tells of the want: it has no info hash, or another piece length or length than the control file.
 abbrev pub TellsWant : Want → OpenErr → Type 0
 TellsWant want (Exists length) = want.info_hash ≡ None
 TellsWant want (PieceLength have piece_len) = (piece_len ≡ want.plan.piece_len) × (have ≢ piece_len)

@@ -107,7 +107,7 @@ impl<D: Disk> StoredRun<D> {
         plan_laws();
         runs_follow();
         // The loss may come by what holds of every run.
-        let _ = &self.alloc;
+        self.tells_kept();
         let (piece, sole) = self.failing_piece(gid, claim);
         self.tell_loss(gid, claim, piece, mark);
         self.clear_sole(gid, piece, sole);
@@ -180,7 +180,7 @@ impl<D: Disk> StoredRun<D> {
     {
         runs_follow();
         // Its download goes on by what holds of every run.
-        let _ = &self.alloc;
+        self.tells_kept();
         self.tell_size(gid, claim, total);
         self.end_where_too_long(gid, total)
     }

@@ -34,37 +34,23 @@ def _(room):
         want_connections(site, 1)
 
 
-@case("connections that are told to close")
+@case("connections that stay, are told to close, or end without a word")
 def _(room):
-    for name, said in (
-        ("by the word", lambda asked: part(asked, b"Connection: close")),
-        ("beside another option", lambda asked: part(asked, b"Connection: keep-alive, Close")),
-        ("by the version", in_old_version),
+    for name, said, count in (
+        ("kept by the version", part, 1),
+        ("kept by the word", lambda asked: part(asked, b"Connection: Keep-Alive"), 1),
+        ("closed by the word", lambda asked: part(asked, b"Connection: close"), 3),
+        ("closed beside another option", lambda asked: part(asked, b"Connection: keep-alive, Close"), 3),
+        ("closed by the version", in_old_version, 3),
+        ("ended behind each reply", lambda asked: sends(part(asked)), 3),
+        ("closed for bytes behind a reply", lambda asked: part(asked) + head(b"Content-Length: 0"), 3),
     ):
         with about(name), Recording(said) as mirror:
             room.torrent(mirror.url(), THREE, piece_length=PIECE)
             room.fetches(THREE)
             want_asked(mirror, all_asked_of_one())
-            want_connections(mirror, 3)
+            want_connections(mirror, count)
             os.remove(room.path("a"))
-
-
-@case("a connection that stays by its own word")
-def _(room):
-    with Recording(lambda asked: part(asked, b"Connection: Keep-Alive")) as mirror:
-        room.torrent(mirror.url(), THREE, piece_length=PIECE)
-        room.fetches(THREE)
-        want_asked(mirror, all_asked_of_one())
-        want_connections(mirror, 1)
-
-
-@case("connections that end behind each reply without a word")
-def _(room):
-    with Recording(lambda asked: sends(part(asked))) as mirror:
-        room.torrent(mirror.url(), THREE, piece_length=PIECE)
-        room.fetches(THREE)
-        want_asked(mirror, all_asked_of_one())
-        want_connections(mirror, 3)
 
 
 @case("a reply that ends early on a connection that was kept")
@@ -76,32 +62,20 @@ def _(room):
         want_connections(site, 1)
 
 
-@case("bytes behind a reply")
+@case("nginx with connections that take so many requests", "nginx")
 def _(room):
-    with Recording(lambda asked: part(asked) + head(b"Content-Length: 0")) as mirror:
-        room.torrent(mirror.url(), THREE, piece_length=PIECE)
-        room.fetches(THREE)
-        want_asked(mirror, all_asked_of_one())
-        want_connections(mirror, 3)
-
-
-@case("nginx with connections that stay, and of one or two requests", "nginx")
-def _(room):
-    for requests in (1, 2, 1000):
-        folder = room.path(f"nginx-{requests}")
+    for name, more, count in (
+        ("one by keepalive_requests", "keepalive_requests 1;", 3),
+        ("two", "keepalive_requests 2;", 2),
+        ("all", "keepalive_requests 1000;", 1),
+        ("one by keepalive_timeout", "keepalive_timeout 0;", 3),
+    ):
+        folder = room.path(name.replace(" ", "-"))
         os.mkdir(folder)
-        with about(f"{requests} requests"), Nginx(folder, ("127.0.0.1",), f"keepalive_requests {requests};") as mirror:
-            mirror.put("a.bin", THREE)
-            room.torrent(mirror.url(), THREE, piece_length=PIECE)
-            room.fetches(THREE)
-            os.remove(room.path("a"))
-
-
-@case("nginx without connections that stay", "nginx")
-def _(room):
-    folder = room.path("nginx")
-    os.mkdir(folder)
-    with Nginx(folder, ("127.0.0.1",), "keepalive_timeout 0;") as mirror:
-        mirror.put("a.bin", THREE)
-        room.torrent(mirror.url(), THREE, piece_length=PIECE)
-        room.fetches(THREE)
+        with about(name):
+            with Nginx(folder, ("127.0.0.1",), more) as mirror:
+                mirror.put("a.bin", THREE)
+                room.torrent(mirror.url(), THREE, piece_length=PIECE)
+                room.fetches(THREE)
+                os.remove(room.path("a"))
+            want_connections(mirror, count)

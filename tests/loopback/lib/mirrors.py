@@ -246,7 +246,8 @@ pid {room}/nginx.pid;
 error_log {room}/error.log;
 events {{ worker_connections 64; }}
 http {{
-    access_log off;
+    log_format connection $connection;
+    access_log {room}/access.log connection;
     default_type application/octet-stream;
     sendfile on;
     {more}
@@ -324,6 +325,12 @@ class Nginx(Served):
             self.__exit__()
         with open(f"{self.room}/error.log", encoding="utf-8", errors="replace") as it:
             raise OSError(f"nginx doesn't start: {it.read()[-300:]}")
+
+    @property
+    def connections(self):
+        """The number of each connection that took a request, once nginx has ended."""
+        with open(f"{self.room}/access.log", encoding="ascii") as it:
+            return set(it)
 
 
 class PythonServer(Served):

@@ -1,12 +1,11 @@
-use Rattle.std.proofs.Common.{◌≡◌, Some, refl, sym, ◌∙◌, ap, subst, arith}
+use Rattle.std.proofs.Common.{◌≡◌, Some, refl, sym, ◌∙◌, ap, arith}
 use Rattle.dl_history.specs.OwnEvents.{Loses}
 use Rattle.engine_turns.specs.ClaimRows.{sole_phase}
 use Rattle.engine_turns.specs.Phases.{AndThen, DeadPhase, JustEvent, Phase, TurnStart}
 use Rattle.engine_turns.specs.declared.outcome.Outcome.TheVariants.{Went}
-use Rattle.machine_core.specs.RunLegal.{IsLegal, MayFollow, download_in}
+use Rattle.machine_core.specs.RunLegal.{MayFollow, download_in}
 use Rattle.machine_core.specs.declared.events.Event.TheVariants.{Cleared, Lost}
 use Rattle.stored_run.specs.Steps.{turn_from}
-use Rattle.stored_run.specs.Stored.{AreWantsKept}
 use Rattle.stored_run.specs.Telling.{ClaimGoes, loss_phase_of}
 use Rattle.stored_run.proofs.Claimed.{claim_goes}
 use Rattle.stored_run.proofs.Doing.{did_wider, part_on}
@@ -22,9 +21,8 @@ clear_sole-requires-clause-may g c sole =
     let m = v.machine in
     let laws = c.runs_follow.ensures in
     let piece = c.failing_piece-piece.result.0 in
-    let legal = subst (λ w. IsLegal w.machine.start w.machine.past) c.self.view_is c.self.invariant.legal in
-    let kept = subst (λ w. AreWantsKept w.machine.start w.machine.past w.wants.items) c.self.view_is
-    c.self.invariant.wants_are in
+    let legal = c.tells_kept.ensures.legal in
+    let kept = c.tells_kept.ensures.wants_are in
     let e = Lost a.gid a.claim.id a.claim.mirror piece a.mark in
     told_so laws e v c.tell_loss.new.self c.tell_loss.ensures (λ s p ws. MayFollow s p (Cleared a.gid piece))
     (clear_may laws c.plan_laws.ensures.of_pieces m.start m.past v.wants.items kept a.gid a.claim a.mark
@@ -39,7 +37,7 @@ end_where_dead-requires-clause-going g c =
     let m = v.machine in
     let laws = c.runs_follow.ensures in
     let piece = c.failing_piece-piece.result.0 in
-    let legal = subst (λ w. IsLegal w.machine.start w.machine.past) c.self.view_is c.self.invariant.legal in
+    let legal = c.tells_kept.ensures.legal in
     let e = Lost a.gid a.claim.id a.claim.mirror piece a.mark in
     let goes = claim_goes laws m.start m.past a.gid a.claim legal c.requires.stands.stands in
     let then : ClaimGoes c.tell_loss.new.self.machine.start c.tell_loss.new.self.machine.past a.gid =
@@ -55,8 +53,7 @@ returns-clause-did g c download added =
     let laws = c.runs_follow.ensures in
     let piece = c.failing_piece-piece.result.0 in
     let sole = c.failing_piece-piece.result.1 in
-    let kept = subst (λ w. AreWantsKept w.machine.start w.machine.past w.wants.items) c.self.view_is
-    c.self.invariant.wants_are in
+    let kept = c.tells_kept.ensures.wants_are in
     let e = Lost a.gid a.claim.id a.claim.mirror piece a.mark in
     let told = c.tell_loss.ensures in
     let same = ap (λ d. g.D.Disk.faults d) told.disk in
