@@ -1,5 +1,5 @@
 // Claims that fail, and probes that tell a length.
-ghost use Rattle.std.specs.Prelude.{◌≡◌, ◌≤◌, false, true, Some};
+ghost use Rattle.std.specs.Prelude.{◌≡◌, ◌≤◌, false, true, IsTrue, Some};
 ghost use Rattle.dl_history.specs.PayloadParts.{is_ended, is_sole_in, told_total};
 ghost use Rattle.dl_history.specs.StandingClaims.{is_probe};
 ghost use Rattle.engine_turns.specs.ClaimRows.{LoseRow, SizedRow, TellingPhase, lost_piece, sole_phase};
@@ -11,7 +11,7 @@ ghost use Rattle.machine_core.specs.RunLegal.{MayFollow, download_in};
 ghost use Rattle.machine_core.specs.Starts.{Download};
 ghost use Rattle.machine_core.specs.TurnRooms.{HasTurnMarkRoom};
 ghost use Rattle.machine_core.specs.declared.events.Event.TheVariants as event;
-ghost use Rattle.stored_run.specs.Steps.{Continues, DoesPart, DoesRow};
+ghost use Rattle.stored_run.specs.Steps.{Continues, DoesPart, DoesRow, StoresGid};
 ghost use Rattle.stored_run.specs.Telling.{ClaimGoes, StaysAdded, TellsEvent, loss_phase_of, too_long_phase};
 ghost use Rattle.stored_run.specs.Views.{own_in};
 
@@ -72,7 +72,7 @@ impl<D: Disk> StoredRun<D> {
     }
 
     // Where no mirror has a try left for the piece the download ends.
-    fn end_where_dead(&mut self, gid: Gid, piece: u32) -> Outcome
+    pub(crate) fn end_where_dead(&mut self, gid: Gid, piece: u32) -> Outcome
         requires going { is_ended (own_in self.old gid) ≡ false }
         requires room { 1 ≤ self.old.machine.spare }
         ensures did { (download : Download)
@@ -81,6 +81,9 @@ impl<D: Disk> StoredRun<D> {
             self.new (D.faults self.new.disk) result }
         ensures on { Continues 1 self.old self.new }
         ensures disk { self.new.disk ≡ self.old.disk }
+        ensures stores { IsTrue D.tells → StoresGid gid self.old self.new
+            (D.state self.old.disk) (D.state self.new.disk) }
+        ensures still { result ≡ Went → self.new ≡ self.old }
     {
         runs_follow();
         match self.machine.dead(gid, piece) {

@@ -84,28 +84,6 @@ impl<D: Disk> StoredRun<D> {
         self.machine.cleared(gid, piece);
     }
 
-    // A download ends where no mirror has a try left for a piece.
-    pub(crate) fn end_if_dead(&mut self, gid: Gid, piece: u32) -> Outcome
-        requires going { IsGoing self.old gid }
-        requires room { 1 ≤ self.old.machine.spare }
-        ensures did { OfDownload self.old gid (λ download. DoesPart
-            (λ at. DeadPhase at download piece)
-            self.old (D.faults self.old.disk) self.new (D.faults self.new.disk) result) }
-        ensures on { Continues 1 self.old self.new }
-        ensures disk { IsTrue D.tells → StoresGid gid self.old self.new
-            (D.state self.old.disk) (D.state self.new.disk) }
-        ensures still { result ≡ Went → IsGoing self.new gid }
-    {
-        runs_follow();
-        match self.machine.dead(gid, piece) {
-            Some(mark) => {
-                self.machine.ended(gid, End::Dead { piece, mark });
-                Outcome::Over
-            }
-            None => Outcome::Went,
-        }
-    }
-
     // A piece that was found wrong is saved without, and then cleared; the download may end for want of mirrors.
     fn undo(&mut self, gid: Gid, piece: u32) -> Outcome
         requires wrong { IsFoundWrong self.old gid piece }
@@ -124,7 +102,7 @@ impl<D: Disk> StoredRun<D> {
                 self.tells_kept();
                 self.clear(gid, piece);
                 self.tells_kept();
-                self.end_if_dead(gid, piece)
+                self.end_where_dead(gid, piece)
             }
             outcome => outcome,
         }

@@ -8,11 +8,14 @@ use Rattle.machine_core.specs.declared.ends.End.TheVariants as end
 use Rattle.machine_core.specs.declared.events.Event.{Event}
 use Rattle.machine_core.specs.declared.events.Event.TheVariants.{Ended}
 use Rattle.stored_run.specs.Steps.{turn_from}
+use Rattle.stored_run.specs.Stored.{AreWantsKept}
+use Rattle.stored_run.specs.declared.run.StoredView.{StoredView}
 use Rattle.stored_run.specs.Views.{own_in}
-use Rattle.stored_run.proofs.Doing.{part_event, part_none}
+use Rattle.stored_run.proofs.Doing.{grown_none, part_event, part_none, stores_none}
 use Rattle.stored_run.proofs.Kept.{halts}
 use Rattle.stored_run.proofs.Losses.{dead_may, dead_none, dead_over}
 use Rattle.stored_run.proofs.PlainEvents.{back_to, plain_after}
+use Rattle.stored_run.proofs.Steady.{disk_still}
 use Rattle.stored_run.proofs.run.StoredRun.end_where_dead.Goals as goal
 
 pub ended-requires-clause-legal : goal.ended-requires-clause-legal
@@ -51,3 +54,19 @@ returns-in-None-clause-did g c download added =
     let none = subst (λ w. HasNoDeadMark w.machine a.gid a.piece) c.self.view_is c.in-None.ensures.none in
     part_none (λ at. DeadPhase at download a.piece) a.self.now a.self.now _ _ Went refl (omega arith)
     (λ n below. dead_none (turn_from a.self.now n) a.self.now.machine a.gid a.piece download refl added none)
+
+pub returns-in-None-clause-stores : goal.returns-in-None-clause-stores
+returns-in-None-clause-stores g c told want is =
+    let v = c.args.self.now in
+    let kept = subst (λ (w : StoredView _). AreWantsKept w.machine.start w.machine.past w.wants.items) c.self.view_is
+    c.self.invariant.wants_are in
+    stores_none c.runs_follow.ensures.give want (own_in v c.args.gid) (own_in v c.args.gid) (g.D.Disk.state v.disk)
+    (kept.sound c.args.gid want is) (grown_none (own_in v c.args.gid))
+
+pub returns-in-Some-clause-stores : goal.returns-in-Some-clause-stores
+returns-in-Some-clause-stores g c told =
+    let m = c.self.inside.machine in
+    let came = c.ended.ensures.event in
+    disk_still _ _ c.self.view_is c.runs_follow.ensures g.D.Disk.state c.ended.new.self.start c.ended.new.self.past
+    c.args.gid c.self.invariant.wants_are (Ended c.args.gid (end.Dead c.args.piece c.in-Some.mark)) came.start_is
+    (came.past_is ∙ ap (λ (x : Event). x ∷ m.past) came.is)

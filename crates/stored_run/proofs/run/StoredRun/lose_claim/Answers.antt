@@ -8,7 +8,7 @@ use Rattle.machine_core.specs.declared.events.Event.TheVariants.{Cleared, Lost}
 use Rattle.stored_run.specs.Steps.{turn_from}
 use Rattle.stored_run.specs.Telling.{ClaimGoes, loss_phase_of}
 use Rattle.stored_run.proofs.Claimed.{claim_goes}
-use Rattle.stored_run.proofs.Doing.{did_wider, part_on}
+use Rattle.stored_run.proofs.Doing.{continues_on, did_wider, part_on}
 use Rattle.stored_run.proofs.Failing.{clear_may, loss_may}
 use Rattle.stored_run.proofs.Losses.{goes_after, loss_so}
 use Rattle.stored_run.proofs.PlainEvents.{continues_event, gid_added, part_told, told_so}
@@ -74,3 +74,13 @@ returns-clause-did g c download added =
     (gid_added m.start m.past a.gid download added) c.failing_piece-piece.ensures.piece
     c.failing_piece-piece.ensures.sole came)
     all
+
+pub returns-clause-on : goal.returns-clause-on
+returns-clause-on g c =
+    let a = c.args in
+    let v = a.self.now in
+    let e = Lost a.gid a.claim.id a.claim.mirror c.failing_piece-piece.result.0 a.mark in
+    continues_on 1 2 v c.tell_loss.new.self c.end_where_dead.new.self
+    (continues_event c.runs_follow.ensures e v c.tell_loss.new.self c.tell_loss.ensures c.tells_kept.ensures.wants_are)
+    (continues_on 1 1 c.tell_loss.new.self c.clear_sole.new.self c.end_where_dead.new.self c.clear_sole.ensures.on
+    c.end_where_dead.ensures.on)

@@ -21,7 +21,7 @@ returns-in-Went-clause-did g c download added =
     let v = c.args.self.now in
     let a = c.unlist.new.self in
     let b = c.clear.new.self in
-    let n = c.end_if_dead.new.self in
+    let n = c.end_where_dead.new.self in
     let gid = c.args.gid in
     let piece = c.args.piece in
     let laws = c.runs_follow.ensures in
@@ -37,14 +37,14 @@ returns-in-Went-clause-did g c download added =
     c.clear.ensures.on second laws gid download there in
     part_on (λ at. UnlistingPhase at download.gid piece)
     (λ at. AndThen (JustEvent (Cleared download.gid piece)) (DeadPhase at download piece)) v a n 1 (d.faults v.disk)
-    (d.faults a.disk) (d.faults n.disk) c.end_if_dead.result c.unlist.ensures.on first
+    (d.faults a.disk) (d.faults n.disk) c.end_where_dead.result c.unlist.ensures.on first
     (part_on (λ at. JustEvent (Cleared download.gid piece)) (λ at. DeadPhase at download piece) a b n 1 (d.faults a.disk)
-    (d.faults b.disk) (d.faults n.disk) c.end_if_dead.result c.clear.ensures.on second
-    (c.end_if_dead.ensures.did download then))
+    (d.faults b.disk) (d.faults n.disk) c.end_where_dead.result c.clear.ensures.on second
+    (c.end_where_dead.ensures.did download then))
 
 pub returns-in-Went-clause-on : goal.returns-in-Went-clause-on
 returns-in-Went-clause-on g c =
-    continues_on 1 2 _ _ _ c.unlist.ensures.on (continues_on 1 1 _ _ _ c.clear.ensures.on c.end_if_dead.ensures.on)
+    continues_on 1 2 _ _ _ c.unlist.ensures.on (continues_on 1 1 _ _ _ c.clear.ensures.on c.end_where_dead.ensures.on)
 
 pub returns-in-Went-clause-disk : goal.returns-in-Went-clause-disk
 returns-in-Went-clause-disk g c told =
@@ -52,7 +52,7 @@ returns-in-Went-clause-disk g c told =
     let v = c.args.self.now in
     let a = c.unlist.new.self in
     let b = c.clear.new.self in
-    let n = c.end_if_dead.new.self in
+    let n = c.end_where_dead.new.self in
     let gid = c.args.gid in
     let piece = c.args.piece in
     let laws = c.runs_follow.ensures in
@@ -65,13 +65,13 @@ returns-in-Went-clause-disk g c told =
     let second = grown_by (λ at. JustEvent (Cleared here.has.download.gid piece)) a b 1 (d.faults a.disk) (d.faults b.disk)
     Went c.clear.ensures.on (c.clear.ensures.did here.has.download here.has.added) gid in
     let third = grown_by (λ at. DeadPhase at then.has.download piece) b n 1 (d.faults b.disk) (d.faults n.disk)
-    c.end_if_dead.result c.end_if_dead.ensures.on (c.end_if_dead.ensures.did then.has.download then.has.added) gid in
+    c.end_where_dead.result c.end_where_dead.ensures.on (c.end_where_dead.ensures.did then.has.download then.has.added) gid in
     stores_part d.tells (d.faults a.disk) v a n gid 1 (d.state v.disk) (d.state a.disk) (d.state n.disk)
     c.unlist.ensures.on first (grown_on (own_in a gid) (own_in b gid) (own_in n gid) second third) c.tells_kept.ensures
     (c.unlist.ensures.still c.in-Went.is).going told (c.unlist.ensures.disk told)
     (stores_part d.tells (d.faults b.disk) a b n gid 1 (d.state a.disk) (d.state b.disk) (d.state n.disk)
     c.clear.ensures.on second third c.tells_kept-in-Went.ensures c.clear.ensures.still told (c.clear.ensures.disk told)
-    (c.end_if_dead.ensures.disk told))
+    (c.end_where_dead.ensures.stores told))
 
 pub returns-in_default : goal.returns-in_default
 returns-in_default g c =
