@@ -20,3 +20,12 @@ pub mod Steady
 pub mod Seals
 pub mod WantPlaces
 pub mod Completing
+pub mod OwnLandings
+pub mod RunParts
+pub mod OwnFindings
+pub mod Landings
+pub mod FilledPieces
+pub mod LandedCounts
+pub mod PartBytes
+pub mod Delivered
+pub mod DueSaves

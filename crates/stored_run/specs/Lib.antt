@@ -5,3 +5,4 @@ pub mod RunFollows
 pub mod Telling
 pub mod Landings
 pub mod Settlings
+pub mod Deliveries

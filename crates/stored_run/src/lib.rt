@@ -4,7 +4,9 @@
 mod calls;
 mod checking;
 mod claims;
+mod delivering;
 mod ending;
+mod filling;
 mod following;
 mod landing;
 mod run;
@@ -12,4 +14,5 @@ mod saving;
 mod sealing;
 mod settling;
 
+pub use delivering::DELIVERY_EVENTS;
 pub use run::{StoredRun, StoredView};

@@ -27,7 +27,7 @@ impl<D: Disk> StoredRun<D> {
     }
 
     // A piece is found right or wrong.
-    fn find(&mut self, gid: Gid, piece: u32, right: bool)
+    pub(crate) fn find(&mut self, gid: Gid, piece: u32, right: bool)
         requires going { IsGoing self.old gid }
         requires may { IsNext self.old.machine (IsFindingOf gid piece right) }
         requires digest { right ≡ true → IsTrue D.tells

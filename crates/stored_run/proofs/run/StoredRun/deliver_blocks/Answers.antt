@@ -1,0 +1,67 @@
+use Rattle.std.proofs.Common.{◌≡◌, ◌-◌, ap, arith, subst, true}
+use Rattle.dl_history.specs.StandingClaims.{is_open_since}
+use Rattle.machine_core.specs.Claiming.{AreOpenIn}
+use Rattle.machine_core.specs.MachineViews.{StandsUnder}
+use Rattle.stored_run.specs.Views.{own_in}
+use Rattle.stored_run.proofs.Delivered.{delivery_of, kept_row}
+use Rattle.stored_run.proofs.Failing.{opened_want}
+use Rattle.stored_run.proofs.PlainEvents.{back_to}
+use Rattle.stored_run.proofs.RunParts.{parts_fit}
+use Rattle.stored_run.proofs.run.StoredRun.deliver_blocks.Goals as goal
+
+pub new_blocks-open_runs-requires-clause-bounded : goal.new_blocks-open_runs-requires-clause-bounded
+new_blocks-open_runs-requires-clause-bounded g c =
+    let v = c.args.self.now in
+    let kept = c.tells_kept.ensures in
+    let of = delivery_of c.runs_follow.ensures v c.args.gid c.args.claim c.args.run c.args.bytes.now kept.wants_are kept.legal
+    c.requires.going c.requires.stands.stands c.requires.delivery in
+    let w = opened_want v.machine.start v.machine.past v.wants.items c.args.gid kept.wants_are c.requires.going.opened in
+    let within = of.within in
+    let bound = w.plan.blocks in
+    omega (arith, within, bound)
+
+pub block_count-open-requires : goal.block_count-open-requires
+block_count-open-requires g c =
+    let v = c.args.self.now in
+    let stands = back_to (λ w. StandsUnder w.machine c.args.claim.id c.args.gid c.args.claim) _ _ c.self.view_is
+    c.requires.stands in
+    let are = subst (λ w. AreOpenIn (own_in w c.args.gid) c.args.claim c.args.run c.new_blocks-open_runs.result) c.self.view_is
+    (c.new_blocks-open_runs.ensures.stands c.args.gid c.args.claim stands) in
+    let fit = parts_fit (λ b. is_open_since (own_in v c.args.gid) c.args.claim b ≡ true) c.args.run
+    c.new_blocks-open_runs.result are in
+    let few = c.requires.delivery.few in
+    omega (arith, fit, few)
+
+pub overflow_sub-repeated : goal.overflow_sub-repeated
+overflow_sub-repeated g c =
+    let v = c.args.self.now in
+    let stands = back_to (λ w. StandsUnder w.machine c.args.claim.id c.args.gid c.args.claim) _ _ c.self.view_is
+    c.requires.stands in
+    let are = subst (λ w. AreOpenIn (own_in w c.args.gid) c.args.claim c.args.run c.new_blocks-open_runs.result) c.self.view_is
+    (c.new_blocks-open_runs.ensures.stands c.args.gid c.args.claim stands) in
+    let fit = parts_fit (λ b. is_open_since (own_in v c.args.gid) c.args.claim b ≡ true) c.args.run
+    c.new_blocks-open_runs.result are in
+    let sum = c.block_count-open.ensures.sum in
+    omega (arith, fit, sum)
+
+pub land_and_follow-counted-requires-clause-open_runs : goal.land_and_follow-counted-requires-clause-open_runs
+land_and_follow-counted-requires-clause-open_runs g c =
+    let stands = back_to (λ w. StandsUnder w.machine c.args.claim.id c.args.gid c.args.claim) _ _ c.self.view_is
+    c.requires.stands in
+    subst (λ w. AreOpenIn (own_in w c.args.gid) c.args.claim c.args.run c.new_blocks-open_runs.result) c.self.view_is
+    (c.new_blocks-open_runs.ensures.stands c.args.gid c.args.claim stands)
+
+pub returns-clause-row : goal.returns-clause-row
+returns-clause-row g c download added =
+    let d = g.D.Disk in
+    let v = c.args.self.now in
+    let n = c.land_and_follow-counted.new.self in
+    let stands = back_to (λ w. StandsUnder w.machine c.args.claim.id c.args.gid c.args.claim) _ _ c.self.view_is
+    c.requires.stands in
+    let are = subst (λ w. AreOpenIn (own_in w c.args.gid) c.args.claim c.args.run c.new_blocks-open_runs.result) c.self.view_is
+    (c.new_blocks-open_runs.ensures.stands c.args.gid c.args.claim stands) in
+    kept_row v n c.args.gid c.args.claim c.args.run c.new_blocks-open_runs.result (d.faults v.disk) (d.faults n.disk)
+    c.land_and_follow-counted.result.1 c.land_and_follow-counted.result.0 (c.args.run.count - c.block_count-open.result)
+    c.kept_unless_starved.result download added are (ap (λ k. c.args.run.count - k) c.block_count-open.ensures.sum)
+    c.land_and_follow-counted.ensures.counted c.kept_unless_starved.ensures
+    (c.land_and_follow-counted.ensures.did download added)
