@@ -29,3 +29,9 @@ pub mod LandedCounts
 pub mod PartBytes
 pub mod Delivered
 pub mod DueSaves
+pub mod OwnGids
+pub mod Those
+pub mod Keeps
+pub mod SavedOnes
+pub mod Dues
+pub mod EachSaved

@@ -44,7 +44,7 @@ new_fault past before count within rose fits =
 
 -- ---- one download or another
 
-same_or_apart : (one other : Gid) → (one ≡ other) ⊎ (one ≢ other)
+pub same_or_apart : (one other : Gid) → (one ≡ other) ⊎ (one ≢ other)
 same_or_apart one other = by (one.0 == other.0) refl
   where
     by : (b : Bool) → (one.0 == other.0) ≡ b → (one ≡ other) ⊎ (one ≢ other)

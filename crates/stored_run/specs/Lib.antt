@@ -6,3 +6,4 @@ pub mod Telling
 pub mod Landings
 pub mod Settlings
 pub mod Deliveries
+pub mod Saves

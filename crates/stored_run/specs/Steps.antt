@@ -71,6 +71,12 @@ module _ {D : Type 0} where
   abbrev pub turn_from : StoredView D → ℕ → TurnStart
   turn_from r faults = record { start = r.machine.start; now = r.now; faults = faults }
 
+  -- the start and the moment are the same, and what the disk is to keep is so still
+  pub record GoesOn (old new : StoredView D) : Type 0 where
+    pub start : new.machine.start ≡ old.machine.start
+    pub now : new.now ≡ old.now
+    pub wants : (gid : Gid) (want : Want) → kept_want_of old gid ≡ Some want → kept_want_of new gid ≡ Some want
+
   -- the start and the moment are the same, what the disk is to keep is so still, and at most so many events came
   pub record Continues (events : ℕ) (old new : StoredView D) : Type 0 where
     pub start : new.machine.start ≡ old.machine.start
@@ -92,6 +98,12 @@ module _ {D : Type 0} where
   abbrev pub EndsGid : Gid → (old new : StoredView D) → (before after : DiskState) → Type 0
   EndsGid gid old new before after =
       (want : Want) → kept_want_of old gid ≡ Some want → EndsOn want (own_in old gid) (own_in new gid) before after
+
+  -- what it kept on the disk of each download that went on
+  abbrev pub StoresEach : (old new : StoredView D) → (before after : DiskState) → Type 0
+  StoresEach old new before after =
+      (gid : Gid) (want : Want) → IsGoing old gid → kept_want_of old gid ≡ Some want
+      → KeepsStored want (own_in old gid) (own_in new gid) before after
 
   -- the download is stored, and shares no name with another that goes on
   pub record IsStoredApart (r : StoredView D) (gid : Gid) (disk : DiskState) : Type 0 where

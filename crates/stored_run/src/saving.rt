@@ -24,6 +24,7 @@ impl<D: Disk> StoredRun<D> {
         ensures did { DoesPart (λ at. SavePhase at gid) self.old (D.faults self.old.disk)
             self.new (D.faults self.new.disk) result }
         ensures on { Continues 1 self.old self.new }
+        ensures wants { self.new.wants ≡ self.old.wants }
         ensures disk { IsTrue D.tells → StoresGid gid self.old self.new
             (D.state self.old.disk) (D.state self.new.disk) }
     {

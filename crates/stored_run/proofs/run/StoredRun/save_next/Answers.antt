@@ -1,0 +1,28 @@
+use Rattle.std.proofs.Common.{◌∙◌}
+use Rattle.engine_turns.specs.Phases.{SavePhase}
+use Rattle.stored_run.proofs.EachSaved.{part_roomier, stored_roomier, stores_room, stores_roomier}
+use Rattle.stored_run.proofs.run.StoredRun.save_next.Goals as goal
+
+pub save_one-requires-clause-stored : goal.save_one-requires-clause-stored
+save_one-requires-clause-stored g c told =
+    stored_roomier c.args.self.now c.make_room.new.self c.make_room.ensures.same g.D.Disk.state c.args.gid
+    (c.requires.stored told)
+
+pub returns-then-make_room-clause-did : goal.returns-then-make_room-clause-did
+returns-then-make_room-clause-did g c =
+    part_roomier c.args.self.now c.make_room.new.self c.make_room.ensures.same (λ at. SavePhase at c.args.gid)
+    g.D.Disk.faults c.save_one.new.self (g.D.Disk.faults c.save_one.new.self.disk) c.save_one.result
+    c.save_one.ensures.did
+
+pub returns-then-make_room-clause-wants : goal.returns-then-make_room-clause-wants
+returns-then-make_room-clause-wants g c = c.save_one.ensures.wants ∙ c.make_room.ensures.same.wants
+
+pub returns-then-make_room-clause-disk : goal.returns-then-make_room-clause-disk
+returns-then-make_room-clause-disk g c told =
+    stores_roomier c.args.self.now c.make_room.new.self c.make_room.ensures.same g.D.Disk.state c.args.gid
+    c.save_one.new.self (g.D.Disk.state c.save_one.new.self.disk) (c.save_one.ensures.disk told)
+
+pub returns-else-make_room-clause-disk : goal.returns-else-make_room-clause-disk
+returns-else-make_room-clause-disk g c told =
+    stores_room c.args.self.now c.make_room.new.self c.make_room.ensures.same c.runs_follow.ensures g.D.Disk.state
+    c.args.gid (c.tells_kept.ensures.wants_are.sound c.args.gid)
