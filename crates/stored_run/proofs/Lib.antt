@@ -35,3 +35,7 @@ pub mod Keeps
 pub mod SavedOnes
 pub mod Dues
 pub mod EachSaved
+pub mod SavedRows
+pub mod Stops
+pub mod CallSaves
+pub mod AfterTelling

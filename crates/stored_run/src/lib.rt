@@ -15,6 +15,7 @@ mod saves;
 mod saving;
 mod sealing;
 mod settling;
+mod stopping;
 
 pub use delivering::DELIVERY_EVENTS;
 pub use run::{StoredRun, StoredView};

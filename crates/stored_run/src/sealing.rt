@@ -19,7 +19,7 @@ use machine_core::End;
 use resume_core::{StoreErr, read_piece, same_files_give_the_same};
 
 // Want of memory is answered as such, and all else as done.
-fn done_unless_starved(outcome: Outcome) -> Said
+pub(crate) fn done_unless_starved(outcome: Outcome) -> Said
     ensures { AnswersUnlessStarved Done outcome result }
 {
     match outcome {

@@ -1,0 +1,72 @@
+// The stop.
+ghost use Rattle.std.specs.Prelude.{◌≡◌, false, IsTrue, reverse, slice_get};
+ghost use Rattle.std.specs.List.{list_any};
+ghost use Rattle.std.specs.Option.{option_map_or};
+ghost use Rattle.engine_turns.specs.CallRows.{StopRow, stop_events};
+ghost use Rattle.engine_turns.specs.Standings.{AnswersUnlessStarved};
+ghost use Rattle.engine_turns.specs.declared.operations.Said.TheVariants.{Done};
+ghost use Rattle.machine_core.specs.RunLegal.{is_stop};
+ghost use Rattle.stored_run.specs.Saves.{TellsOnly};
+ghost use Rattle.stored_run.specs.Steps.{DoesRow, GoesOn, StoresEach};
+
+use crate::StoredRun;
+use crate::following::runs_follow;
+use crate::sealing::done_unless_starved;
+use dl_disk::Disk;
+use engine_turns::Said;
+use machine_core::{Event, NoMemory};
+
+impl<D: Disk> StoredRun<D> {
+    // Whether the event at a place of the journal is the stop.
+    fn stops_at(&self, place: u32) -> bool
+        ensures { result ≡ option_map_or is_stop
+            (slice_get (reverse self.entry.now.machine.past) place) false }
+    {
+        match self.machine.journal().get(place) {
+            Some(Event::Stopped) => true,
+            _ => false,
+        }
+    }
+
+    // Whether the run was stopped. It looks at each event of the journal.
+    fn has_stopped(&self) -> bool
+        ensures { result ≡ list_any is_stop self.entry.now.machine.past }
+    {
+        for place in 0..self.machine.journal().len() {
+            if self.stops_at(place) {
+                return true;
+            }
+        }
+        false
+    }
+
+    // The run stops, where it didn't before.
+    fn tell_stop(&mut self)
+        ensures { TellsOnly (stop_events (list_any is_stop self.old.machine.past))
+            self.old self.new }
+    {
+        runs_follow();
+        if !self.has_stopped() {
+            self.machine.stopped();
+        }
+    }
+
+    /// The run stops: no claim stands any more, and the progress of each download that goes on is saved, in the order of
+    /// adding; want of memory leaves out the rest.
+    pub fn stop(&mut self) -> Said
+        ensures row { DoesRow StopRow self.old (D.faults self.old.disk)
+            self.new (D.faults self.new.disk) result }
+        ensures on { GoesOn self.old self.new }
+        ensures disk { IsTrue D.tells → StoresEach self.old self.new
+            (D.state self.old.disk) (D.state self.new.disk) }
+    {
+        runs_follow();
+        self.tells_kept();
+        self.tell_stop();
+        self.tells_kept();
+        match self.due_last() {
+            Ok(due) => done_unless_starved(self.save_all(&due)),
+            Err(NoMemory) => Said::NoMemory,
+        }
+    }
+}
