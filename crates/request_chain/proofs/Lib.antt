@@ -5,6 +5,7 @@ mod ContentLemmas
 mod CourseLemmas
 mod GainLemmas
 mod HeadLemmas
+mod InboxLemmas
 mod AnsweredLemmas
 mod KnownLemmas
 mod Leading
@@ -20,3 +21,4 @@ mod SentLemmas
 mod TurnLemmas
 mod VainLemmas
 mod VerdictLemmas
+mod WholeLemmas

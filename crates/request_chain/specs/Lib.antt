@@ -1,5 +1,6 @@
 pub mod Answered
 pub mod Bounds
+pub mod Calls
 pub mod Chains
 pub mod Contents
 pub mod Courses

@@ -93,7 +93,7 @@ impl Content {
     {
         final_heads_are_one_and_stay();
         let before = out.len();
-        let read = self.reader.take(inbox.front(), room, out, dropped);
+        let read = self.reader.take(inbox.waiting(), room, out, dropped);
         inbox.pass(read.used);
         let behind = count_on(self.behind, read.used);
         self.behind = behind;

@@ -1,12 +1,12 @@
 // What came and waits to be read.
 ghost use Rattle.std.specs.Prelude.{◌≡◌, ◌<◌, ◌≤◌, ◌+◌, ◌++◌, ◌==◌, [], List, ℕ, Ok, true, length, take, drop, IsTrue, IfOk, OnErr, vec_len};
+ghost use Rattle.std.specs.List.{slice_range};
 ghost use Rattle.dl_kinds.specs.Causes.{HasCause};
 ghost use Rattle.link_source.specs.Exchanges.{TakesDue, with_received};
 ghost use Rattle.link_source.specs.declared.exchanges.TheConstants.{MOST_RECEIVED};
 ghost use Rattle.reply_reader.specs.Heads.{HasFinalHead, HasNoFinalHead, IsAtHead, IfFinal};
 ghost use Rattle.reply_reader.specs.declared.heads.HeadsRead.TheVariants.{More, Bad};
 
-use circular_buffer::HeapCircularBuffer;
 use dl_kinds::{IoErr, NoMemory};
 use link_source::{Links, MOST_RECEIVED};
 use reply_reader::{HeadReader, HeadsRead};
@@ -16,21 +16,22 @@ use std::marker::Model;
 /// The most bytes that wait, and that are asked of a link at once.
 const ROOM: usize = MOST_RECEIVED;
 
-/// The bytes that came and weren't read yet, in their order. A byte goes from the link into the block, from there into
-/// the ring, and from the ring to where it is wanted. While heads are read it goes through the block once more.
+/// The bytes that came and weren't read yet, in their order. They wait where the link put them, since more is received
+/// only once all of them are read. While heads are read a byte goes through a buffer of the heads.
 #[derive(Debug, Drop)]
 pub(crate) struct Inbox {
-    ring: HeapCircularBuffer<u8>,
-    /// Through which bytes go from a link into the ring, and from the ring to a reader of heads.
     block: Vec<u8>,
+    /// Where those that wait begin in the block, and where they end.
+    start: usize,
+    end: usize,
 }
 
 impl Model for Inbox {
     ghost Value = { List ℕ };
 
-    ghost view = { λ i. i.ring.items };
+    ghost view = { λ i. slice_range i.block.items i.start i.end };
 
-    ghost invariant = { λ i. (i.ring.capacity ≡ 65536) × (length i.ring.items ≤ 65536) × (vec_len i.block ≡ 65536) };
+    ghost invariant = { λ i. (i.start ≤ i.end) × (i.end ≤ 65536) × (vec_len i.block ≡ 65536) };
 }
 
 // Receives some bytes into the front of a block.
@@ -61,15 +62,16 @@ impl Inbox {
         ensures { IfOk result (λ inbox. inbox ≡ []) }
     {
         Ok(Inbox {
-            ring: HeapCircularBuffer::with_capacity(alloc, ROOM)?,
             block: vec![in alloc; 0; ROOM]?,
+            start: 0,
+            end: 0,
         })
     }
 
     pub fn is_empty(&self) -> bool
         ensures { result ≡ (length self.now == 0) }
     {
-        self.ring.is_empty()
+        self.start == self.end
     }
 
     /// Receives some bytes of the newest exchange, at most so many, in place of those that wait. None come at its end
@@ -92,20 +94,19 @@ impl Inbox {
         ensures listens { IsTrue L.tells → (L.state link.new).listens ≡ true }
         ensures cause { HasCause (L.faults link.old) (L.faults link.new) result }
     {
-        self.ring.clear();
+        self.start = 0;
+        self.end = 0;
         let count = receive(link, &mut self.block, ROOM.min(most as usize))?;
-        self.ring.fill_from_slice(&self.block[..count]);
+        self.end = count;
         Ok(count as u32)
     }
 
-    /// Some bytes at the front, all of those that stand together.
-    pub fn front(&self) -> &[u8]
-        ensures front { (rest : List ℕ) × (self.now ≡ result.now ++ rest) }
-        ensures some { 0 < length self.now → 0 < length result.now }
+    /// All that waits.
+    pub fn waiting(&self) -> &[u8]
+        ensures all { result.now ≡ self.now }
         ensures few { length result.now ≤ 65536 }
     {
-        let (first, second) = self.ring.as_slices();
-        if first.is_empty() { second } else { first }
+        &self.block[self.start..self.end]
     }
 
     /// Drops so many bytes at the front.
@@ -113,14 +114,14 @@ impl Inbox {
         requires { count ≤ length self.old }
         ensures { self.new ≡ drop count self.old }
     {
-        let rest = self.ring.len() - count as usize;
-        self.ring.truncate_front(rest);
+        self.start += count as usize;
     }
 
     pub fn clear(&mut self)
         ensures { self.new ≡ [] }
     {
-        self.ring.clear();
+        self.start = 0;
+        self.end = 0;
     }
 
     /// Reads on a head with all that waits. What stands behind the head waits on.
@@ -136,13 +137,15 @@ impl Inbox {
             → HasNoFinalHead (received ++ self.old) }
         ensures none_more { length self.new ≤ length self.old }
     {
-        let count = self.ring.read_into(&mut self.block);
-        match reader.take(alloc, &self.block[..count]) {
+        match reader.take(alloc, self.waiting()) {
             HeadsRead::Whole { head, used } => {
-                self.ring.fill_from_slice(&self.block[used as usize..count]);
+                self.pass(used);
                 HeadsRead::Whole { head, used }
             }
-            HeadsRead::More => HeadsRead::More,
+            HeadsRead::More => {
+                self.clear();
+                HeadsRead::More
+            }
             HeadsRead::Bad => HeadsRead::Bad,
             HeadsRead::NoMemory => HeadsRead::NoMemory,
         }

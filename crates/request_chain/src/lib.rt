@@ -2,6 +2,7 @@
 //! was moved to, and what came.
 #![tactic(auto)]
 
+mod asking;
 mod chain;
 mod content;
 mod course;
@@ -9,6 +10,8 @@ mod exchange;
 mod inbox;
 mod laws;
 mod probing;
+mod reading;
+mod receiving;
 mod redirect;
 mod room;
 mod stage;

@@ -43,6 +43,11 @@ returns-in_err-turn-clause-answered g c told parts before used bytes is gains ol
     c.turn.ensures.answered told parts before so_far.2.later (bytes ++ so_far.0) so_far.2.chain_is so_far.2.gains old
     (c.turns.invariant.answered told parts before used bytes is gains old were)
 
+pub returns-in_err-turn-clause-whole : goal.returns-in_err-turn-clause-whole
+returns-in_err-turn-clause-whole g c told parts before used bytes is gains were =
+    let so_far = c.turns.invariant.steps told parts before used bytes is gains in
+    c.turn.ensures.whole told parts before so_far.2.later (bytes ++ so_far.0) so_far.2.chain_is so_far.2.gains
+
 pub turns-preserved : goal.turns-preserved
 turns-preserved g c = record {
   few = search rules;
@@ -67,6 +72,9 @@ turns-preserved g c = record {
       let so_far = c.turns.invariant.steps told parts before used bytes is gains in
       c.turn.ensures.answered told parts before so_far.2.later (bytes ++ so_far.0) so_far.2.chain_is so_far.2.gains old
       (c.turns.invariant.answered told parts before used bytes is gains old were);
+  whole = λ told parts before used bytes is gains were.
+      let so_far = c.turns.invariant.steps told parts before used bytes is gains in
+      c.turn.ensures.whole told parts before so_far.2.later (bytes ++ so_far.0) so_far.2.chain_is so_far.2.gains;
   untouched = λ url asks unusable.
       let was = c.turns.invariant.untouched url asks unusable in
       absurd (c.in_ok-turn.ensures.usable url was.2 unusable);

@@ -4,6 +4,7 @@ use Rattle.link_source.specs.Exchanges.{Exchange}
 use Rattle.span_map.specs.declared.jobs.JobPart.{JobPart}
 use Rattle.request_chain.specs.Chains.{IsChain, Gains}
 use Rattle.request_chain.specs.Answered.{KeepsAnswers}
+use Rattle.request_chain.specs.Rests.{RestsWhole}
 use Rattle.request_chain.specs.Turns.{AsksFor, Steps, MayGoOn, weight_of}
 use Rattle.request_chain.proofs.chain.Chain.read.Given as goal
 
@@ -20,6 +21,9 @@ invariant-turns g l = record {
   answered : IsTrue g.L.Links.tells → (parts : List JobPart) (before used : List Exchange) (bytes : List ℕ)
       → IsChain parts used bytes l.fn.self → Gains before (g.L.Links.state l.initial.link).exchanges used
       → KeepsAnswers before (g.L.Links.state l.initial.link) (g.L.Links.state l.link);
+  whole : IsTrue g.L.Links.tells → (parts : List JobPart) (before used : List Exchange) (bytes : List ℕ)
+      → IsChain parts used bytes l.fn.self → Gains before (g.L.Links.state l.initial.link).exchanges used
+      → RestsWhole l.fn.self.room (g.L.Links.state l.initial.link).exchanges → RestsWhole l.self.room (g.L.Links.state l.link).exchanges;
   untouched : (url : List ℕ) → AsksFor l.fn.self url → (IsUsable url → ⊥)
       → (l.link ≡ l.initial.link) × (l.out ≡ l.initial.out) × AsksFor l.self url × (l.gained ≡ 0) × (l.self.taken ≡ 0);
   may : IsTrue g.L.Links.tells → MayGoOn l.self (g.L.Links.state l.link);

@@ -61,7 +61,7 @@ returns-in-Over-clause-reads c parts used bytes reading =
     (read.0, read.1, λ faults. answer_lost parts used self.course (bytes ++ read.0) loss has)
 
 pub returns-in-Come-clause-whole : goal.returns-in-Come-clause-whole
-returns-in-Come-clause-whole c tired rests parts used bytes reading =
+returns-in-Come-clause-whole c rests parts used bytes reading =
     let s = reading.sent in
     let read = c.in-Come.ensures.reads (asked_of s.part) s.newest.received reading.got reading.read in
     let over = c.is_read_whole-self.ensures rests in

@@ -1,5 +1,6 @@
 use Rattle.std.proofs.Common.{List, ℕ, [], sym, ap, subst, ◌∙◌, arith, length, append-nil, MatchResult}
 use Rattle.request_chain.specs.Chains.{IsChain, TellsLoss}
+use Rattle.request_chain.specs.Plans.{asked_of}
 use Rattle.request_chain.specs.Stages.{IsReading}
 use Rattle.request_chain.specs.declared.stage.Stage.{Stage}
 use Rattle.request_chain.proofs.chain.Chain.read_on.Goals as goal
@@ -20,3 +21,21 @@ returns-in-Unheard-clause-reads c parts used bytes reading =
     let awaited = subst P (sym c.replace.ensures.value ∙ c.in-Unheard.is) reading in
     let some = c.requires.some in
     absurd (omega (arith, some, ap length awaited.none_waits))
+
+pub returns-in-Content-clause-whole : goal.returns-in-Content-clause-whole
+returns-in-Content-clause-whole c rests parts used bytes reading =
+    let self = c.args.self.now in
+    let P : Stage → Type 0 = λ stage. IsReading stage self.course self.room.inbox parts used bytes in
+    let content = subst P (sym c.replace.ensures.value ∙ c.in-Content.is) reading in
+    let s = content.sent in (
+      s.older,
+      s.newest,
+      s.used_is,
+      record {
+        url = s.url;
+        asked = asked_of s.part;
+        exchange = s.exchange;
+        read = c.read_content.ensures.whole rests parts used bytes content;
+        open_still = s.not_ended;
+      },
+    )

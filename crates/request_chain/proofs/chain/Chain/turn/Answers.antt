@@ -4,6 +4,7 @@ use Rattle.request_chain.specs.Stages.{IsBehindHead}
 use Rattle.request_chain.specs.declared.stage.Stage.{Stage}
 use Rattle.request_chain.proofs.CallLemmas.{read_steps}
 use Rattle.request_chain.proofs.VainLemmas.{unheard_weight}
+use Rattle.request_chain.proofs.WholeLemmas.{whole_on_top}
 use Rattle.request_chain.proofs.chain.Chain.turn.Goals as goal
 
 pub returns-clause-steps : goal.returns-clause-steps
@@ -42,3 +43,17 @@ returns-then-not-branch-clause-smaller g c =
 
 pub returns-then-is_asking-clause-answered : goal.returns-then-is_asking-clause-answered
 returns-then-is_asking-clause-answered g c told parts before used bytes is gains = c.ask.ensures.answered told before
+
+pub returns-then-not-is_empty-clause-whole : goal.returns-then-not-is_empty-clause-whole
+returns-then-not-is_empty-clause-whole g c told parts before used bytes is gains rests =
+    whole_on_top before _ used gains (c.read_on.ensures.whole rests parts used bytes is.reading)
+
+pub returns-then-is_unheard-clause-whole : goal.returns-then-is_unheard-clause-whole
+returns-then-is_unheard-clause-whole g c told parts before used bytes is gains rests =
+    let came = c.in_ok-receive_first.ensures.receives told parts before used bytes is gains in
+    whole_on_top before _ came.later came.gains (c.read_on-then-is_unheard.ensures.whole rests parts came.later bytes came.reading)
+
+pub returns-clause-whole : goal.returns-clause-whole
+returns-clause-whole g c told parts before used bytes is gains rests =
+    let came = c.in_ok-receive.ensures.receives told parts before used bytes is gains in
+    whole_on_top before _ came.later came.gains (c.read_on-2.ensures.whole rests parts came.later bytes came.reading)
