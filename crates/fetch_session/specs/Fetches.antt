@@ -11,7 +11,7 @@ use Rattle.reply_reader.specs.declared.loss.Loss.TheVariants.{NoMemory}
 use Rattle.request_chain.specs.Chains.{IsChain, Gains, HasBrought, TellsLoss, received_by}
 use Rattle.request_chain.specs.Fetched.{Fetched}
 use Rattle.request_chain.specs.Plans.{FetchEnding, Done, Lost}
-use Rattle.request_chain.specs.Rests.{RestsOn}
+use Rattle.request_chain.specs.Rests.{LetsGo, RestsOn, RestsWhole}
 use Rattle.request_chain.specs.Turns.{AsksFor, MayGoOn}
 use Rattle.request_chain.specs.declared.chain.Chain.{Chain}
 use Rattle.fetch_session.specs.Blocks.{cut, ready_blocks}
@@ -46,7 +46,19 @@ pub record MayStep (fetch : Fetch) (link : LinkState) : Type 0 where
 
 -- the link is closed, or the next fetch may go on over its connection
 abbrev pub IsLetGo : Fetch → LinkState → Type 0
-IsLetGo fetch link = (link.peer ≡ None) ⊎ (fetch.chain.room.rests ≡ true)
+IsLetGo fetch link = LetsGo fetch.chain.room link
+
+-- so behind a probe
+abbrev pub IsLeftTo : FetchRoom → LinkState → Type 0
+IsLeftTo room link = LetsGo room.chain link
+
+-- The fetch keeps a connection only behind a reply that was read whole, that of the newest of these exchanges.
+abbrev pub KeepsBehindWhole : Fetch → List Exchange → Type 0
+KeepsBehindWhole fetch exchanges = RestsWhole fetch.chain.room exchanges
+
+-- so the room of the next fetch
+abbrev pub IsKeptBehindWhole : FetchRoom → List Exchange → Type 0
+IsKeptBehindWhole room exchanges = RestsWhole room.chain exchanges
 
 -- the next request of the fetch is for this URL
 abbrev pub AsksNext : Fetch → List ℕ → Type 0

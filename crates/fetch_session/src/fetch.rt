@@ -5,7 +5,8 @@ ghost use Rattle.dl_kinds.specs.Plan.{blocks_of};
 ghost use Rattle.reply_reader.specs.Losses.{IsKnown};
 ghost use Rattle.fetch_session.specs.Blocks.{AreReady};
 ghost use Rattle.link_source.specs.Link.{LinkState};
-ghost use Rattle.request_chain.specs.Rests.{RestsOn};
+ghost use Rattle.link_source.specs.Exchanges.{Exchange};
+ghost use Rattle.request_chain.specs.Rests.{RestsOn, RestsWhole};
 ghost use Rattle.fetch_session.specs.Known.{is_known};
 
 use crate::blocks::{cut, missing, take_front, whole_from};
@@ -60,7 +61,7 @@ impl Fetch {
     ghost use Rattle.span_map.specs.declared.jobs.JobPart.{JobPart};
     ghost use Rattle.fetch_session.specs.Blocks.{cut};
     ghost use Rattle.span_map.specs.Jobs.{IsJob, run_end, run_start};
-    ghost use Rattle.fetch_session.specs.Fetches.{fetch_plan, rest_of, ready_of, lost_of, IsFetch, AsksNext, IsLetGo, MayBegin, MayStep, SameButSpare, FetchSteps, Fails};
+    ghost use Rattle.fetch_session.specs.Fetches.{fetch_plan, rest_of, ready_of, lost_of, IsFetch, AsksNext, IsKeptBehindWhole, IsLetGo, KeepsBehindWhole, MayBegin, MayStep, SameButSpare, FetchSteps, Fails};
 
     /// Begins the fetch of a run, with the parts of resources that are its bytes.
     pub fn begin(job: Job, room: FetchRoom) -> Fetch
@@ -71,6 +72,8 @@ impl Fetch {
         ensures none_ready { (ready_of result).count ≡ 0 }
         ensures none_lost { lost_of result ≡ None }
         ensures may { (link : LinkState) → MayBegin room link → MayStep result link }
+        ensures whole { (exchanges : List Exchange) → IsKeptBehindWhole room exchanges
+            → KeepsBehindWhole result exchanges }
         ensures own { (part : JobPart) (others : List JobPart) → job.parts ≡ part ∷ others
             → AsksNext result part.url }
         ensures first { cut job.plan job.run.first ≡ run_start job.plan job.run }
@@ -173,6 +176,12 @@ impl Fetch {
             → (job : Job) (before used : List Exchange) (handed : List ℕ)
             → IsFetch job used handed self.old → Gains before (L.state link.old).exchanges used
             → KeepsAnswers before (L.state link.old) (L.state link.new) }
+        // A connection is kept only behind a reply that was read whole.
+        ensures whole { IsTrue L.tells
+            → (job : Job) (before used : List Exchange) (handed : List ℕ)
+            → IsFetch job used handed self.old → Gains before (L.state link.old).exchanges used
+            → KeepsBehindWhole self.old (L.state link.old).exchanges
+            → KeepsBehindWhole self.new (L.state link.new).exchanges }
         ensures may { IsTrue L.tells → MayStep self.new (L.state link.new) }
         ensures closed { IfOk result (λ got. IsTrue got.done → 0 < got.ready.count
             → IsTrue L.tells → IsLetGo self.new (L.state link.new)) }
@@ -203,6 +212,8 @@ impl Fetch {
             → IsFetch job used handed self.old → IsFetch job used handed self.new }
         ensures shown { SameButSpare self.old self.new }
         ensures may { (link : LinkState) → MayStep self.old link → MayStep self.new link }
+        ensures whole { (exchanges : List Exchange) → KeepsBehindWhole self.old exchanges
+            → KeepsBehindWhole self.new exchanges }
         ensures spare { IfOk result (λ _. IsSome self.new.spare) }
     {
         if self.spare.is_none() {
@@ -251,11 +262,17 @@ impl Fetch {
             → (job : Job) (before used : List Exchange) (handed : List ℕ)
             → IsFetch job used handed self.old → Gains before (L.state link.old).exchanges used
             → KeepsAnswers before (L.state link.old) (L.state link.new) }
+        ensures whole { IsTrue L.tells
+            → (job : Job) (before used : List Exchange) (handed : List ℕ)
+            → IsFetch job used handed self.old → Gains before (L.state link.old).exchanges used
+            → KeepsBehindWhole self.old (L.state link.old).exchanges
+            → KeepsBehindWhole self.new (L.state link.new).exchanges }
         ensures may { IsTrue L.tells → MayStep self.new (L.state link.new) }
         ensures closed { IfOk result (λ got. IsTrue got.done → 0 < got.ready.count
             → IsTrue L.tells → IsLetGo self.new (L.state link.new)) }
         ensures none_ready { OnErr result ((ready_of self.new).count ≡ 0) }
-        ensures cause { IfSome (lost_of self.new) (CountsLinkLoss (L.faults link.old) (L.faults link.new)) }
+        ensures cause { IfSome (lost_of self.new)
+            (CountsLinkLoss (L.faults link.old) (L.faults link.new)) }
         ensures later { L.faults link.old ≤ L.faults link.new }
     {
         fetched_bytes_fit_their_parts();
@@ -295,6 +312,8 @@ impl Fetch {
         ensures takes { (job : Job) (used : List Exchange) (handed : List ℕ)
             → IsFetch job used handed self.old → IsFetch job used (handed ++ result) self.new }
         ensures may { (link : LinkState) → MayStep self.old link → MayStep self.new link }
+        ensures whole { (exchanges : List Exchange) → KeepsBehindWhole self.old exchanges
+            → KeepsBehindWhole self.new exchanges }
         ensures len { run_start (fetch_plan self.old) (ready_of self.old) + length result
             ≡ run_end (fetch_plan self.old) (ready_of self.old) }
         ensures place { cut (fetch_plan self.old) (rest_of self.old).first + length result
@@ -326,6 +345,8 @@ impl Fetch {
         ensures fetch { (job : Job) (used : List Exchange) (handed : List ℕ)
             → IsFetch job used handed self.old → IsFetch job used handed self.new }
         ensures may { (link : LinkState) → MayStep self.old link → MayStep self.new link }
+        ensures whole { (exchanges : List Exchange) → KeepsBehindWhole self.old exchanges
+            → KeepsBehindWhole self.new exchanges }
         ensures plan { fetch_plan self.new ≡ fetch_plan self.old }
         ensures rest { rest_of self.new ≡ rest_of self.old }
         ensures ready { ready_of self.new ≡ ready_of self.old }
@@ -339,7 +360,9 @@ impl Fetch {
 
     /// The room, for another fetch. After a loss that one begins on a connection of its own.
     pub fn into_room(self) -> FetchRoom
-        ensures { (link : LinkState) → MayStep self link → MayBegin result link }
+        ensures may { (link : LinkState) → MayStep self link → MayBegin result link }
+        ensures whole { (exchanges : List Exchange) → KeepsBehindWhole self exchanges
+            → IsKeptBehindWhole result exchanges }
     {
         let Fetch {
             plan: _,
@@ -360,7 +383,10 @@ impl Fetch {
 
 // The room of a chain, which doesn't go on over its connection after a loss.
 fn room_behind(chain: Chain, lost: Option<Loss>) -> ChainRoom
-    ensures { (link : LinkState) → (lost ≡ None → RestsOn chain.room link) → RestsOn result link }
+    ensures rests { (link : LinkState) → (lost ≡ None → RestsOn chain.room link)
+        → RestsOn result link }
+    ensures whole { (exchanges : List Exchange) → RestsWhole chain.room exchanges
+        → RestsWhole result exchanges }
 {
     let room = chain.into_room();
     match lost {

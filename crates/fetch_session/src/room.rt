@@ -1,5 +1,5 @@
 // What a fetch reads with.
-ghost use Rattle.std.specs.Prelude.{◌≤◌, vec_capacity, IfOk};
+ghost use Rattle.std.specs.Prelude.{◌≤◌, List, vec_capacity, IfOk};
 ghost use Rattle.std.specs.Option.{ForSome};
 
 use dl_kinds::NoMemory;
@@ -29,10 +29,13 @@ pub struct FetchRoom {
 
 impl FetchRoom {
     ghost use Rattle.link_source.specs.Link.{LinkState};
-    ghost use Rattle.fetch_session.specs.Fetches.{MayBegin};
+    ghost use Rattle.link_source.specs.Exchanges.{Exchange};
+    ghost use Rattle.fetch_session.specs.Fetches.{IsKeptBehindWhole, MayBegin};
 
     pub fn new(alloc: Global) -> Result<Self, NoMemory>
-        ensures { IfOk result (λ room. (link : LinkState) → MayBegin room link) }
+        ensures may { IfOk result (λ room. (link : LinkState) → MayBegin room link) }
+        ensures whole { IfOk result
+            (λ room. (exchanges : List Exchange) → IsKeptBehindWhole room exchanges) }
     {
         Ok(FetchRoom {
             chain: ChainRoom::new(alloc)?,

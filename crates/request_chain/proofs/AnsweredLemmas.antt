@@ -123,7 +123,7 @@ abbrev pub on_stream : List ℕ → Exchange → Exchange
 on_stream [] stream = record stream { ended = true }
 on_stream (byte ∷ bytes) stream = record stream { received = stream.received ++ byte ∷ bytes }
 
-on_newest : (came : List ℕ) (newest : Exchange) (older : List Exchange) → with_received came (newest ∷ older) ≡ on_stream came newest ∷ older
+pub on_newest : (came : List ℕ) (newest : Exchange) (older : List Exchange) → with_received came (newest ∷ older) ≡ on_stream came newest ∷ older
 on_newest [] newest older = refl
 on_newest (byte ∷ bytes) newest older = refl
 

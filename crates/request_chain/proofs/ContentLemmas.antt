@@ -49,7 +49,7 @@ module _ (framing : Told) (skip len : ℕ) where
   came_nothing : came_of slice_told [] ≡ []
   came_nothing = rw (nothing_yet framing) (ap (take len) (drop-nil skip) ∙ take-nil len)
 
-  start_due : HasBytes framing → 0 < len → IsSliceDue slice_told []
+  pub start_due : HasBytes framing → 0 < len → IsSliceDue slice_told []
   start_due some more = record {
     not_come = rw came_nothing (ne_eqb 0 len (λ is. omega arith));
     right = goes_right framing some;

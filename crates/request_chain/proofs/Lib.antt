@@ -7,6 +7,7 @@ mod GainLemmas
 mod HeadLemmas
 mod InboxLemmas
 mod AnsweredLemmas
+mod KeepingLemmas
 mod KnownLemmas
 mod Leading
 mod Little

@@ -106,11 +106,11 @@ slice-here asked head slice last sliced = elim (cases_Bool (is_moved head)) [
 
 -- ---- what comes next
 
-on-received : (came : List ℕ) (stream : Exchange) → (on_stream came stream).received ≡ stream.received ++ came
+pub on-received : (came : List ℕ) (stream : Exchange) → (on_stream came stream).received ≡ stream.received ++ came
 on-received [] stream = sym (append-nil stream.received)
 on-received (byte ∷ came) stream = refl
 
-on-exchange : (url : List ℕ) (asked : Asked) (came : List ℕ) (stream : Exchange) → IsExchange url asked stream → IsExchange url asked (on_stream came stream)
+pub on-exchange : (url : List ℕ) (asked : Asked) (came : List ℕ) (stream : Exchange) → IsExchange url asked stream → IsExchange url asked (on_stream came stream)
 on-exchange url asked [] stream exchange = same_exchange url asked stream stream.received true exchange
 on-exchange url asked (byte ∷ came) stream exchange = same_exchange url asked stream (stream.received ++ byte ∷ came) stream.ended exchange
 

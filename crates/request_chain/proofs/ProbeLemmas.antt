@@ -1,5 +1,5 @@
 -- A probe, as its streams come.
-use Rattle.std.proofs.Common.{◌≡◌, ℕ, zero, suc, ◌-◌, ◌*◌, ◌<◌, ◌≤◌, Bool, true, false, List, [], ◌∷◌, ◌++◌, length, drop, refl, sym, ap, subst, ◌∙◌, inl, inr, arith, append-nil, length-append, length-drop}
+use Rattle.std.proofs.Common.{◌≡◌, ℕ, zero, suc, ◌+◌, ◌-◌, ◌*◌, ◌<◌, ◌≤◌, Bool, true, false, List, [], ◌∷◌, ◌++◌, length, drop, refl, sym, ap, subst, ◌∙◌, inl, inr, arith, append-nil, length-append, length-drop}
 use Rattle.std.specs.Prelude.{◌⊎◌}
 use Rattle.dl_kinds.specs.declared.outside.IoErr.{IoErr}
 use Rattle.dl_kinds.specs.declared.outside.IoErr.TheVariants.{Fault, NoMemory as NoRoom}
@@ -10,7 +10,7 @@ use Rattle.reply_reader.specs.declared.heads.HeadReader.{HeadReader}
 use Rattle.reply_reader.specs.declared.loss.Loss.{Loss}
 use Rattle.reply_reader.specs.declared.loss.Loss.TheVariants as losses
 use Rattle.request_chain.specs.Probes.{Probe, Due, Lost, probe_asked, ProbeAnswers}
-use Rattle.request_chain.specs.Searches.{Awaits, HasHead, NewestTells, HeadLost}
+use Rattle.request_chain.specs.Searches.{Awaits, HasHeadAnd, NewestTells, HeadLost}
 use Rattle.request_chain.specs.Sending.{IsOpened, loss_by}
 use Rattle.request_chain.proofs.SentLemmas.{with_bytes, same_exchange}
 
@@ -134,10 +134,23 @@ module _ (url : List ℕ) (before now : List Exchange) (left : ℕ) (waiting : L
     room = awaits.room;
   }
 
-  pub read_whole : (head : Head) (used : ℕ) → HasFinalHead (awaits.front ++ waiting) head used → HasHead url before now head
-  read_whole head used begins =
-      let P : List ℕ → Type 0 = λ received. HasFinalHead received head used in
-      record { stream = awaits.stream; on_top = awaits.on_top; exchange = awaits.exchange; fresh_is = awaits.fresh_is; used = used; begins = subst P (sym awaits.received_is) begins }
+  pub read_whole : (head : Head) (used : ℕ) (rest : List ℕ) → HasFinalHead (awaits.front ++ waiting) head (length awaits.front + used) → used ≤ length waiting
+      → rest ≡ drop used waiting → HasHeadAnd url before now rest head
+  read_whole head used rest begins few rest_is =
+      let P : List ℕ → Type 0 = λ received. HasFinalHead received head (length awaits.front + used) in
+      record {
+        has = record {
+          stream = awaits.stream;
+          on_top = awaits.on_top;
+          exchange = awaits.exchange;
+          fresh_is = awaits.fresh_is;
+          used = length awaits.front + used;
+          begins = subst P (sym awaits.received_is) begins;
+        };
+        not_ended = awaits.not_ended;
+        behind = omega (arith, ap length awaits.received_is, length-append awaits.front waiting, length-drop used waiting, few, ap length rest_is);
+        few = omega (arith, awaits.room);
+      }
 
   pub read_none : (faults : ℕ) → HasNoFinalHead (awaits.front ++ waiting) → HeadLost url before now faults losses.BadReply
   read_none faults none =

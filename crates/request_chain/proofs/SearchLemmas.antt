@@ -16,7 +16,7 @@ use Rattle.request_chain.specs.Contents.{IsOwn}
 use Rattle.request_chain.specs.Plans.{unusable}
 use Rattle.request_chain.specs.Probes.{Probe, Due, Away, Lost, probe_asked, probe_by, Search, At, Found, search_at, next_search, ProbedBy, Probed, TellsProbeLoss}
 use Rattle.request_chain.specs.Redirects.{moved_to, redirect_limit}
-use Rattle.request_chain.specs.Searches.{HasHead, NewestTells, HeadLost, SearchLeads}
+use Rattle.request_chain.specs.Searches.{AsksForHead, HasHead, HasHeadAnd, NewestTells, HeadLost, SearchLeads}
 use Rattle.request_chain.specs.Sending.{IsUnopened}
 use Rattle.request_chain.proofs.GainLemmas.{gains_one}
 use Rattle.request_chain.proofs.MovedLemmas.{moved_location}
@@ -58,11 +58,10 @@ head_moves url before now head has is =
     )
 
 -- a loss of the heads is a loss of the request
-pub heads_or : (url : List ℕ) (status : ℕ) (before now : List Exchange) (faults : ℕ) (r : Result Head Loss)
-    → MatchResult r (HasHead url before now) (HeadLost url before now faults)
-    → MatchResult r (HasHead url before now) (λ loss. IsUnopened url status before now faults loss ⊎ HeadLost url before now faults loss)
-heads_or url status before now faults (Ok head) is = is
-heads_or url status before now faults (Err loss) is = inr is
+pub heads_or : (url : List ℕ) (status : ℕ) (before now : List Exchange) (waiting : List ℕ) (faults : ℕ) (r : Result Head Loss)
+    → MatchResult r (HasHeadAnd url before now waiting) (HeadLost url before now faults) → AsksForHead url status before r now waiting faults
+heads_or url status before now waiting faults (Ok head) is = is
+heads_or url status before now waiting faults (Err loss) is = inr is
 
 module _ (url hop : List ℕ) (count status : ℕ) (before now new used : List Exchange) (gains : Gains before now used) (leads : SearchLeads (At url 0 0) used (At hop count status)) where
   gains_on : (stream : Exchange) → new ≡ stream ∷ now → Gains before new (used ++ stream ∷ [])

@@ -29,10 +29,13 @@ pub record IsWhole (stream : Exchange) : Type 0 where
 abbrev pub NewestIsWhole : List Exchange → Type 0
 NewestIsWhole used = (older : List Exchange) × (newest : Exchange) × (used ≡ older ++ newest ∷ []) × IsWhole newest
 
--- A connection may take another request only behind such a reply: so the newest of these exchanges, the newest first.
+-- so the reply of the newest of these exchanges, the newest first
+abbrev pub TopIsWhole : List Exchange → Type 0
+TopIsWhole exchanges = (newest : Exchange) × (older : List Exchange) × (exchanges ≡ newest ∷ older) × IsWhole newest
+
+-- a connection may take another request only behind such a reply
 abbrev pub RestsWhole : ChainRoom → List Exchange → Type 0
-RestsWhole room exchanges = room.rests ≡ true
-    → (newest : Exchange) × (older : List Exchange) × (exchanges ≡ newest ∷ older) × IsWhole newest
+RestsWhole room exchanges = room.rests ≡ true → TopIsWhole exchanges
 
 -- the link is closed, or its connection may take another request
 abbrev pub LetsGo : ChainRoom → LinkState → Type 0

@@ -69,8 +69,10 @@ pub(crate) fn send_request<L: Links>(
     asked: &Asked,
 ) -> Result<Peer, Loss>
     ensures sent { OnOk result (IsTrue L.tells
-        → IsOpened url.now asked.now true (L.state link.old).exchanges (L.state link.new).exchanges) }
-    ensures opened { IfOk result (λ peer. IsTrue L.tells → IsOpenTo (Some peer) (L.state link.new)) }
+        → IsOpened url.now asked.now true (L.state link.old).exchanges
+        (L.state link.new).exchanges) }
+    ensures opened { IfOk result (λ peer. IsTrue L.tells
+        → IsOpenTo (Some peer) (L.state link.new)) }
     ensures lost { IfErr result (λ loss. IsTrue L.tells → IsUnopened url.now status
         (L.state link.old).exchanges (L.state link.new).exchanges (L.faults link.new) loss) }
     ensures link { IfErr result (CountsLinkLoss (L.faults link.old) (L.faults link.new)) }

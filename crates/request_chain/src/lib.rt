@@ -8,6 +8,7 @@ mod content;
 mod course;
 mod exchange;
 mod inbox;
+mod keeping;
 mod laws;
 mod probing;
 mod reading;

@@ -15,13 +15,15 @@ ghost use Rattle.request_chain.specs.Chains.{Gains};
 ghost use Rattle.request_chain.specs.Contents.{IsOwn};
 ghost use Rattle.request_chain.specs.Plans.{unusable};
 ghost use Rattle.request_chain.specs.Probes.{Told, Lost, probe_asked, probe_by, Probed, TellsProbeLoss};
-ghost use Rattle.request_chain.specs.Searches.{Awaits, HasHead, HeadLost};
+ghost use Rattle.request_chain.specs.Rests.{IsOpenTo, LetsGo, RestsOn, RestsWhole};
+ghost use Rattle.request_chain.specs.Searches.{AsksForHead, Awaits, HasHeadAnd, HeadLost};
 ghost use Rattle.request_chain.specs.Redirects.{moved_to};
-ghost use Rattle.request_chain.specs.Sending.{IsOpened, IsUnopened};
+ghost use Rattle.request_chain.specs.Sending.{IsOpened};
 
 use crate::course::{Moved, REDIRECT_LIMIT};
 use crate::exchange::{link_loss, send_request};
 use crate::inbox::Inbox;
+use crate::keeping::let_go;
 use crate::redirect::target;
 use crate::room::ChainRoom;
 use crate::stage::check_head;
@@ -89,13 +91,16 @@ fn receive<L: Links>(
     ensures receives { IsTrue L.tells
         → (url : List ℕ) (before : List Exchange)
         → Awaits url before (L.state link.old).exchanges most [] reader.now
-        → MatchResult result (λ count. Awaits url before (L.state link.new).exchanges (most - count) inbox.new reader.now)
+        → MatchResult result
+        (λ count. Awaits url before (L.state link.new).exchanges (most - count) inbox.new reader.now)
         (HeadLost url before (L.state link.new).exchanges (L.faults link.new)) }
     ensures some { IfOk result (λ count. (0 < count) × (count ≤ most)) }
+    ensures at { IsTrue L.tells → (L.state link.new).peer ≡ (L.state link.old).peer }
     ensures listens { IsTrue L.tells → (L.state link.new).listens ≡ true }
     ensures answered { IsTrue L.tells → (url : List ℕ) (others before : List Exchange)
         → Awaits url others (L.state link.old).exchanges most [] reader.now
-        → length before ≤ length others → KeepsAnswers before (L.state link.old) (L.state link.new) }
+        → length before ≤ length others
+        → KeepsAnswers before (L.state link.old) (L.state link.new) }
     ensures link { IfErr result (CountsLinkLoss (L.faults link.old) (L.faults link.new)) }
     ensures known { IfErr result IsKnown }
     ensures later { L.faults link.old ≤ L.faults link.new }
@@ -120,11 +125,14 @@ fn receive_head<L: Links>(alloc: Global, link: &mut L, inbox: &mut Inbox) -> Res
     ensures heads { IsTrue L.tells
         → (url : List ℕ) (before : List Exchange)
         → IsOpened url probe_asked true before (L.state link.old).exchanges
-        → MatchResult result (HasHead url before (L.state link.new).exchanges)
+        → MatchResult result (HasHeadAnd url before (L.state link.new).exchanges inbox.new)
         (HeadLost url before (L.state link.new).exchanges (L.faults link.new)) }
     ensures answered { IsTrue L.tells → (url : List ℕ) (others before : List Exchange)
-        → IsOpened url probe_asked true others (L.state link.old).exchanges → length before ≤ length others
+        → IsOpened url probe_asked true others (L.state link.old).exchanges
+        → length before ≤ length others
         → KeepsAnswers before (L.state link.old) (L.state link.new) }
+    ensures at { IsTrue L.tells → (L.state link.new).peer ≡ (L.state link.old).peer }
+    ensures listens { IsTrue L.tells → (L.state link.new).listens ≡ true }
     ensures link { IfErr result (CountsLinkLoss (L.faults link.old) (L.faults link.new)) }
     ensures known { IfErr result IsKnown }
     ensures later { L.faults link.old ≤ L.faults link.new }
@@ -146,11 +154,16 @@ fn receive_head<L: Links>(alloc: Global, link: &mut L, inbox: &mut Inbox) -> Res
 }
 
 // Asks for the first byte, and gives the final head of the reply.
-fn ask<L: Links>(alloc: Global, link: &mut L, inbox: &mut Inbox, hop: &Moved) -> Result<Head, Loss>
-    ensures asks { IsTrue L.tells
-        → MatchResult result (HasHead hop.now.url (L.state link.old).exchanges (L.state link.new).exchanges)
-        (λ loss. IsUnopened hop.now.url hop.now.status (L.state link.old).exchanges (L.state link.new).exchanges (L.faults link.new) loss
-        ⊎ HeadLost hop.now.url (L.state link.old).exchanges (L.state link.new).exchanges (L.faults link.new) loss) }
+fn ask<L: Links>(
+    alloc: Global,
+    link: &mut L,
+    room: &mut ChainRoom,
+    hop: &Moved,
+) -> Result<Head, Loss>
+    ensures asks { IsTrue L.tells → AsksForHead hop.now.url hop.now.status
+        (L.state link.old).exchanges result (L.state link.new).exchanges room.new.inbox (L.faults link.new) }
+    ensures opened { OnOk result (IsTrue L.tells → IsOpenTo room.new.peer (L.state link.new)) }
+    ensures tired { room.new.rests ≡ room.old.rests }
     ensures answered { IsTrue L.tells → (before : List Exchange)
         → KeepsAnswers before (L.state link.old) (L.state link.new) }
     ensures link { IfErr result (CountsLinkLoss (L.faults link.old) (L.faults link.new)) }
@@ -164,8 +177,9 @@ fn ask<L: Links>(alloc: Global, link: &mut L, inbox: &mut Inbox, hop: &Moved) ->
         last: 0,
         total: None,
     };
-    send_request(alloc, link, hop.url.as_str(), hop.status, &asked)?;
-    receive_head(alloc, link, inbox)
+    let peer = send_request(alloc, link, hop.url.as_str(), hop.status, &asked)?;
+    room.peer = Some(peer);
+    receive_head(alloc, link, &mut room.inbox)
 }
 
 // Where the head says that the resource is.
@@ -191,7 +205,8 @@ fn next_hop(alloc: Global, url: &str, head: &Head) -> Result<Moved, Loss>
     }
 }
 
-/// The length of a resource, by asking for its first byte, wherever it is moved to.
+/// The length of a resource, by asking for its first byte, wherever it is moved to. Each request goes out on a connection
+/// of its own; the last one is kept for a chain with this room, where its reply is read whole.
 pub fn probe<L: Links>(
     alloc: Global,
     link: &mut L,
@@ -199,7 +214,8 @@ pub fn probe<L: Links>(
     room: &mut ChainRoom,
 ) -> Result<u64, Loss>
     ensures probes { IsTrue L.tells
-        → (used : List Exchange) × Gains (L.state link.old).exchanges (L.state link.new).exchanges used
+        → (used : List Exchange)
+        × Gains (L.state link.old).exchanges (L.state link.new).exchanges used
         × MatchResult result
         (λ total. Probed url.now used (Told total))
         (TellsProbeLoss url.now used (L.faults link.new)) }
@@ -207,21 +223,25 @@ pub fn probe<L: Links>(
         → KeepsAnswers before (L.state link.old) (L.state link.new) }
     ensures link { IfErr result (CountsLinkLoss (L.faults link.old) (L.faults link.new)) }
     ensures known { IfErr result IsKnown }
-    ensures closed { OnOk result (IsTrue L.tells → (L.state link.new).listens ≡ false) }
+    // The connection is kept only behind a reply that was read whole, and else the link is closed.
+    ensures rests { IsTrue L.tells → RestsOn room.new (L.state link.new) }
+    ensures whole { IsTrue L.tells → RestsWhole room.new (L.state link.new).exchanges }
+    ensures closed { OnOk result (IsTrue L.tells → LetsGo room.new (L.state link.new)) }
     // A URL that is no `http` URL is refused without a call of the link.
     ensures untouched { (IsUsable url.now → ⊥) → link.new ≡ link.old }
     ensures later { L.faults link.old ≤ L.faults link.new }
 {
     final_heads_are_one_and_stay();
+    room.rests = false;
     let Ok(url) = Text::of(alloc, url) else {
         return Err(Loss::NoMemory);
     };
     let mut hop = Moved { url, status: 0 };
     let mut redirects = 0;
     'turns: loop {
-        let head = ask(alloc, link, &mut room.inbox, &hop)?;
+        let head = ask(alloc, link, room, &hop)?;
         if let Some(total) = told_length(&head)? {
-            link.hang_up();
+            let_go(link, room, &head);
             return Ok(total);
         }
         if redirects >= REDIRECT_LIMIT {

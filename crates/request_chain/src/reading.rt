@@ -142,7 +142,8 @@ impl Chain {
         // The connection may take another request only where the reply was read whole, and nothing more.
         ensures whole { self.new.room.rests ≡ true
             → (parts : List JobPart) (used : List Exchange) (bytes : List ℕ)
-            → (reading : IsReadingContent parts used self.old.course self.old.room.inbox bytes content)
+            → (reading : IsReadingContent parts used self.old.course self.old.room.inbox bytes
+            content)
             → IsReadWhole (asked_of reading.sent.part) reading.sent.newest.received }
         ensures len { vec_len out.new ≤ vec_len out.old + room }
         ensures capacity { vec_capacity out.old ≤ vec_capacity out.new }

@@ -28,12 +28,14 @@ impl Chain {
         ensures receives { IsTrue L.tells → HearsMore self.old (L.state link.old) result
             self.new (L.state link.new) (L.faults link.new) }
         ensures course { self.new.course ≡ self.old.course }
-        ensures sent { result ≡ Ok true → IsHeardAt self.new.stage × (self.new.stage ≢ Stage.Asking) }
+        ensures sent { result ≡ Ok true → IsHeardAt self.new.stage
+            × (self.new.stage ≢ Stage.Asking) }
         ensures vain { result ≡ Ok false → (self.new.stage ≡ Stage.Asking)
             × (self.new.taken ≡ self.old.taken) × (weight_of self.new ≤ 2) }
         ensures tired { self.new.room.rests ≡ false }
         ensures peer { self.new.room.peer ≡ self.old.room.peer }
-        ensures taken { result ≡ Ok true → self.new.taken ≡ self.old.taken + length self.new.room.inbox }
+        ensures taken { result ≡ Ok true
+            → self.new.taken ≡ self.old.taken + length self.new.room.inbox }
         ensures some { result ≡ Ok true → 0 < length self.new.room.inbox }
         ensures small { OnOk result (weight_of self.new ≤ 6 * length self.new.room.inbox + 2) }
         ensures few { self.new.taken ≤ allow }

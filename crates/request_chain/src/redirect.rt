@@ -11,7 +11,8 @@ use url::{ParseError, Url};
 
 /// The reference, joined to the URL.
 fn join(alloc: Global, base: &Url, reference: &str) -> Result<Option<Text>, NoMemory>
-    ensures { IfOk result (λ joined. joined ≡ location_text (parse_url (Some base.now) reference.now)) }
+    ensures { IfOk result
+        (λ joined. joined ≡ location_text (parse_url (Some base.now) reference.now)) }
 {
     match base.join(reference) {
         Ok(joined) => Ok(Some(Text::of(alloc, joined.as_str())?)),

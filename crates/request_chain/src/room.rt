@@ -27,12 +27,15 @@ pub struct ChainRoom {
 }
 
 impl ChainRoom {
-    ghost use Rattle.std.specs.Prelude.{IfOk};
+    ghost use Rattle.std.specs.Prelude.{List, IfOk};
     ghost use Rattle.link_source.specs.Link.{LinkState};
-    ghost use Rattle.request_chain.specs.Rests.{RestsOn};
+    ghost use Rattle.link_source.specs.Exchanges.{Exchange};
+    ghost use Rattle.request_chain.specs.Rests.{RestsOn, RestsWhole};
 
     pub fn new(alloc: Global) -> Result<Self, NoMemory>
-        ensures { IfOk result (λ room. (link : LinkState) → RestsOn room link) }
+        ensures rests { IfOk result (λ room. (link : LinkState) → RestsOn room link) }
+        ensures whole { IfOk result
+            (λ room. (exchanges : List Exchange) → RestsWhole room exchanges) }
     {
         Ok(ChainRoom {
             inbox: Inbox::new(alloc)?,
@@ -44,7 +47,8 @@ impl ChainRoom {
 
     /// The room of a chain that begins on a connection of its own.
     pub fn without_connection(self) -> Self
-        ensures { (link : LinkState) → RestsOn result link }
+        ensures rests { (link : LinkState) → RestsOn result link }
+        ensures whole { (exchanges : List Exchange) → RestsWhole result exchanges }
     {
         let mut room = self;
         room.rests = false;

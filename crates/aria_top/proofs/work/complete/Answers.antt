@@ -16,3 +16,6 @@ returns-clause-ends g c told =
 
 pub returns-clause-others : goal.returns-clause-others
 returns-clause-others g c told = others_on c.args.meta.now.layout _ _ _ (c.complete_pieces-progress.ensures.others told) (c.make_last.ensures.others told)
+
+pub complete_pieces-progress-requires-clause-may : goal.complete_pieces-progress-requires-clause-may
+complete_pieces-progress-requires-clause-may g c told = c.in-Ok-new.ensures.may (g.L.Links.state c.args.link.now)

@@ -3,15 +3,12 @@ use Rattle.std.proofs.lemmas.Bool.{lt-leb}
 use Rattle.std.specs.Prelude.{◌⊎◌, None}
 use Rattle.std.proofs.lemmas.Result.{err_from_is_err_and}
 use Rattle.link_source.specs.Endpoint.{IsUsable}
-use Rattle.link_source.specs.Link.{LinkState}
-use Rattle.link_source.specs.Exchanges.{Exchange}
 use Rattle.reply_reader.specs.declared.loss.Loss.TheVariants.{NoMemory}
-use Rattle.request_chain.specs.Chains.{Gains}
 use Rattle.request_chain.specs.Probes.{Told, Lost, At}
 use Rattle.request_chain.specs.Redirects.{moved_to}
 use Rattle.request_chain.specs.Plans.{unusable}
 use Rattle.request_chain.specs.Searches.{SearchLeads}
-use Rattle.request_chain.proofs.AnsweredLemmas.{answered_closed}
+use Rattle.request_chain.proofs.AnsweredLemmas.{answered_few}
 use Rattle.request_chain.proofs.SearchLemmas.{none_of, head_tells, head_moves, found, loss_found, ask_loses, moved_often, moved_on, moved_nowhere}
 use Rattle.request_chain.proofs.probing.probe.Goals as goal
 
@@ -29,25 +26,26 @@ returns-in_err-total-clause-probes g c told =
     let has = c.in_ok-head.ensures.asks told in
     let own = c.in_err-total.ensures.lost in
     let lost = loss_found c.args.url.now c.turns.hop.url c.turns.redirects c.turns.hop.status _ _ _ searched.0 searched.1 searched.2 (g.L.Links.faults c.ask.new.link) _ (Lost c.in_err-total.field-0.0) own.0
-    (head_tells c.turns.hop.url _ _ c.in_ok-head.head has (Lost c.in_err-total.field-0.0) own.1) refl in
+    (head_tells c.turns.hop.url _ _ c.in_ok-head.head has.has (Lost c.in_err-total.field-0.0) own.1) refl in
     (lost.0, lost.1, rw (p.1, p.2) lost.2)
 
 pub returns-in-Some-clause-probes : goal.returns-in-Some-clause-probes
 returns-in-Some-clause-probes g c told =
     let searched = c.turns.invariant.searched told in
-    let has = c.in_ok-head.ensures.asks told in
+    let has = c.let_go.ensures.has told c.turns.hop.url _ (c.in_ok-head.ensures.asks told) in
     let is = rw c.in-Some.is at c.in_ok-total.ensures.length in
-    let came = found c.args.url.now c.turns.hop.url c.turns.redirects c.turns.hop.status _ _ _ searched.0 searched.1 searched.2 (Told c.in-Some.total) (Told c.in-Some.total)
-    (head_tells c.turns.hop.url _ _ c.in_ok-head.head has (Told c.in-Some.total) is) refl in
-    let P : List Exchange → Type 0 = λ streams. Gains (g.L.Links.state c.args.link.now).exchanges streams came.0 in
-    (came.0, subst P (sym (ap (λ (link : LinkState). link.exchanges) (c.hang_up.ensures.closed told))) came.1, came.2)
+    found c.args.url.now c.turns.hop.url c.turns.redirects c.turns.hop.status _ _ _ searched.0 searched.1 searched.2 (Told c.in-Some.total) (Told c.in-Some.total)
+    (head_tells c.turns.hop.url _ _ c.in_ok-head.head has (Told c.in-Some.total) is) refl
+
+pub returns-in-Some-clause-whole : goal.returns-in-Some-clause-whole
+returns-in-Some-clause-whole g c told = c.let_go.ensures.whole told c.turns.hop.url _ (c.in_ok-head.ensures.asks told)
 
 pub returns-then-redirects-ge-REDIRECT_LIMIT-clause-probes : goal.returns-then-redirects-ge-REDIRECT_LIMIT-clause-probes
 returns-then-redirects-ge-REDIRECT_LIMIT-clause-probes g c told =
     let searched = c.turns.invariant.searched told in
     let has = c.in_ok-head.ensures.asks told in
     let none = none_of c.in_ok-total.field-0 c.in_default-2.not-Some in
-    let moves = head_moves c.turns.hop.url _ _ c.in_ok-head.head has (c.in_ok-total.ensures.moved (ap Ok none)) in
+    let moves = head_moves c.turns.hop.url _ _ c.in_ok-head.head has.has (c.in_ok-total.ensures.moved (ap Ok none)) in
     moved_often c.args.url.now c.turns.hop.url c.turns.redirects c.turns.hop.status _ _ _ searched.0 searched.1 searched.2 moves.0 c.in_ok-head.head.status
     c.if-redirects-ge-REDIRECT_LIMIT.true moves.2
 
@@ -57,7 +55,7 @@ returns-in_err-hop-clause-probes g c told =
     let searched = c.turns.invariant.searched told in
     let has = c.in_ok-head.ensures.asks told in
     let none = none_of c.in_ok-total.field-0 c.in_default-2.not-Some in
-    let moves = head_moves c.turns.hop.url _ _ c.in_ok-head.head has (c.in_ok-total.ensures.moved (ap Ok none)) in
+    let moves = head_moves c.turns.hop.url _ _ c.in_ok-head.head has.has (c.in_ok-total.ensures.moved (ap Ok none)) in
     let few = lt-leb 20 c.turns.redirects c.if-redirects-ge-REDIRECT_LIMIT.false in
     let by = c.in_ok-head.head.status in
     let loss = c.in_err-hop.field-0.0 in
@@ -69,12 +67,13 @@ returns-in_err-hop-clause-probes g c told =
 pub turns-preserved : goal.turns-preserved
 turns-preserved g c = record {
   few = omega (arith, c.if-redirects-ge-REDIRECT_LIMIT.false);
+  tired = c.ask.ensures.tired ∙ c.turns.invariant.tired;
   faults = omega (arith, c.turns.invariant.faults, c.ask.ensures.later);
   searched = λ told.
       let searched = c.turns.invariant.searched told in
       let has = c.in_ok-head.ensures.asks told in
       let none = none_of c.in_ok-total.field-0 c.in_default-2.not-Some in
-      let moves = head_moves c.turns.hop.url _ _ c.in_ok-head.head has (c.in_ok-total.ensures.moved (ap Ok none)) in
+      let moves = head_moves c.turns.hop.url _ _ c.in_ok-head.head has.has (c.in_ok-total.ensures.moved (ap Ok none)) in
       let few = lt-leb 20 c.turns.redirects c.if-redirects-ge-REDIRECT_LIMIT.false in
       let led = c.in_ok-hop.ensures.leads moves.0 moves.1 in
       let to = ap (λ url. moved_to url moves.0) (sym c.as_str.ensures) ∙ led.0 in
@@ -92,8 +91,9 @@ returns-in_err-total-clause-answered g c told before old were = c.ask.ensures.an
 
 pub returns-in-Some-clause-answered : goal.returns-in-Some-clause-answered
 returns-in-Some-clause-answered g c told before old were =
-    answered_closed before _ _ (c.hang_up.ensures.closed told) old
-    (c.ask.ensures.answered told before old (c.turns.invariant.answered told before old were))
+    let was = c.turns.invariant.answered told before old were in
+    c.let_go.ensures.answered told c.turns.hop.url _ before (c.in_ok-head.ensures.asks told) (answered_few old before _ was) old
+    (c.ask.ensures.answered told before old was)
 
 pub returns-in_err-head-clause-answered : goal.returns-in_err-head-clause-answered
 returns-in_err-head-clause-answered g c told before old were = c.ask.ensures.answered told before old (c.turns.invariant.answered told before old were)

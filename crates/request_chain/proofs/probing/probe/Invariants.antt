@@ -1,4 +1,4 @@
-use Rattle.std.proofs.Common.{◌≡◌, ◌≤◌, ◌-◌, List, IsTrue}
+use Rattle.std.proofs.Common.{◌≡◌, ◌≤◌, ◌-◌, false, List, IsTrue}
 use Rattle.link_source.specs.Endpoint.{IsUsable}
 use Rattle.link_source.specs.Exchanges.{Exchange}
 use Rattle.request_chain.specs.Answered.{KeepsAnswers}
@@ -10,6 +10,7 @@ use Rattle.request_chain.proofs.probing.probe.Given as goal
 abbrev pub invariant-turns : goal.invariant-turns
 invariant-turns g l = record {
   few : l.redirects ≤ 20;
+  tired : l.room.rests ≡ false;
   faults : g.L.Links.faults l.initial.link ≤ g.L.Links.faults l.link;
   searched : IsTrue g.L.Links.tells → (used : List Exchange) × Gains (g.L.Links.state l.initial.link).exchanges (g.L.Links.state l.link).exchanges used
       × SearchLeads (At l.fn.url 0 0) used (At l.hop.url l.redirects l.hop.status);

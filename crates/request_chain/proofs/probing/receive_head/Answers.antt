@@ -1,4 +1,4 @@
-use Rattle.std.proofs.Common.{◌+◌, [], length, refl, arith}
+use Rattle.std.proofs.Common.{[], refl, ◌∙◌, arith}
 use Rattle.std.proofs.lemmas.Result.{err_from_is_err_and}
 use Rattle.request_chain.proofs.ProbeLemmas.{none_left, read_more, read_whole, read_none, read_room}
 use Rattle.request_chain.proofs.probing.receive_head.Goals as goal
@@ -11,7 +11,8 @@ returns-in_err-count-clause-heads g c told url before opened =
 pub returns-in-Whole-clause-heads : goal.returns-in-Whole-clause-heads
 returns-in-Whole-clause-heads g c told url before opened =
     let awaits = c.in_ok-count.ensures.receives told url before (c.turns.invariant.awaits told url before opened) in
-    read_whole url before _ _ _ _ awaits c.in-Whole.head (length awaits.front + c.in-Whole.used) (c.in-Whole.ensures.whole.2 awaits.front awaits.at)
+    let whole = c.in-Whole.ensures.whole in
+    read_whole url before _ _ _ _ awaits c.in-Whole.head c.in-Whole.used c.read_head.new.self (whole.2 awaits.front awaits.at) whole.0 whole.1
 
 pub turns-preserved : goal.turns-preserved
 turns-preserved g c = record {
@@ -19,6 +20,7 @@ turns-preserved g c = record {
   awaits = λ told url before opened.
       let awaits = c.in_ok-count.ensures.receives told url before (c.turns.invariant.awaits told url before opened) in
       read_more url before _ _ _ _ awaits c.read_head.new.reader ((c.in-More.ensures.more refl).1 awaits.front awaits.at);
+  at = λ told. c.receive.ensures.at told ∙ c.turns.invariant.at told;
   listens = c.receive.ensures.listens;
   answered = λ told url others before opened few old were.
       let awaits = c.turns.invariant.awaits told url others opened in

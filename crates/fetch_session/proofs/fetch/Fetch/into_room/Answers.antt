@@ -1,4 +1,4 @@
 use Rattle.fetch_session.proofs.fetch.Fetch.into_room.Goals as goal
 
-pub returns : goal.returns
-returns c = λ link may. c.room_behind.ensures link may.rests
+pub returns-clause-may : goal.returns-clause-may
+returns-clause-may c link may = c.room_behind.ensures.rests link may.rests

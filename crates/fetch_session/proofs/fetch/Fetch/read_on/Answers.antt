@@ -1,6 +1,8 @@
-use Rattle.std.proofs.Common.{◌≡◌, ◌≤◌, ◌+◌, ◌++◌, length, take, refl, ap, ◌∙◌, arith}
+use Rattle.std.proofs.Common.{◌≡◌, ◌≤◌, ◌+◌, ◌++◌, List, length, take, refl, sym, ap, subst, ◌∙◌, arith}
 use Rattle.std.proofs.Math.Seq.{take-append_seam}
+use Rattle.link_source.specs.Exchanges.{Exchange}
 use Rattle.request_chain.specs.Chains.{received_by}
+use Rattle.request_chain.specs.Rests.{RestsWhole}
 use Rattle.fetch_session.proofs.Stepping.{chain_is, steps_read, steps_lost, steps_at, fails_lost, fails_memory}
 use Rattle.fetch_session.proofs.Taking.{room_few}
 use Rattle.fetch_session.proofs.fetch.Fetch.read_on.Goals as goal
@@ -91,3 +93,29 @@ returns-else-self-eq0-clause-answered g c = λ tells job before used handed is g
     let chain = chain_is c.fetched_bytes_fit_their_parts.ensures.fits c.plan_laws.ensures.follow job used handed self is c.args.room c.requires.some_room c.requires.room c.requires.none_lost in
     c.end_step-in_default.ensures.answered tells before old
     (c.read.ensures.answered tells job.parts before used (handed ++ self.held.items) chain gains old were)
+
+pub returns-in-Ok-clause-whole : goal.returns-in-Ok-clause-whole
+returns-in-Ok-clause-whole g c = λ tells job before used handed is gains were.
+    let self = c.args.self.now in
+    let chain = chain_is c.fetched_bytes_fit_their_parts.ensures.fits c.plan_laws.ensures.follow job used handed self is c.args.room c.requires.some_room c.requires.room c.requires.none_lost in
+    let P : List Exchange → Type 0 = RestsWhole c.read.new.self.room in
+    subst P (sym (c.end_step.ensures.streams tells)) (c.read.ensures.whole tells job.parts before used (handed ++ self.held.items) chain gains were)
+
+pub returns-else-self-eq0-clause-whole : goal.returns-else-self-eq0-clause-whole
+returns-else-self-eq0-clause-whole g c = λ tells job before used handed is gains were.
+    let self = c.args.self.now in
+    let chain = chain_is c.fetched_bytes_fit_their_parts.ensures.fits c.plan_laws.ensures.follow job used handed self is c.args.room c.requires.some_room c.requires.room c.requires.none_lost in
+    let P : List Exchange → Type 0 = RestsWhole c.read.new.self.room in
+    subst P (sym (c.end_step-in_default.ensures.streams tells)) (c.read.ensures.whole tells job.parts before used (handed ++ self.held.items) chain gains were)
+
+pub returns-in-NoMemory-clause-whole : goal.returns-in-NoMemory-clause-whole
+returns-in-NoMemory-clause-whole g c = λ tells job before used handed is gains were.
+    let self = c.args.self.now in
+    let chain = chain_is c.fetched_bytes_fit_their_parts.ensures.fits c.plan_laws.ensures.follow job used handed self is c.args.room c.requires.some_room c.requires.room c.requires.none_lost in
+    c.read.ensures.whole tells job.parts before used (handed ++ self.held.items) chain gains were
+
+pub returns-then-self-eq0-clause-whole : goal.returns-then-self-eq0-clause-whole
+returns-then-self-eq0-clause-whole g c = λ tells job before used handed is gains were.
+    let self = c.args.self.now in
+    let chain = chain_is c.fetched_bytes_fit_their_parts.ensures.fits c.plan_laws.ensures.follow job used handed self is c.args.room c.requires.some_room c.requires.room c.requires.none_lost in
+    c.read.ensures.whole tells job.parts before used (handed ++ self.held.items) chain gains were

@@ -38,3 +38,12 @@ pub returns-clause-answered : goal.returns-clause-answered
 returns-clause-answered g c = λ tells job before used handed is gains.
     c.read_on.ensures.answered tells job before used handed
     (c.refill.ensures.fetch job used handed (same_fetch job used handed c.args.self.now _ (record { plan = refl; end_is = refl; ready = refl; chain = refl; held = refl; lost = refl }) is)) gains
+
+pub returns-then-is_err-clause-whole : goal.returns-then-is_err-clause-whole
+returns-then-is_err-clause-whole g c = λ tells job before used handed is gains were. c.refill.ensures.whole _ were
+
+pub returns-clause-whole : goal.returns-clause-whole
+returns-clause-whole g c = λ tells job before used handed is gains were.
+    c.read_on.ensures.whole tells job before used handed
+    (c.refill.ensures.fetch job used handed (same_fetch job used handed c.args.self.now _ (record { plan = refl; end_is = refl; ready = refl; chain = refl; held = refl; lost = refl }) is)) gains
+    (c.refill.ensures.whole _ were)

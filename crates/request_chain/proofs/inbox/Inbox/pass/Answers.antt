@@ -1,4 +1,4 @@
-use Rattle.std.proofs.Common.{◌≡◌, ◌≤◌, drop, length, sym, ap, subst, ◌∙◌, arith, List, ℕ}
+use Rattle.std.proofs.Common.{◌≤◌, drop, length, sym, ap, subst, ◌∙◌, arith, List, ℕ}
 use Rattle.request_chain.proofs.InboxLemmas.{range_later}
 use Rattle.request_chain.proofs.inbox.Inbox.pass.Goals as goal
 

@@ -1,4 +1,4 @@
-use Rattle.std.proofs.Common.{◌≡◌, ◌++◌, refl, subst, ap}
+use Rattle.std.proofs.Common.{◌++◌, refl, subst, ap}
 use Rattle.reply_reader.specs.Heads.{HasNoFinalHead}
 use Rattle.request_chain.proofs.inbox.Inbox.read_head.Goals as goal
 
