@@ -9,7 +9,7 @@ type Case = (
     &'static [(&'static str, &'static str)],
 );
 
-// Three downloads, one at a time: the first is paused, goes on waiting, and is moved behind the third.
+// Three downloads, one at a time: the first is paused, goes on waiting, and is moved behind the third, which is active next.
 const QUEUED: Case = (
     &[("max-concurrent-downloads", "1")],
     &[
@@ -22,9 +22,69 @@ const QUEUED: Case = (
         ("move 0", "at 1; w0 a0 w0"),
         ("pause 0", "done; p0 a0 w0"),
         ("pause 0", "WrongStatus(Paused); p0 a0 w0"),
-        ("remove 9", "done; p0 r0 a0"),
-        ("forget 9", "done; p0 -0 a0"),
-        ("forget 9", "NotFound; p0 -0 a0"),
+        ("unpause 0", "done; w0 a0 w0"),
+        ("remove 9", "done; w0 r0 a0"),
+        ("forget 9", "done; w0 -0 a0"),
+        ("forget 9", "NotFound; w0 -0 a0"),
+    ],
+);
+
+// One that is paused and goes on keeps its place before the third.
+const IN_FRONT: Case = (
+    &[("max-concurrent-downloads", "1")],
+    &[
+        ("uri http://m.test/a", "done; a0"),
+        ("uri http://m.test/b", "done; a0 w0"),
+        ("uri http://m.test/c", "done; a0 w0 w0"),
+        ("pause 0", "done; p0 a0 w0"),
+        ("unpause 0", "done; w0 a0 w0"),
+        ("remove 9", "done; a0 r0 w0"),
+    ],
+);
+
+// One mirror gives the only piece wrong, as often as it has tries.
+const WRONG: Case = (
+    &[],
+    &[
+        ("lone a 5 16384", "done; a0"),
+        ("open 0", "true; a0"),
+        ("take 0", "claim 0: 0+1 at 0; a0"),
+        ("land 0 0 1", "1; a0"),
+        ("wrong 0", "piece 0 wrong; a0"),
+        ("take 0", "claim 1: 0+1 at 0; a0"),
+        ("land 1 0 1", "1; a0"),
+        ("wrong 0", "piece 0 wrong; a0"),
+        ("take 0", "claim 2: 0+1 at 0; a0"),
+        ("land 2 0 1", "1; a0"),
+        ("wrong 0", "piece 0 wrong; a0"),
+        ("take 0", "claim 3: 0+1 at 0; a0"),
+        ("land 3 0 1", "1; a0"),
+        ("wrong 0", "piece 0 wrong; a0"),
+        ("die 0 0", "alive; a0"),
+        ("take 0", "claim 4: 0+1 at 0; a0"),
+        ("land 4 0 1", "1; a0"),
+        ("wrong 0", "piece 0 wrong; a0"),
+        ("take 0", "idle; a0"),
+        ("die 0 0", "dead of 32; f0"),
+        ("die 0 0", "alive; f0"),
+    ],
+);
+
+// A mirror that gave one piece wrong isn't asked for it again, and the other is.
+const BLAMED: Case = (
+    &[],
+    &[
+        ("torrent p 32768 16384", "done; a0"),
+        ("open 0", "true; a0"),
+        ("take 0", "claim 0: 0+2 at 0; a0"),
+        ("land 0 0 2", "2; a2"),
+        ("wrong 0", "piece 0 wrong; a1"),
+        ("take 0", "piece 1 right; a1"),
+        ("complete 0", "false; a1"),
+        ("take 0", "claim 1: 0+1 at 1; a1"),
+        ("land 1 0 1", "1; a2"),
+        ("take 0", "piece 0 right; a2"),
+        ("complete 0", "true; c2"),
     ],
 );
 
@@ -47,8 +107,37 @@ const MIXED: Case = (
         ("take 0", "claim 2: 0+2 at 0; a0"),
         ("take 1", "idle; a0"),
         ("land 2 0 2", "2; a2"),
+        ("complete 0", "false; a2"),
         ("take 0", "piece 0 right; a2"),
         ("take 0", "idle; a2"),
+        ("complete 0", "true; c2"),
+        ("complete 0", "false; c2"),
+        ("fail 0", "false; c2"),
+    ],
+);
+
+// What a claim of a sole piece gave goes, where the claim ends before the piece is whole.
+const SOLE: Case = (
+    &[("split", "2"), ("max-tries", "2")],
+    &[
+        ("torrent p 32768 32768", "done; a0"),
+        ("open 0", "true; a0"),
+        ("take 0", "claim 0: 0+2 at 0; a0"),
+        ("take 1", "claim 1: 1+1 of 0 at 1; a0"),
+        ("land 0 0 1", "1; a1"),
+        ("land 1 1 1", "1; a2"),
+        ("wrong 0", "piece 0 wrong; a0"),
+        ("take 0", "claim 2: 0+2 at 0; a0"),
+        ("land 2 0 1", "1; a1"),
+        ("pause 0", "done; p0"),
+        ("unpause 0", "done; a0"),
+        ("take 0", "claim 3: 0+2 at 0; a0"),
+        ("land 3 1 1", "1; a1"),
+        ("lose 3", "true; a0"),
+        ("take 0", "claim 4: 0+2 at 1; a0"),
+        ("land 4 0 2", "2; a2"),
+        ("wrong 0", "piece 0 wrong; a0"),
+        ("take 0", "claim 5: 0+2 at 0; a0"),
     ],
 );
 
@@ -84,8 +173,51 @@ const PAUSED: Case = (
         ("land 0 1 1", "0; a1"),
         ("take 0", "piece 0 right; a1"),
         ("take 0", "claim 1: 1+2 at 0; a1"),
+        ("finished", "false; a1"),
         ("shutdown 0", "done; a1"),
         ("land 1 1 1", "0; a1"),
+        ("finished", "true; a1"),
+    ],
+);
+
+// No claim stands once the run stopped, and what it gave stays.
+const STOPPED: Case = (
+    &[],
+    &[
+        ("torrent p 49152 16384", "done; a0"),
+        ("open 0", "true; a0"),
+        ("take 0", "claim 0: 0+3 at 0; a0"),
+        ("land 0 0 1", "1; a1"),
+        ("save 0", "true; a1"),
+        ("stop", "true; a1"),
+        ("stands 0", "false; a1"),
+        ("land 0 1 1", "0; a1"),
+        ("finished", "true; a1"),
+        ("stop", "false; a1"),
+    ],
+);
+
+// What a save lists is what was there.
+const SAVED: Case = (
+    &[],
+    &[
+        ("torrent p 32768 32768", "done; a0"),
+        ("save 0", "false; a0"),
+        ("unsaved 0", "false; a0"),
+        ("open 0 1", "true; a1"),
+        ("unsaved 0", "false; a1"),
+        ("take 0", "claim 0: 0+1 at 0; a1"),
+        ("land 0 0 1", "1; a2"),
+        ("unsaved 0", "true; a2"),
+        ("save 0", "true; a2"),
+        ("unsaved 0", "false; a2"),
+        ("pause 0", "done; p2"),
+        ("save 0", "true; p2"),
+        ("unpause 0", "done; a2"),
+        ("take 0", "piece 0 right; a2"),
+        ("unsaved 0", "true; a2"),
+        ("remove 0", "done; r2"),
+        ("save 0", "false; r2"),
     ],
 );
 
@@ -97,6 +229,42 @@ const RESUMED: Case = (
         ("open 0 0", "true; a0"),
         ("take 0", "piece 0 right; a0"),
         ("take 0", "idle; a0"),
+        ("complete 0", "true; c0"),
+    ],
+);
+
+// One worker compares a piece at a time; a pause takes it from all.
+const COMPARED: Case = (
+    &[],
+    &[
+        ("torrent p 16384 16384", "done; a0"),
+        ("open 0", "true; a0"),
+        ("take 0", "claim 0: 0+1 at 0; a0"),
+        ("land 0 0 1", "1; a1"),
+        ("hand 0", "piece 0; a1"),
+        ("hand 1", "idle; a1"),
+        ("pause 0", "done; p1"),
+        ("unpause 0", "done; a1"),
+        ("hand 1", "piece 0; a1"),
+        ("seal 0 0", "piece 0 right; a1"),
+        ("complete 0", "true; c1"),
+        ("seal 0 0", "void; c1"),
+    ],
+);
+
+// The second of two files is selected, and it alone is fetched.
+const SELECTED: Case = (
+    &[("select-file", "2")],
+    &[
+        ("files n", "done; a0"),
+        ("open 0", "true; a0"),
+        ("take 0", "claim 0: 1+1 at 0; a0"),
+        ("take 1", "idle; a0"),
+        ("land 0 1 1", "1; a1"),
+        ("complete 0", "false; a1"),
+        ("take 0", "piece 1 right; a1"),
+        ("take 0", "idle; a1"),
+        ("complete 0", "true; c1"),
     ],
 );
 
@@ -114,6 +282,88 @@ const PROBED: Case = (
         ("take 1", "claim 1: 0+2 at 0; a0"),
         ("lose 1", "true; a0"),
         ("take 1", "idle; a0"),
+        ("die 0 0", "dead of 3; f0"),
+    ],
+);
+
+// A bucket of 16,384 bytes a second, and then of 32,768. While it is empty, blocks are held and a probe isn't.
+const THROTTLED: Case = (
+    &[("max-download-limit", "16K")],
+    &[
+        ("torrent p 1048576 1048576", "done; a0"),
+        ("open 0", "true; a0"),
+        ("take 0", "claim 0: 0+64 at 0; a0"),
+        ("allow 0 20000", "go 16384; a0"),
+        ("allow 0 1", "hold 1; a0"),
+        ("take 1", "held 1; a0"),
+        ("uri http://o.test/a", "done; a0 a0"),
+        ("take 1", "probe 1 at 0; a0 a0"),
+        ("take 2", "held 1; a0 a0"),
+        ("pass 500", "; a0 a0"),
+        ("allow 0 20000", "go 8192; a0 a0"),
+        ("allow 0 1", "hold 1; a0 a0"),
+        ("limit 0 32768", "done; a0 a0"),
+        ("allow 0 1", "hold 1; a0 a0"),
+        ("pass 500", "; a0 a0"),
+        ("allow 0 40000", "go 16384; a0 a0"),
+        ("pass 1500", "; a0 a0"),
+        ("allow 0 40000", "go 32768; a0 a0"),
+        ("lose 0", "true; a0 a0"),
+        ("allow 0 1", "void; a0 a0"),
+    ],
+);
+
+// The overall bucket is of all downloads: what one took, another lacks. The first that is active goes first.
+const SHARED: Case = (
+    &[("max-overall-download-limit", "16K"), ("split", "1")],
+    &[
+        ("torrent p 49152 16384", "done; a0"),
+        ("torrent q 81920 16384", "done; a0 a0"),
+        ("open 9", "true; a0 a0"),
+        ("take 0", "claim 0: 0+5 at 0; a0 a0"),
+        ("open 0", "true; a0 a0"),
+        ("take 1", "claim 1: 0+3 at 0; a0 a0"),
+        ("lose 0", "true; a0 a0"),
+        ("allow 1 16384", "go 16384; a0 a0"),
+        ("take 0", "held 1; a0 a0"),
+        ("pass 1", "; a0 a0"),
+        ("take 0", "claim 2: 0+5 at 1; a0 a0"),
+        ("allow 2 100", "go 16; a0 a0"),
+        ("allow 1 1", "hold 1; a0 a0"),
+    ],
+);
+
+// A download that fails stops, and the next one becomes active.
+const FAILED: Case = (
+    &[("max-concurrent-downloads", "1")],
+    &[
+        ("torrent p 16384 16384", "done; a0"),
+        ("torrent q 16384 16384", "done; a0 w0"),
+        ("open 0", "true; a0 w0"),
+        ("take 0", "claim 0: 0+1 at 0; a0 w0"),
+        ("fail 0", "true; f0 a0"),
+        ("fail 0", "false; f0 a0"),
+        ("stands 0", "false; f0 a0"),
+        ("land 0 0 1", "0; f0 a0"),
+        ("save 0", "false; f0 a0"),
+        ("pause 0", "WrongStatus(Failed); f0 a0"),
+        ("fail 9", "true; f0 f0"),
+        ("finished", "true; f0 f0"),
+    ],
+);
+
+// Of two that write the same, the one that is opened later ends.
+const TWINS: Case = (
+    &[],
+    &[
+        ("torrent a 16384 16384", "done; a0"),
+        ("torrent a 16384 16384", "done; a0 a0"),
+        ("end", "no clash; a0 a0"),
+        ("open 0", "true; a0 a0"),
+        ("end", "same hash as 1; a0 f0"),
+        ("end", "no clash; a0 f0"),
+        ("torrent a 32768 16384", "done; a0 f0 a0"),
+        ("end", "same file as 1; a0 f0 f0"),
     ],
 );
 
@@ -139,10 +389,15 @@ const CLASHING: Case = (
     ],
 );
 
+const CASES: [Case; 19] = [
+    QUEUED, IN_FRONT, WRONG, BLAMED, MIXED, SOLE, STOLEN, PAUSED, STOPPED, SAVED, RESUMED,
+    COMPARED, SELECTED, PROBED, THROTTLED, SHARED, FAILED, TWINS, CLASHING,
+];
+
 #[test]
 fn histories(rt: HostRuntime) -> Result<(), Fail> {
     let alloc = rt.alloc();
-    for (values, lines) in [QUEUED, MIXED, STOLEN, PAUSED, RESUMED, PROBED, CLASHING] {
+    for (values, lines) in CASES {
         let mut rig = Rig::new(alloc, options(alloc, values)?)?;
         for (line, want) in lines {
             assert_eq!(rt; told(alloc, &mut rig, line)?.as_str(), *want);

@@ -1,12 +1,14 @@
 //! Worked histories of a run through the machine, and random steps beside a plain program.
 #![tactic(auto)]
 
+mod ends;
 #[cfg(test)]
 mod histories;
 #[cfg(test)]
 mod lines;
 #[cfg(test)]
 mod plain;
+mod rates;
 mod rig;
 #[cfg(test)]
 mod steps;

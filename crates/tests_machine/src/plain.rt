@@ -1,23 +1,42 @@
-// A plain program that keeps the statuses, blocks and claims of a run by itself, as slowly as it likes. Each download has three
-// pieces of four blocks.
+// A plain program that keeps the statuses, blocks, claims, marks and saves of a run by itself, as slowly as it likes. Each
+// download has three pieces of four blocks, and two mirrors at two hosts.
 use dl_kinds::{Gid, Run, Status};
 use std::alloc::{AllocError, Global};
+
+// The values of options with which it is run.
+const CLAIMS: usize = 3;
+
+const CLAIMS_OF_HOST: usize = 2;
+
+// What is known of a block: whether it is there, and from which mirror.
+type Blocks = [Option<u16>; 12];
 
 #[derive(Drop)]
 struct PlainDownload {
     gid: Gid,
     status: Status,
-    // Of two that wait, the one of the lesser rank stands nearer to the front.
+    // Of two that wait, the one of the lesser rank stands nearer to the front; of two that are active, it became so earlier.
     rank: u64,
     opened: bool,
-    landed: [bool; 12],
+    blocks: Blocks,
     verified: [bool; 3],
+    // Whether a piece was found wrong last.
+    wrong: [bool; 3],
+    sole: [bool; 3],
+    // Of each mirror, for each piece, up to so many.
+    marks: [[u8; 3]; 2],
+    max_tries: u8,
+    saved_blocks: [bool; 12],
+    saved_pieces: [bool; 3],
 }
 
 #[derive(Clone, Copy)]
 struct PlainClaim {
     gid: Gid,
+    mirror: u16,
     run: Run,
+    // The blocks that no claim brought since it was made.
+    open: [bool; 12],
     stands: bool,
 }
 
@@ -27,8 +46,11 @@ pub struct Plain {
     downloads: Vec<PlainDownload>,
     claims: Vec<PlainClaim>,
     limit: usize,
+    max_tries: u8,
     front: u64,
     back: u64,
+    activated: u64,
+    stopped: bool,
 }
 
 fn is_in(block: usize, run: Run) -> bool {
@@ -36,28 +58,168 @@ fn is_in(block: usize, run: Run) -> bool {
     first <= block && block - first < run.count as usize
 }
 
-// Whether the piece of these blocks is full.
-fn is_full(blocks: &[bool], piece: usize) -> bool {
-    blocks
-        .iter()
-        .enumerate()
-        .all(|(block, landed)| block / 4 != piece || *landed)
+fn at(row: &[bool], place: usize) -> bool {
+    match row.get(place) {
+        Some(value) => *value,
+        None => false,
+    }
+}
+
+fn put(row: &mut [bool], place: usize, value: bool) {
+    if let Some(old) = row.get_mut(place) {
+        *old = value;
+    }
+}
+
+impl PlainDownload {
+    fn new(gid: Gid, rank: u64, max_tries: u8) -> PlainDownload {
+        PlainDownload {
+            gid,
+            status: Status::Waiting,
+            rank,
+            opened: false,
+            blocks: [None; 12],
+            verified: [false; 3],
+            wrong: [false; 3],
+            sole: [false; 3],
+            marks: [[0; 3]; 2],
+            max_tries,
+            saved_blocks: [false; 12],
+            saved_pieces: [false; 3],
+        }
+    }
+
+    fn goes_on(&self) -> bool {
+        match self.status {
+            Status::Active | Status::Waiting | Status::Paused => true,
+            _ => false,
+        }
+    }
+
+    fn is_full(&self, piece: usize) -> bool {
+        self.blocks
+            .iter()
+            .enumerate()
+            .all(|(block, from)| block / 4 != piece || from.is_some())
+    }
+
+    // The first full piece that isn't verified.
+    fn next_full(&self) -> Option<usize> {
+        (0..3).find(|piece| !at(&self.verified, *piece) && self.is_full(*piece))
+    }
+
+    // The blocks of a piece go.
+    fn clear(&mut self, piece: usize) {
+        for (block, from) in self.blocks.iter_mut().enumerate() {
+            if block / 4 == piece {
+                *from = None;
+            }
+        }
+    }
+
+    // The only mirror that gave blocks of a piece, where there is one.
+    fn giver(&self, piece: usize) -> Option<u16> {
+        let mut giver = None;
+        for (block, from) in self.blocks.iter().enumerate() {
+            if block / 4 == piece {
+                match (giver, *from) {
+                    (None, Some(mirror)) => giver = Some(mirror),
+                    (Some(mirror), Some(other)) if mirror == other => {}
+                    _ => return None,
+                }
+            }
+        }
+        giver
+    }
+
+    fn tries(&self, mirror: u16, piece: usize) -> u8 {
+        match self.marks.get(mirror as usize) {
+            Some(marks) => match marks.get(piece) {
+                Some(count) => *count,
+                None => self.max_tries,
+            },
+            None => self.max_tries,
+        }
+    }
+
+    fn mark(&mut self, mirror: u16, piece: usize) {
+        let most = self.max_tries;
+        if let Some(marks) = self.marks.get_mut(mirror as usize)
+            && let Some(count) = marks.get_mut(piece)
+        {
+            *count = count.saturating_add(1).min(most);
+        }
+    }
+
+    // Whether a mirror may be asked for all pieces of a run.
+    fn is_eligible(&self, mirror: u16, run: Run) -> bool {
+        (0..12).all(|block| !is_in(block, run) || self.tries(mirror, block / 4) < self.max_tries)
+    }
+
+    fn is_listed(&self, block: usize) -> bool {
+        let piece = block / 4;
+        match self.blocks.get(block) {
+            Some(Some(_)) => {
+                at(&self.verified, piece) || !at(&self.sole, piece) && !at(&self.wrong, piece)
+            }
+            _ => false,
+        }
+    }
+
+    fn is_unsaved(&self) -> bool {
+        self.opened
+            && ((0..12).any(|block| self.is_listed(block) != at(&self.saved_blocks, block))
+                || (0..3).any(|piece| at(&self.verified, piece) != at(&self.saved_pieces, piece)))
+    }
+
+    fn save(&mut self) {
+        for block in 0..12 {
+            let listed = self.is_listed(block);
+            put(&mut self.saved_blocks, block, listed);
+        }
+        self.saved_pieces = self.verified;
+    }
+
+    // Whether the last save lists a block of a piece.
+    fn lists(&self, piece: usize) -> bool {
+        (0..12).any(|block| block / 4 == piece && at(&self.saved_blocks, block))
+    }
+}
+
+impl PlainClaim {
+    fn first_piece(&self) -> usize {
+        for block in 0..12 {
+            if at(&self.open, block) {
+                return block / 4;
+            }
+        }
+        0
+    }
 }
 
 impl Plain {
-    pub fn new(alloc: Global, limit: usize) -> Plain {
+    pub fn new(alloc: Global, limit: usize, max_tries: u8) -> Plain {
         Plain {
             downloads: Vec::new(alloc),
             claims: Vec::new(alloc),
             limit,
+            max_tries,
             front: 1_000_000,
             back: 1_000_000,
+            activated: 0,
+            stopped: false,
         }
     }
 
     fn find(&self, gid: Gid) -> Option<&PlainDownload> {
         self.downloads
             .iter()
+            .find(|download| download.gid.0 == gid.0)
+    }
+
+    fn find_mut(&mut self, gid: Gid) -> Option<&mut PlainDownload> {
+        self.downloads
+            .iter_mut()
             .find(|download| download.gid.0 == gid.0)
     }
 
@@ -70,7 +232,27 @@ impl Plain {
 
     pub fn landed_blocks(&self, gid: Gid) -> usize {
         match self.find(gid) {
-            Some(download) => download.landed.iter().filter(|landed| **landed).count(),
+            Some(download) => download.blocks.iter().filter(|from| from.is_some()).count(),
+            None => 0,
+        }
+    }
+
+    pub fn is_unsaved(&self, gid: Gid) -> bool {
+        match self.find(gid) {
+            Some(download) => download.is_unsaved(),
+            None => false,
+        }
+    }
+
+    /// The number of a claim by its place from the newest, or one that no claim has yet.
+    pub fn any_claim(&self, place: u64) -> u64 {
+        (self.claims.len() as u64).saturating_sub(place)
+    }
+
+    /// The first block of a claim's run.
+    pub fn first_of(&self, id: u64) -> u32 {
+        match self.claims.get(id as usize) {
+            Some(claim) => claim.run.first,
             None => 0,
         }
     }
@@ -82,13 +264,20 @@ impl Plain {
         }
     }
 
+    /// Whether it stopped, or no download is active or waits for its turn.
+    pub fn is_finished(&self) -> bool {
+        self.stopped
+            || self.downloads.iter().all(|download| match download.status {
+                Status::Active | Status::Waiting => false,
+                _ => true,
+            })
+    }
+
     // A download gets a status, and at the front or the back a rank.
     fn set(&mut self, gid: Gid, status: Status, rank: u64) {
-        for download in self.downloads.iter_mut() {
-            if download.gid.0 == gid.0 {
-                download.status = status;
-                download.rank = rank;
-            }
+        if let Some(download) = self.find_mut(gid) {
+            download.status = status;
+            download.rank = rank;
         }
     }
 
@@ -114,206 +303,356 @@ impl Plain {
         if active < self.limit
             && let Some(gid) = self.next_waiting()
         {
-            self.set(gid, Status::Active, 0);
+            self.activated = self.activated.saturating_add(1);
+            self.set(gid, Status::Active, self.activated);
         }
     }
 
     pub fn add(&mut self, gid: Gid) -> Result<(), AllocError> {
         self.back = self.back.saturating_add(1);
-        self.downloads.push(PlainDownload {
-            gid,
-            status: Status::Waiting,
-            rank: self.back,
-            opened: false,
-            landed: [false; 12],
-            verified: [false; 3],
-        })?;
+        self.downloads
+            .push(PlainDownload::new(gid, self.back, self.max_tries))?;
         self.promote();
         Ok(())
     }
 
+    // A claim ends. What it gave of a sole piece goes, unless it gave it whole.
+    fn end_claim(&mut self, id: usize) {
+        let Some(claim) = self.claims.get(id).copied() else {
+            return;
+        };
+        if !claim.stands {
+            return;
+        }
+        if let Some(claim) = self.claims.get_mut(id) {
+            claim.stands = false;
+        }
+        let piece = claim.first_piece();
+        if let Some(download) = self.find_mut(claim.gid)
+            && at(&download.sole, piece)
+        {
+            download.clear(piece);
+        }
+    }
+
     // The claims of a download end.
     fn halt(&mut self, gid: Gid) {
-        for claim in self.claims.iter_mut() {
-            if claim.gid.0 == gid.0 {
-                claim.stands = false;
+        for id in 0..self.claims.len() {
+            if let Some(claim) = self.claims.get(id)
+                && claim.gid.0 == gid.0
+            {
+                self.end_claim(id);
             }
         }
     }
 
     /// An active download goes to the front of those that wait, and another takes its place; one that waits stays in its place.
     pub fn pause(&mut self, gid: Gid) {
-        match self.find(gid) {
-            Some(
-                PlainDownload {
-                    status: Status::Active,
-                    ..
-                },
-            ) => {
+        let Some(download) = self.find(gid) else {
+            return;
+        };
+        let rank = download.rank;
+        match download.status {
+            Status::Active => {
                 self.halt(gid);
                 self.front = self.front.saturating_sub(1);
                 self.set(gid, Status::Paused, self.front);
                 self.promote();
             }
-            Some(
-                PlainDownload {
-                    status: Status::Waiting,
-                    rank,
-                    ..
-                },
-            ) => {
-                let rank = *rank;
-                self.set(gid, Status::Paused, rank);
-            }
+            Status::Waiting => self.set(gid, Status::Paused, rank),
             _ => {}
         }
     }
 
     pub fn unpause(&mut self, gid: Gid) {
-        if let Some(
-            PlainDownload {
-                status: Status::Paused,
-                rank,
-                ..
-            },
-        ) = self.find(gid)
+        if let Some(download) = self.find(gid)
+            && download.status == Status::Paused
         {
-            let rank = *rank;
+            let rank = download.rank;
             self.set(gid, Status::Waiting, rank);
             self.promote();
         }
     }
 
-    pub fn remove(&mut self, gid: Gid) {
-        match self.status(gid) {
-            Some(Status::Active | Status::Waiting | Status::Paused) => {
+    // A download that goes on ends with this status. Told is whether it did.
+    fn stop_one(&mut self, gid: Gid, status: Status) -> bool {
+        match self.find(gid) {
+            Some(download) if download.goes_on() => {
                 self.halt(gid);
-                self.set(gid, Status::Removed, 0);
+                self.set(gid, status, 0);
                 self.promote();
+                true
             }
-            _ => {}
+            _ => false,
         }
+    }
+
+    pub fn remove(&mut self, gid: Gid) {
+        self.stop_one(gid, Status::Removed);
+    }
+
+    pub fn fail(&mut self, gid: Gid) -> bool {
+        self.stop_one(gid, Status::Failed)
+    }
+
+    /// A download ends for which no mirror has a try left for a piece. Told is whether it did.
+    pub fn die(&mut self, gid: Gid, piece: u32) -> bool {
+        match self.find(gid) {
+            Some(download)
+                if (0..2).all(|mirror| download.tries(mirror, piece as usize)
+                    == download.max_tries) => { self.stop_one(gid, Status::Failed) }
+            _ => false,
+        }
+    }
+
+    /// A download ends whose pieces are all verified. Told is whether it did.
+    pub fn complete(&mut self, gid: Gid) -> bool {
+        match self.find(gid) {
+            Some(download) if download.verified.iter().all(|verified| *verified) => {
+                self.stop_one(gid, Status::Complete)
+            }
+            _ => false,
+        }
+    }
+
+    /// All claims end. Told is whether it wasn't finished.
+    pub fn stop(&mut self) -> bool {
+        if self.is_finished() {
+            return false;
+        }
+        for id in 0..self.claims.len() {
+            self.end_claim(id);
+        }
+        self.stopped = true;
+        true
     }
 
     /// A download is opened, where it is active and wasn't opened before. Told is whether it was.
     pub fn open(&mut self, gid: Gid) -> bool {
-        for download in self.downloads.iter_mut() {
-            if download.gid.0 == gid.0 && download.status == Status::Active && !download.opened {
+        match self.find_mut(gid) {
+            Some(download) if download.status == Status::Active && !download.opened => {
                 download.opened = true;
-                return true;
+                true
             }
+            _ => false,
         }
-        false
+    }
+
+    /// What is there lasts, of a download that is opened and goes on. Told is whether it does.
+    pub fn save(&mut self, gid: Gid) -> bool {
+        match self.find_mut(gid) {
+            Some(download) if download.opened && download.goes_on() => {
+                download.save();
+                true
+            }
+            _ => false,
+        }
+    }
+
+    // The claims of a download that stand, at one mirror or at any.
+    fn standing(&self, gid: Gid, mirror: Option<u16>) -> usize {
+        self.claims
+            .iter()
+            .filter(|claim| claim.stands
+                && claim.gid.0 == gid.0
+                && match mirror {
+                    Some(mirror) => claim.mirror == mirror,
+                    None => true,
+                })
+            .count()
     }
 
     // Whether a block of a download is open in a claim that stands.
     fn is_claimed(&self, gid: Gid, block: usize) -> bool {
         self.claims.iter().any(|claim| claim.stands
             && claim.gid.0 == gid.0
-            && is_in(block, claim.run))
+            && at(&claim.open, block))
     }
 
-    /// Whether these blocks of an opened, active download may be claimed: free ones, or with a victim some of its own.
-    pub fn may_claim(&self, gid: Gid, run: Run, victim: Option<u64>) -> bool {
+    fn is_free(&self, download: &PlainDownload, block: usize) -> bool {
+        match download.blocks.get(block) {
+            Some(None) => !self.is_claimed(download.gid, block),
+            _ => false,
+        }
+    }
+
+    // Whether a mirror may be asked for a run.
+    fn may_ask(&self, download: &PlainDownload, mirror: u16, run: Run) -> bool {
+        download.is_eligible(mirror, run)
+            && self.standing(download.gid, Some(mirror)) < CLAIMS_OF_HOST
+    }
+
+    // Whether a mirror may be asked for a free block. Those of a sole piece are free together.
+    fn is_askable(&self, download: &PlainDownload, block: usize) -> bool {
+        let run = Run {
+            first: block as u32,
+            count: 1,
+        };
+        let piece = block / 4;
+        let free = if at(&download.sole, piece) {
+            (0..12).all(|other| other / 4 != piece || self.is_free(download, other))
+        } else {
+            self.is_free(download, block)
+        };
+        free && (0..2).any(|mirror| self.may_ask(download, mirror, run))
+    }
+
+    fn has_free(&self, download: &PlainDownload) -> bool {
+        self.standing(download.gid, None) < CLAIMS
+            && (0..12).any(|block| self.is_askable(download, block))
+    }
+
+    // Whether a worker of an active download may have something to do, thefts aside.
+    fn has_work(&self, download: &PlainDownload) -> bool {
+        download.status == Status::Active
+            && download.opened
+            && (download.next_full().is_some() || self.has_free(download))
+    }
+
+    /// Whether no download that became active earlier than this one has a full piece or free blocks to give: none at all.
+    pub fn may_be_next(&self, gid: Option<Gid>) -> bool {
+        let rank = match gid {
+            Some(gid) => match self.find(gid) {
+                Some(download) => download.rank,
+                None => 0,
+            },
+            None => u64::MAX,
+        };
+        self.downloads.iter().all(|download| download.rank >= rank || !self.has_work(download))
+    }
+
+    // Whether a claim of these blocks is of one sole piece as a whole, or of none.
+    fn is_of_one_kind(&self, download: &PlainDownload, run: Run) -> bool {
+        let piece = run.first as usize / 4;
+        if at(&download.sole, piece) {
+            return run.first % 4 == 0 && run.count == 4;
+        }
+        (0..12).all(|block| !is_in(block, run) || !at(&download.sole, block / 4))
+    }
+
+    // Whether each block of a run is one to be claimed: a free one, or with a victim one of its own.
+    fn are_due(&self, download: &PlainDownload, run: Run, victim: Option<u64>) -> bool {
+        match victim {
+            Some(id) => match self.claims.get(id as usize) {
+                Some(claim) => claim.stands
+                    && !self.has_free(download)
+                    && (0..12).all(|block| !is_in(block, run) || at(&claim.open, block)),
+                None => false,
+            },
+            None => (0..12).all(|block| !is_in(block, run) || self.is_free(download, block)),
+        }
+    }
+
+    /// Whether a worker may be given these blocks of a download at a mirror.
+    pub fn may_claim(&self, gid: Gid, mirror: u16, run: Run, victim: Option<u64>) -> bool {
         let Some(download) = self.find(gid) else {
             return false;
         };
-        if !download.opened || download.status != Status::Active || run.count == 0 {
-            return false;
-        }
-        for block in 0..download.landed.len() {
-            if is_in(block, run) {
-                let of_victim = match victim {
-                    Some(id) => match self.claims.get(id as usize) {
-                        Some(claim) => claim.stands && is_in(block, claim.run),
-                        None => false,
-                    },
-                    None => !self.is_claimed(gid, block),
-                };
-                if download.landed[block] || !of_victim {
-                    return false;
-                }
-            }
-        }
-        run.first < 12 && run.count <= 12 - run.first
+        let within = run.count > 0 && run.first < 12 && run.count <= 12 - run.first;
+        within
+            && download.opened
+            && download.status == Status::Active
+            && download.next_full().is_none()
+            && self.standing(gid, None) < CLAIMS
+            && self.may_ask(download, mirror, run)
+            && self.is_of_one_kind(download, run)
+            && self.are_due(download, run, victim)
+            && self.may_be_next(Some(gid))
     }
 
-    pub fn claim(&mut self, gid: Gid, run: Run) -> Result<u64, AllocError> {
+    pub fn claim(&mut self, gid: Gid, mirror: u16, run: Run) -> Result<u64, AllocError> {
         let id = self.claims.len() as u64;
+        let mut open = [false; 12];
+        for (block, value) in open.iter_mut().enumerate() {
+            *value = is_in(block, run);
+        }
         self.claims.push(PlainClaim {
             gid,
+            mirror,
             run,
+            open,
             stands: true,
         })?;
         Ok(id)
     }
 
+    // A block came of a mirror: it isn't open in any claim from now on, and a claim that has no other stands no more.
+    fn bring(&mut self, gid: Gid, mirror: u16, block: usize) {
+        if let Some(download) = self.find_mut(gid)
+            && let Some(from) = download.blocks.get_mut(block)
+        {
+            *from = Some(mirror);
+        }
+        for claim in self.claims.iter_mut() {
+            if claim.gid.0 == gid.0 {
+                put(&mut claim.open, block, false);
+                claim.stands = claim.stands && claim.open.iter().any(|open| *open);
+            }
+        }
+    }
+
     /// Blocks of a run come for a claim. Told is how many of them are new.
     pub fn land(&mut self, id: u64, run: Run) -> u32 {
-        let mut new = 0u32;
         let Some(claim) = self.claims.get(id as usize).copied() else {
             return 0;
         };
         if !claim.stands {
             return 0;
         }
-        for download in self.downloads.iter_mut() {
-            if download.gid.0 == claim.gid.0 {
-                for (block, landed) in download.landed.iter_mut().enumerate() {
-                    if is_in(block, run) && is_in(block, claim.run) && !*landed {
-                        *landed = true;
-                        new = new.saturating_add(1);
-                    }
-                }
+        let mut new = 0u32;
+        for block in 0..12 {
+            if is_in(block, run) && at(&claim.open, block) {
+                self.bring(claim.gid, claim.mirror, block);
+                new = new.saturating_add(1);
             }
         }
-        self.sweep(claim.gid);
         new
-    }
-
-    // The claims whose blocks have all landed don't stand any more.
-    fn sweep(&mut self, gid: Gid) {
-        let landed = match self.find(gid) {
-            Some(download) => download.landed,
-            None => [false; 12],
-        };
-        for claim in self.claims.iter_mut() {
-            let run = claim.run;
-            if claim.gid.0 == gid.0
-                && landed
-                    .iter()
-                    .enumerate()
-                    .all(|(block, landed)| *landed || !is_in(block, run))
-            {
-                claim.stands = false;
-            }
-        }
     }
 
     /// A claim fails. Told is whether it stood.
     pub fn lose(&mut self, id: u64) -> bool {
-        match self.claims.get_mut(id as usize) {
-            Some(claim) => {
-                let stood = claim.stands;
-                claim.stands = false;
-                stood
+        let Some(claim) = self.claims.get(id as usize).copied() else {
+            return false;
+        };
+        if claim.stands {
+            self.end_claim(id as usize);
+            if let Some(download) = self.find_mut(claim.gid) {
+                download.mark(claim.mirror, claim.first_piece());
             }
+        }
+        claim.stands
+    }
+
+    /// Whether a save lists a block of a piece.
+    pub fn lists(&self, gid: Gid, piece: u32) -> bool {
+        match self.find(gid) {
+            Some(download) => download.lists(piece as usize),
             None => false,
         }
     }
 
-    /// A full piece of an active download is found right. Told is whether it may be: it is the first that isn't verified.
-    pub fn find_right(&mut self, gid: Gid, piece: u32) -> bool {
-        for download in self.downloads.iter_mut() {
-            if download.gid.0 == gid.0 && download.status == Status::Active {
-                for (place, verified) in download.verified.iter_mut().enumerate() {
-                    if !*verified && is_full(download.landed.as_slice(), place) {
-                        *verified = true;
-                        return place == piece as usize;
-                    }
-                }
-            }
+    /// A full piece is found right or wrong. Told is whether it may be: it is the first that isn't verified, of the first
+    /// download that has work. A wrong one goes, and marks the mirror that gave all of it.
+    pub fn find_piece(&mut self, gid: Gid, piece: u32, right: bool) -> bool {
+        if !self.may_be_next(Some(gid)) {
+            return false;
         }
-        false
+        let piece = piece as usize;
+        let Some(download) = self.find_mut(gid) else {
+            return false;
+        };
+        if download.status != Status::Active || download.next_full() != Some(piece) {
+            return false;
+        }
+        put(&mut download.verified, piece, right);
+        put(&mut download.wrong, piece, !right);
+        if !right {
+            match download.giver(piece) {
+                Some(mirror) => download.mark(mirror, piece),
+                None => put(&mut download.sole, piece, true),
+            }
+            download.clear(piece);
+        }
+        true
     }
 }

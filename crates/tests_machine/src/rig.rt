@@ -1,5 +1,5 @@
 // A run whose steps have no premises: what may not come is left out.
-ghost use Rattle.std.specs.Prelude.{◌≡◌, ◌+◌, ◌<◌, ◌≤◌, ◌^◌, false, true, IfOk, IfSome, length};
+ghost use Rattle.std.specs.Prelude.{◌≡◌, ◌+◌, ◌<◌, ◌≤◌, ◌^◌, false, true, IfOk, IfSome, OnOk, length};
 ghost use Rattle.machine_core.specs.Claiming.{MayBeTaken};
 ghost use Rattle.machine_core.specs.LawfulCalls.{IsLawful};
 ghost use Rattle.machine_core.specs.MachineViews.{IsFindingOf, IsNext};
@@ -8,23 +8,24 @@ ghost use Rattle.machine_core.specs.TurnRooms.{HasTurnMarkRoom};
 ghost use Rattle.machine_core.specs.declared.offers.Offered.TheVariants.{Next};
 ghost use Rattle.piece_table.specs.Progress.{IsStart};
 
+use crate::rates::as_rate;
 use bit_rows::BitRow;
 use control_file::Opened;
 use dl_kinds::{Code, Gid, MAX_MIRRORS, Mark, Moment, Plan, Run, Text, Texts};
 use link_source::is_usable;
 use machine_core::{Applied, Call, HandedPieces, Machine, Offer, Offered, downloads_stay};
 use metainfo::Meta;
-use option_set::{Options, Settings};
+use option_set::{Num, Options, Settings};
 use rate_limits::RateLimits;
 use std::alloc::{AllocError, Global};
 
 /// A run and its latest moment, with the pieces that workers compare and the buckets.
 #[derive(Drop)]
 pub struct Rig {
-    machine: Machine,
-    handed: HandedPieces,
-    limits: RateLimits,
-    now: Moment,
+    pub(crate) machine: Machine,
+    pub(crate) handed: HandedPieces,
+    pub(crate) limits: RateLimits,
+    pub(crate) now: Moment,
     ghost later: { IsLaterThan machine.past now },
 }
 
@@ -50,6 +51,11 @@ pub enum Taken {
     },
     /// One which was found wrong, and cleared.
     Wrong {
+        gid: Gid,
+        piece: u32,
+    },
+    /// One which the worker compares from now on.
+    Handed {
         gid: Gid,
         piece: u32,
     },
@@ -110,12 +116,13 @@ fn rows(alloc: Global, plan: &Plan, landed: &[u32]) -> Result<Opened, AllocError
 }
 
 impl Rig {
-    /// A run in which nothing happened, without limits of speed. Gids are made from 1.
+    /// A run in which nothing happened. Gids are made from 1.
     pub fn new(alloc: Global, options: Options) -> Result<Rig, AllocError> {
+        let rate = as_rate(options.number(Num::MaxOverallDownloadLimit));
         Ok(Rig {
             machine: Machine::new(alloc, 1, options, 0)?,
             handed: HandedPieces::new(alloc),
-            limits: RateLimits::new(alloc, 0, Moment(0)),
+            limits: RateLimits::new(alloc, rate, Moment(0)),
             now: Moment(0),
         })
     }
@@ -129,13 +136,18 @@ impl Rig {
         self.now = Moment(self.now.0.saturating_add(ms));
     }
 
-    /// A call comes. A download that it adds gets a bucket.
+    /// A call comes. A download that it adds gets a bucket, and one that leaves the active list takes its pieces from the
+    /// workers.
     pub fn call(&mut self, alloc: Global, call: Call) -> Result<Applied, AllocError>
         requires { IsLawful call }
     {
         self.limits.reserve(1)?;
         let applied = self.machine.apply_call(alloc, 0, call, self.now)?;
-        self.limits.add(0, self.now);
+        if let Applied::Added { gid } = applied {
+            let rate = self.rate(gid);
+            self.limits.add(rate, self.now);
+        }
+        self.handed.keep_active(&self.machine);
         Ok(applied)
     }
 
@@ -247,18 +259,61 @@ impl Rig {
         }
     }
 
-    /// A worker gets what is offered: a claim is made, and a full piece is found right or wrong.
-    pub fn take(&mut self, alloc: Global, worker: u32, right: bool) -> Result<Taken, AllocError> {
+    // What a worker is offered: nothing, where a download has no bucket.
+    fn next(&mut self) -> Result<Offered, AllocError>
+        ensures taken { IfOk result (MayBeTaken self.new.machine self.new.now) }
+        ensures room { OnOk result (2 ≤ self.new.machine.spare) }
+        ensures marks { OnOk result (HasTurnMarkRoom self.new.machine) }
+        ensures now { self.new.now ≡ self.old.now }
+        ensures handed { self.new.handed ≡ self.old.handed }
+    {
         self.machine.reserve_turn()?;
         let count = self.limits.len();
         if count > 1_000_000 || self.machine.added(count as u32).is_some() {
-            return Ok(Taken::Idle);
+            return Ok(Offered::Idle);
         }
-        match self.machine.offer(&self.handed, &self.limits, self.now)? {
+        self.machine.offer(&self.handed, &self.limits, self.now)
+    }
+
+    /// A worker gets what is offered: a claim is made, and a full piece is found right or wrong.
+    pub fn take(&mut self, alloc: Global, worker: u32, right: bool) -> Result<Taken, AllocError> {
+        match self.next()? {
             Offered::Next { gid, offer } => self.give(alloc, worker, right, gid, offer),
             Offered::Held { ms } => Ok(Taken::Held { ms }),
             Offered::Idle => Ok(Taken::Idle),
         }
+    }
+
+    /// A worker gets what is offered, a full piece to compare it.
+    pub fn hand(&mut self, alloc: Global, worker: u32) -> Result<Taken, AllocError> {
+        self.handed.reserve(1)?;
+        match self.next()? {
+            Offered::Next {
+                gid,
+                offer: Offer::Whole { piece },
+            } => {
+                self.handed.hand_out(gid, piece);
+                Ok(Taken::Handed { gid, piece })
+            }
+            Offered::Next { gid, offer } => self.give(alloc, worker, true, gid, offer),
+            Offered::Held { ms } => Ok(Taken::Held { ms }),
+            Offered::Idle => Ok(Taken::Idle),
+        }
+    }
+
+    /// A worker brings a piece back that it compared, and gets what is offered then. None comes where no worker has it.
+    pub fn seal(
+        &mut self,
+        alloc: Global,
+        gid: Gid,
+        piece: u32,
+        right: bool,
+    ) -> Result<Option<Taken>, AllocError> {
+        if !self.handed.is_out(gid, piece) {
+            return Ok(None);
+        }
+        self.handed.hand_back(gid, piece);
+        Ok(Some(self.take(alloc, 0, right)?))
     }
 
     // The first run of those blocks that are open in a claim lands. Told is how many these are.

@@ -63,12 +63,12 @@ fn call(
         return Ok(true);
     };
     let key = key_of(gid);
-    match random.below(8) {
-        0..3 => {
+    match random.below(20) {
+        0..9 => {
             rig.call(alloc, Call::Pause { key })?;
             plain.pause(gid);
         }
-        3..7 => {
+        9..19 => {
             rig.call(alloc, Call::Unpause { key })?;
             plain.unpause(gid);
         }
@@ -87,18 +87,56 @@ fn take(
     rig: &mut Rig,
     plain: &mut Plain,
 ) -> Result<bool, Fail> {
-    match rig.take(alloc, random.below(4) as u32, true)? {
+    let right = random.below(2) > 0;
+    match rig.take(alloc, random.below(4) as u32, right)? {
         Taken::Claim {
             id,
             gid,
+            mirror,
             run,
             victim,
-            ..
-        } => Ok(plain.may_claim(gid, run, victim) && plain.claim(gid, run)? == id),
-        Taken::Right { gid, piece } => Ok(plain.find_right(gid, piece)),
-        Taken::Idle => Ok(true),
+        } => Ok(plain.may_claim(gid, mirror, run, victim) && plain.claim(gid, mirror, run)? == id),
+        Taken::Right { gid, piece } => {
+            Ok((right || plain.lists(gid, piece)) && plain.find_piece(gid, piece, true))
+        }
+        Taken::Wrong { gid, piece } => {
+            Ok(!right && !plain.lists(gid, piece) && plain.find_piece(gid, piece, false))
+        }
+        Taken::Idle => Ok(plain.may_be_next(None)),
         _ => Ok(false),
     }
+}
+
+// A download is opened or saved, or ends.
+fn of_download(
+    alloc: Global,
+    random: &mut Random,
+    rig: &mut Rig,
+    plain: &mut Plain,
+) -> Result<bool, Fail> {
+    let Some(gid) = any_gid(random, rig) else {
+        return Ok(true);
+    };
+    match random.below(40) {
+        0 => Ok(rig.fail(gid)? == plain.fail(gid)),
+        1..6 => {
+            let piece = random.below(3) as u32;
+            Ok(rig.die(gid, piece)?.is_some() == plain.die(gid, piece))
+        }
+        6..14 => Ok(rig.complete(gid)? == plain.complete(gid)),
+        14..20 => Ok(rig.save(gid)? == plain.save(gid)),
+        _ => Ok(rig.open(alloc, gid, &[])? == plain.open(gid)),
+    }
+}
+
+// Blocks come, most of them of a claim that was made lately.
+fn land(random: &mut Random, rig: &mut Rig, plain: &mut Plain) -> Result<bool, Fail> {
+    let id = plain.any_claim(random.below(10));
+    let run = Run {
+        first: plain.first_of(id).saturating_add(random.below(6) as u32),
+        count: random.below(6) as u32,
+    };
+    Ok(rig.land(id, run.first, run.count)? == plain.land(id, run))
 }
 
 fn step(
@@ -107,29 +145,19 @@ fn step(
     rig: &mut Rig,
     plain: &mut Plain,
 ) -> Result<bool, Fail> {
-    match random.below(16) {
-        0 => add(alloc, random, rig, plain),
-        1 => call(alloc, random, rig, plain),
-        2 => Ok(match any_gid(random, rig) {
-            Some(gid) => rig.open(alloc, gid, &[])? == plain.open(gid),
-            None => true,
-        }),
-        3 => {
-            let id = random.below(40);
+    match random.below(40) {
+        0..4 => add(alloc, random, rig, plain),
+        4 => call(alloc, random, rig, plain),
+        5..9 => of_download(alloc, random, rig, plain),
+        9 => {
+            let id = plain.any_claim(random.below(10));
             Ok(rig.lose(id)? == plain.lose(id))
         }
-        4..9 => {
+        10..22 => {
             rig.pass(random.below(100));
             take(alloc, random, rig, plain)
         }
-        _ => {
-            let id = random.below(40);
-            let run = Run {
-                first: random.below(12) as u32,
-                count: random.below(5) as u32,
-            };
-            Ok(rig.land(id, run.first, run.count)? == plain.land(id, run))
-        }
+        _ => land(random, rig, plain),
     }
 }
 
@@ -138,32 +166,38 @@ fn agree(rig: &Rig, plain: &Plain) -> bool {
     for n in 0..6 {
         if let Some((gid, _)) = rig.machine().added(n)
             && (rig.machine().status(gid) != plain.status(gid)
-                || rig.machine().landed_bytes(gid) / 16_384 != plain.landed_blocks(gid) as u64)
+                || rig.machine().landed_bytes(gid) / 16_384 != plain.landed_blocks(gid) as u64
+                || rig.is_unsaved(gid) != plain.is_unsaved(gid))
         {
             return false;
         }
     }
-    (0..64).all(|id| rig.machine().stands(id) == plain.stands(id))
+    rig.machine().finished() == plain.is_finished()
+        && (0..100).all(|id| rig.machine().stands(id) == plain.stands(id))
 }
 
 #[test]
 fn random_steps_beside_a_plain_program(rt: HostRuntime) -> Result<(), Fail> {
     let alloc = rt.alloc();
-    for seed in 0..24 {
+    for seed in 0..12 {
+        let (word, tries) = if seed % 2 == 0 { ("1", 1) } else { ("2", 2) };
         let values = [
             ("max-concurrent-downloads", "2"),
             ("split", "3"),
+            ("max-tries", word),
             ("max-connection-per-server", "2"),
             ("min-split-size", "1M"),
         ];
         let mut rig = Rig::new(alloc, options(alloc, &values)?)?;
-        let mut plain = Plain::new(alloc, 2);
+        let mut plain = Plain::new(alloc, 2, tries);
         let mut random = Random(seed);
-        for number in 0..400 {
+        for number in 0..500 {
             let holds = step(alloc, &mut random, &mut rig, &mut plain)?;
             assert!(rt; holds, "step {number} of {seed}");
             assert!(rt; agree(&rig, &plain), "after step {number} of {seed}");
         }
+        assert_eq!(rt; rig.stop(), plain.stop());
+        assert!(rt; agree(&rig, &plain), "after the stop of {seed}");
     }
     Ok(())
 }
