@@ -11,3 +11,4 @@ pub mod LooseRuns
 pub mod OwnRuns
 pub mod Zips
 pub mod OpenRuns
+pub mod Shut

@@ -31,10 +31,18 @@ pub fn first_open(plan: &Plan, landed: &BitRow, closed: &[u128], claim: &Claim) 
         ≤ blocks_of plan.now.total plan.now.piece_len }
     ensures { result ≡ first_open_in plan.now.piece_len landed.now closed.now claim.now }
 {
-    for block in claim.run.first..claim.run.first + claim.run.count {
+    let end = claim.run.first + claim.run.count;
+    let mut from = claim.run.first;
+    while from < end {
+        // Claims land in order, so most of what comes first is landed: the row passes over many blocks at once.
+        let block = landed.next_within(from, end, false);
+        if block == end {
+            return None;
+        }
         if is_open(plan, landed, closed, claim, block) {
             return Some(block);
         }
+        from = block + 1;
     }
     None
 }

@@ -1,31 +1,45 @@
-use Rattle.std.proofs.Common.{◌≡◌, ◌+◌, ◌-◌, sym, ◌∙◌, ap, arith}
-use Rattle.std.specs.Prelude.{find}
-use Rattle.std.specs.List.{range_with_len}
+use Rattle.std.proofs.Common.{◌≡◌, ◌<◌, ◌≤◌, ◌+◌, ◌-◌, length, refl, sym, ◌∙◌, arith}
 use Rattle.segment_claim.specs.Open.{is_open_in}
 use Rattle.segment_claim.proofs.Finding.{find_here, find_later, find_none}
+use Rattle.segment_claim.proofs.Shut.{skip_landed}
 use Rattle.segment_claim.proofs.open.first_open.Goals as goal
 
-pub loop-block-init : goal.loop-block-init
-loop-block-init c =
-    let claim = c.args.claim.now in
-    let e : claim.run.count ≡ claim.run.first + claim.run.count - claim.run.first = omega arith in
-    ap (λ n. find (is_open_in c.args.plan.now.piece_len c.args.landed.now c.args.closed.now claim)
-    (range_with_len claim.run.first n)) e
-
-pub loop-block-preserved : goal.loop-block-preserved
-loop-block-preserved c =
-    c.loop-block.invariant
-    ∙ find_later (is_open_in c.args.plan.now.piece_len c.args.landed.now c.args.closed.now c.args.claim.now) _ _
-    c.loop-block-test.true (sym c.is_open.ensures ∙ c.if-is_open.false)
+pub returns-then-block-end : goal.returns-then-block-end
+returns-then-block-end c =
+    let a = c.args in
+    let end = a.claim.now.run.first + a.claim.now.run.count in
+    let fits : end ≤ length a.landed.now = omega (arith, c.requires.row, c.requires.within) in
+    let here : c.next_within-block.result ≡ end = omega (arith, c.if-block-end.true) in
+    sym (c.loop-from.invariant.rest
+    ∙ (skip_landed a.plan.now.piece_len a.landed.now a.closed.now a.claim.now c.loop-from.from c.next_within-block.result end
+    (omega (arith, here, c.loop-from-test.true)) (omega (arith, here)) fits c.next_within-block.ensures.passed
+    ∙ find_none (is_open_in a.plan.now.piece_len a.landed.now a.closed.now a.claim.now) _ _ (omega (arith, here))))
 
 pub returns-then-is_open : goal.returns-then-is_open
 returns-then-is_open c =
-    sym (c.loop-block.invariant
-    ∙ find_here (is_open_in c.args.plan.now.piece_len c.args.landed.now c.args.closed.now c.args.claim.now) _ _
-    c.loop-block-test.true (sym c.is_open.ensures ∙ c.if-is_open.true))
+    let a = c.args in
+    let end = a.claim.now.run.first + a.claim.now.run.count in
+    let block = c.next_within-block.result in
+    let fits : end ≤ length a.landed.now = omega (arith, c.requires.row, c.requires.within) in
+    let less : block < end = omega (arith, c.if-block-end.false, c.next_within-block.ensures.within) in
+    sym (c.loop-from.invariant.rest
+    ∙ (skip_landed a.plan.now.piece_len a.landed.now a.closed.now a.claim.now c.loop-from.from block end
+    (c.next_within-block.ensures.later less) (omega (arith, less)) fits c.next_within-block.ensures.passed
+    ∙ find_here (is_open_in a.plan.now.piece_len a.landed.now a.closed.now a.claim.now) block end less
+    (sym c.is_open.ensures ∙ c.if-is_open.true)))
 
-pub returns : goal.returns
-returns c =
-    sym (c.loop-block.invariant
-    ∙ find_none (is_open_in c.args.plan.now.piece_len c.args.landed.now c.args.closed.now c.args.claim.now) _ _
-    c.loop-block-test.false)
+pub loop-from-preserved : goal.loop-from-preserved
+loop-from-preserved c =
+    let a = c.args in
+    let end = a.claim.now.run.first + a.claim.now.run.count in
+    let block = c.next_within-block.result in
+    let fits : end ≤ length a.landed.now = omega (arith, c.requires.row, c.requires.within) in
+    let less : block < end = omega (arith, c.if-block-end.false, c.next_within-block.ensures.within) in
+    record {
+      end = refl;
+      rest = c.loop-from.invariant.rest
+          ∙ (skip_landed a.plan.now.piece_len a.landed.now a.closed.now a.claim.now c.loop-from.from block end
+          (c.next_within-block.ensures.later less) (omega (arith, less)) fits c.next_within-block.ensures.passed
+          ∙ find_later (is_open_in a.plan.now.piece_len a.landed.now a.closed.now a.claim.now) block end less
+          (sym c.is_open.ensures ∙ c.if-is_open.false));
+    }
