@@ -1,6 +1,8 @@
 // Worked histories.
 use crate::lines::{options, told};
 use crate::rig::Rig;
+use std::alloc::Global;
+use std::process::Abort;
 use std::test::Fail;
 
 // The lines and what is told after each, of runs with these options.
@@ -389,19 +391,28 @@ const CLASHING: Case = (
     ],
 );
 
-const CASES: [Case; 19] = [
-    QUEUED, IN_FRONT, WRONG, BLAMED, MIXED, SOLE, STOLEN, PAUSED, STOPPED, SAVED, RESUMED,
-    COMPARED, SELECTED, PROBED, THROTTLED, SHARED, FAILED, TWINS, CLASHING,
-];
+// Each line is answered so.
+fn tell_all<R: Abort>(
+    rt: &R,
+    alloc: Global,
+    rig: &mut Rig,
+    lines: &[(&str, &str)],
+) -> Result<(), Fail> {
+    for (line, want) in lines {
+        assert_eq!(rt; told(alloc, rig, line)?.as_str(), *want);
+    }
+    Ok(())
+}
 
 #[test]
 fn histories(rt: HostRuntime) -> Result<(), Fail> {
     let alloc = rt.alloc();
-    for (values, lines) in CASES {
+    for (values, lines) in [
+        QUEUED, IN_FRONT, WRONG, BLAMED, MIXED, SOLE, STOLEN, PAUSED, STOPPED, SAVED, RESUMED,
+        COMPARED, SELECTED, PROBED, THROTTLED, SHARED, FAILED, TWINS, CLASHING,
+    ] {
         let mut rig = Rig::new(alloc, options(alloc, values)?)?;
-        for (line, want) in lines {
-            assert_eq!(rt; told(alloc, &mut rig, line)?.as_str(), *want);
-        }
+        tell_all(&rt, alloc, &mut rig, lines)?;
     }
     Ok(())
 }

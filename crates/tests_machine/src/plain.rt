@@ -483,11 +483,9 @@ impl Plain {
     }
 
     // Whether a mirror may be asked for a free block. Those of a sole piece are free together.
-    fn is_askable(&self, download: &PlainDownload, block: usize) -> bool {
-        let run = Run {
-            first: block as u32,
-            count: 1,
-        };
+    fn is_askable(&self, download: &PlainDownload, first: u32) -> bool {
+        let run = Run { first, count: 1 };
+        let block = first as usize;
         let piece = block / 4;
         let free = if at(&download.sole, piece) {
             (0..12).all(|other| other / 4 != piece || self.is_free(download, other))
@@ -499,7 +497,7 @@ impl Plain {
 
     fn has_free(&self, download: &PlainDownload) -> bool {
         self.standing(download.gid, None) < CLAIMS
-            && (0..12).any(|block| self.is_askable(download, block))
+            && (0..12).any(|first| self.is_askable(download, first))
     }
 
     // Whether a worker of an active download may have something to do, thefts aside.
