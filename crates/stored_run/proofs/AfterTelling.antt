@@ -10,7 +10,7 @@ use Rattle.engine_turns.specs.declared.operations.Said.TheVariants.{NoMemory}
 use Rattle.machine_core.specs.declared.events.Event.{Event}
 use Rattle.stored_run.specs.RunFollows.{RunFollows}
 use Rattle.stored_run.specs.Saves.{AreSavable, AreStoredApart, SavesKeep, StandOnce, TellsOnly, UnlessStarved}
-use Rattle.stored_run.specs.Steps.{DoesRow, GoesOn, StoresEach}
+use Rattle.stored_run.specs.Steps.{DoesRow, RunStays, StoresEach}
 use Rattle.stored_run.specs.Stored.{IsStoredRun}
 use Rattle.stored_run.specs.Views.{IsGoing}
 use Rattle.stored_run.specs.declared.run.StoredView.{StoredView}
@@ -35,7 +35,7 @@ row_starved Row F old mid same = record {
 module _ {D : Type 0} (laws : RunFollows) (tells : Bool) (F : D → ℕ) (S : D → DiskState) (old mid : StoredView D)
     (run : IsStoredRun tells (F old.disk) (S old.disk) old) (events : List Event) (came : TellsOnly events old mid)
     (between : HaltsBetween old mid) where
-  pub goes_after : (new : StoredView D) → GoesOn mid new → GoesOn old new
+  pub goes_after : (new : StoredView D) → RunStays mid new → RunStays old new
   goes_after new on = record {
     start = on.start ∙ between.on.start;
     now = on.now ∙ between.on.now;

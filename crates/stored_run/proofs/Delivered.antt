@@ -31,7 +31,7 @@ use Rattle.machine_core.specs.Reads.{lengths_of_gid}
 use Rattle.machine_core.specs.RunLegal.{IsLegal, download_in, known_lengths}
 use Rattle.machine_core.specs.Starts.{Download, RunStart}
 use Rattle.machine_core.specs.declared.events.Event.{Event}
-use Rattle.stored_run.specs.Deliveries.{AreBlocksOf, AreUnsettled, Delivers, IsAmong, IsFullBeside, IsPartOf, IsRunOf, LandedBetween, MarksFilled, TellsFull, first_piece, landed_count, last_piece, mark_at}
+use Rattle.stored_run.specs.Deliveries.{AreBlocksOf, AreUnsettled, Delivers, IsAmong, IsFullBeside, IsPartOf, IsRunOfPayload, LandedBetween, MarksFilled, TellsFull, first_piece, landed_total, last_piece, mark_at}
 use Rattle.stored_run.specs.RunFollows.{RunFollows}
 use Rattle.stored_run.specs.Steps.{DoesPart, DoesRow, turn_from}
 use Rattle.stored_run.specs.Stored.{AreWantsKept}
@@ -89,7 +89,7 @@ blocks_of_delivery l claim run bytes is = record { some = is.some; few = is.few;
 
 pub delivery_run : RunFollows → (l : PayloadLengths) (own : List OwnEvent) (claim : Claim) (run : Run)
     → IsPlan l.total l.piece_len → LegalOwn l.total l.piece_len own → Contains (standing_claims own) claim
-    → AreBlocksOf claim.run run → IsRunOf l run
+    → AreBlocksOf claim.run run → IsRunOfPayload l run
 delivery_run laws l own claim run plan legal there is =
     let within = claim_within laws l own claim plan legal there in
     let last = is.last in
@@ -99,7 +99,7 @@ delivery_run laws l own claim run plan legal there is =
 pub delivery_of : {D : Type 0} → RunFollows → (r : StoredView D) (gid : Gid) (claim : Claim) (run : Run) (bytes : List ℕ)
     → AreWantsKept r.machine.start r.machine.past r.wants.items → IsLegal r.machine.start r.machine.past → IsGoing r gid
     → Contains (standing_claims (own_in r gid)) claim → Delivers r gid claim run bytes
-    → IsRunOf (lengths_of_gid r.machine gid) run
+    → IsRunOfPayload (lengths_of_gid r.machine gid) run
 delivery_of laws r gid claim run bytes kept legal going there is =
     let l = lengths_of_gid r.machine gid in
     let w = opened_want r.machine.start r.machine.past r.wants.items gid kept going.opened in
@@ -107,7 +107,7 @@ delivery_of laws r gid claim run bytes kept legal going there is =
     (blocks_of_delivery l claim run bytes is)
 
 -- its last block is of a piece of the payload
-pub run_last_piece : BlocksAreOfPieces → (l : PayloadLengths) (run : Run) → IsPlan l.total l.piece_len → IsRunOf l run
+pub run_last_piece : BlocksAreOfPieces → (l : PayloadLengths) (run : Run) → IsPlan l.total l.piece_len → IsRunOfPayload l run
     → last_piece l run < pieces_of l.total l.piece_len
 run_last_piece of_pieces l run plan of =
     let some = of.some in
@@ -116,7 +116,7 @@ run_last_piece of_pieces l run plan of =
 
 pub last_within : (start : RunStart) (past : List Event) (wants : List (Option Want)) (gid : Gid) (run : Run)
     → BlocksAreOfPieces → AreWantsKept start past wants → is_opened (own_of start past gid) ≡ true
-    → IsRunOf (known_lengths start past gid) run
+    → IsRunOfPayload (known_lengths start past gid) run
     → last_piece (known_lengths start past gid) run
     < pieces_of (known_lengths start past gid).total (known_lengths start past gid).piece_len
 last_within start past wants gid run of_pieces kept opened of =
@@ -132,7 +132,7 @@ pub record RunPieces (l : PayloadLengths) (run : Run) : Type 0 where
   pub few : last_piece l run < first_piece l run + 64
   pub within : last_piece l run < pieces_of l.total l.piece_len
 
-pub run_pieces : BlocksAreOfPieces → (l : PayloadLengths) (run : Run) → IsPlan l.total l.piece_len → IsRunOf l run
+pub run_pieces : BlocksAreOfPieces → (l : PayloadLengths) (run : Run) → IsPlan l.total l.piece_len → IsRunOfPayload l run
     → RunPieces l run
 run_pieces of_pieces l run plan of =
     let some = of.some in
@@ -164,7 +164,7 @@ pub record PartPlaces (l : PayloadLengths) (run part : Run) : Type 0 where
   pub within : block_end l.total l.piece_len (part.first + part.count - 1)
       ≤ block_end l.total l.piece_len (run.first + run.count - 1)
 
-pub part_places : BlocksFollow → (l : PayloadLengths) (run part : Run) → IsPlan l.total l.piece_len → IsRunOf l run
+pub part_places : BlocksFollow → (l : PayloadLengths) (run part : Run) → IsPlan l.total l.piece_len → IsRunOfPayload l run
     → IsPartOf run part → PartPlaces l run part
 part_places follow l run part plan of is =
     let some = is.some in
@@ -197,7 +197,7 @@ has_at (y ∷ xs) x (inr has) = let at = has_at xs x has in (at.0 + 1, (let w = 
 module _ (laws : RunFollows) (l : PayloadLengths) (own : List OwnEvent) (claim : Claim) (run : Run) (runs : List Run)
     (row : List Bool) (plan : IsPlan l.total l.piece_len)
     (legal : LegalOwn l.total l.piece_len (landed_own claim.id claim.mirror runs own))
-    (of : IsRunOf l run) (are : AreOpenIn own claim run runs) (told : TellsFull l own run row) where
+    (of : IsRunOfPayload l run) (are : AreOpenIn own claim run runs) (told : TellsFull l own run row) where
   abbrev later : List OwnEvent
   later = landed_own claim.id claim.mirror runs own
 
@@ -251,7 +251,7 @@ module _ {D : Type 0} (laws : RunFollows) (old mid : StoredView D) (gid : Gid) (
     (start : mid.machine.start ≡ old.machine.start)
     (plan : IsPlan (lengths_of_gid old.machine gid).total (lengths_of_gid old.machine gid).piece_len)
     (legal : LegalOwn (lengths_of_gid mid.machine gid).total (lengths_of_gid mid.machine gid).piece_len (own_in mid gid))
-    (of : IsRunOf (lengths_of_gid old.machine gid) run) (are : AreOpenIn (own_in old gid) claim run runs)
+    (of : IsRunOfPayload (lengths_of_gid old.machine gid) run) (are : AreOpenIn (own_in old gid) claim run runs)
     (told : TellsFull (lengths_of_gid old.machine gid) (own_in old gid) run row)
     (last : piece_of (lengths_of_gid old.machine gid).piece_len (run.first + run.count - 1)
     < pieces_of (lengths_of_gid old.machine gid).total (lengths_of_gid old.machine gid).piece_len) where
@@ -280,8 +280,8 @@ module _ {D : Type 0} (laws : RunFollows) (old mid : StoredView D) (gid : Gid) (
       (sym so.own)
       (runs_marked laws (lengths_of_gid old.machine gid) (own_in old gid) claim run runs row plan legal_there of are told)))
 
-  pub then_run : IsRunOf (lengths_of_gid mid.machine gid) run
-  then_run = subst (λ (l : PayloadLengths). IsRunOf l run) (sym so.lengths) of
+  pub then_run : IsRunOfPayload (lengths_of_gid mid.machine gid) run
+  then_run = subst (λ (l : PayloadLengths). IsRunOfPayload l run) (sym so.lengths) of
 
 -- ---- the answer
 
@@ -295,7 +295,7 @@ module _ {D : Type 0} (old new : StoredView D) (gid : Gid) (claim : Claim) (run 
   counted_is : sum_by blocks_in_event did.events ≡ counted
   counted_is =
       let all = count_on did.events old.machine.past in
-      let grown = ap landed_count did.grown in
+      let grown = ap landed_total did.grown in
       omega (arith, all, grown, landed)
 
   fits : blocks_in_runs runs ≤ run.count

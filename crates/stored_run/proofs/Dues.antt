@@ -24,7 +24,7 @@ use Rattle.machine_core.specs.Replays.{has_active, is_download, is_same_gid, rep
 use Rattle.machine_core.specs.RunLegal.{download_in, goes_on_in, known_lengths}
 use Rattle.machine_core.specs.Starts.{Download, RunStart}
 use Rattle.machine_core.specs.declared.events.Event.{Event}
-use Rattle.stored_run.specs.Saves.{HasUnsavedIn, IsDueLastIn, IsDueOffIn, is_active_status, is_going_status, is_off_by, status_at, status_in, statuses_in}
+use Rattle.stored_run.specs.Saves.{HasUnsavedIn, IsDueLastIn, IsDueOffIn, is_active_status, is_going_status, is_off_by, noted_status, status_in, statuses_in}
 use Rattle.stored_run.specs.Stored.{AreWantsKept}
 use Rattle.stored_run.specs.Views.{kept_want}
 use Rattle.stored_run.proofs.Kept.{some_of}
@@ -141,7 +141,7 @@ off_went was now is =
 
 -- the status that a download had, where it was added
 pub status_had : (start : RunStart) (past : List Event) (gid : Gid) (d : Download) → download_in start past gid ≡ Some d
-    → status_at (statuses_in start past) (place_in start past gid) ≡ status_in start past gid
+    → noted_status (statuses_in start past) (place_in start past gid) ≡ status_in start past gid
 status_had start past gid d added =
     let ds = (replay_of start past).downloads in
     let place = place_in start past gid in
@@ -214,13 +214,13 @@ module _ (start : RunStart) (past : List Event) (gid : Gid) where
   pub off_or_not : (was : List (Option Status)) → IsDueOffIn was start past gid ⊎ (IsDueOffIn was start past gid → ⊥)
   off_or_not was =
       ⊎_elim
-      (λ (off : is_off_by (status_at was (place_in start past gid)) (status_in start past gid) ≡ true). ⊎_elim
+      (λ (off : is_off_by (noted_status was (place_in start past gid)) (status_in start past gid) ≡ true). ⊎_elim
       (λ (has : HasUnsavedIn start past gid). inl (record { off = off; has = has }))
       (λ (not_so : HasUnsavedIn start past gid → ⊥). inr (λ due. not_so due.has))
       unsaved_or_not)
-      (λ (not_so : is_off_by (status_at was (place_in start past gid)) (status_in start past gid) ≡ true → ⊥).
+      (λ (not_so : is_off_by (noted_status was (place_in start past gid)) (status_in start past gid) ≡ true → ⊥).
       inr (λ due. not_so due.off))
-      (bool_cases (is_off_by (status_at was (place_in start past gid)) (status_in start past gid)))
+      (bool_cases (is_off_by (noted_status was (place_in start past gid)) (status_in start past gid)))
 
   pub last_or_not : IsDueLastIn start past gid ⊎ (IsDueLastIn start past gid → ⊥)
   last_or_not =

@@ -22,7 +22,7 @@ use Rattle.machine_core.specs.declared.events.Event.TheVariants.{Called, Stopped
 use Rattle.resume_core.specs.Sharing.{share_names}
 use Rattle.stored_run.specs.RunFollows.{RunFollows}
 use Rattle.stored_run.specs.Saves.{AreSavable, AreStoredApart, IsApartFrom, SavesKeep, StandOnce, TellsOnly}
-use Rattle.stored_run.specs.Steps.{DoesPart, GoesOn, IsStoredApart, StoresEach, StoresGid, StoresOn, turn_from}
+use Rattle.stored_run.specs.Steps.{DoesPart, RunStays, IsStoredApart, StoresEach, StoresGid, StoresOn, turn_from}
 use Rattle.stored_run.specs.Stored.{AreWantsKept, IsStored, IsStoredRun, IsStoredWith}
 use Rattle.stored_run.specs.Views.{GoesOpened, IsGoing, kept_want, kept_want_of, own_in}
 use Rattle.stored_run.specs.declared.run.StoredView.{StoredView}
@@ -110,7 +110,7 @@ stopped_kept laws tells faults disk start past wants now may was =
 
 -- of each download the events are the same, or its claims ended; what went on goes on or not, and the wants are kept
 pub record HaltsBetween {D : Type 0} (old new : StoredView D) : Type 0 where
-  pub on : GoesOn old new
+  pub on : RunStays old new
   pub own : (g : Gid) → HaltsAtMost (own_in old g) (own_in new g)
   pub going : (g : Gid) → IsGoing new g → IsGoing old g
   pub was_kept : (g : Gid) (w : Want) → kept_want_of new g ≡ Some w → kept_want_of old g ≡ Some w

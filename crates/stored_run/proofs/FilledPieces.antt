@@ -35,7 +35,7 @@ use Rattle.one_download.proofs.Blocks.{blocks_of_full, full_of_blocks}
 use Rattle.piece_table.specs.Progress.{IsFull, Progress}
 use Rattle.piece_table.specs.declared.giver.Giver.{Giver}
 use Rattle.piece_table.specs.declared.giver.Giver.TheVariants.{Nobody}
-use Rattle.stored_run.specs.Deliveries.{AreFullBeside, AreUnsettled, CountsFilled, CountsPiece, FillsPieces, IsAmong, IsFullBeside, IsRunOf, IsUnsettledWhereFull, MarksFilled, filling_phase, last_piece, mark_at}
+use Rattle.stored_run.specs.Deliveries.{AreFullBeside, AreUnsettled, CountsFilled, CountsPiece, FillsPieces, IsAmong, IsFullBeside, IsRunOfPayload, IsUnsettledWhereFull, MarksFilled, filling_phase, last_piece, mark_at}
 use Rattle.stored_run.specs.RunFollows.{RunFollows}
 use Rattle.stored_run.specs.Steps.{Continues, DoesPart, turn_from}
 use Rattle.stored_run.specs.Views.{IsGoing, own_in}

@@ -14,14 +14,14 @@ use Rattle.machine_core.specs.declared.ends.End.{End}
 use Rattle.machine_core.specs.declared.ends.End.TheVariants as end
 use Rattle.machine_core.specs.declared.events.Event.{Event}
 use Rattle.machine_core.specs.declared.events.Event.TheVariants.{Checked, Ended, Saved}
-use Rattle.stored_run.specs.Deliveries.{LandedBetween, filling_phase, landed_count}
+use Rattle.stored_run.specs.Deliveries.{LandedBetween, filling_phase, landed_total}
 use Rattle.stored_run.specs.Steps.{DoesPart, turn_from}
 use Rattle.stored_run.specs.declared.run.StoredView.{StoredView}
 
 -- ---- histories
 
 pub count_on : (events past : List Event)
-    → landed_count (history_after past events) ≡ sum_by blocks_in_event events + landed_count past
+    → landed_total (history_after past events) ≡ sum_by blocks_in_event events + landed_total past
 count_on [] past = omega arith
 count_on (e ∷ events) past =
     let rest = count_on events (e ∷ past) in
@@ -120,4 +120,4 @@ pub landed_none : {D : Type 0} (P : TurnStart → Phase) (old new : StoredView D
 landed_none P old new f f' o none did =
     let events = none (turn_from old f) old.machine.past did.events o (did.is f (omega arith)) in
     let all = count_on did.events old.machine.past in
-    ap landed_count did.grown ∙ omega (arith, events, all)
+    ap landed_total did.grown ∙ omega (arith, events, all)

@@ -31,7 +31,7 @@ use Rattle.machine_core.specs.RunLegal.{IsLaterThan, MayFollow, download_in, kno
 use Rattle.machine_core.specs.Starts.{Download, RunStart}
 use Rattle.machine_core.specs.declared.events.Event.{Event}
 use Rattle.machine_core.specs.declared.events.Event.TheVariants.{Ended, Landed}
-use Rattle.stored_run.specs.Deliveries.{IsPartOf, LandedBetween, landed_count}
+use Rattle.stored_run.specs.Deliveries.{IsPartOf, LandedBetween, landed_total}
 use Rattle.stored_run.specs.Landings.{IsOneUnder}
 use Rattle.stored_run.specs.Steps.{Continues, DoesPart, turn_from}
 use Rattle.stored_run.specs.Views.{GoesOpened, IsGoing, own_in}
@@ -139,7 +139,7 @@ module _ (start : RunStart) (gid : Gid) (id mirror : ℕ) (now : Moment) where
       ∙ same_lengths start past gid (Landed gid id mirror x now) (Lands id mirror x) (landed_is gid id mirror x now) refl refl
 
   count_after : (runs : List Run) (past : List Event)
-      → landed_count (past_after past runs) ≡ blocks_in_runs runs + landed_count past
+      → landed_total (past_after past runs) ≡ blocks_in_runs runs + landed_total past
   count_after [] past = omega arith
   count_after (x ∷ runs) past =
       let rest = count_after runs (Landed gid id mirror x now ∷ past) in
@@ -314,7 +314,7 @@ module _ {D : Type 0} (old mid new : StoredView D) (gid : Gid) (claim : Claim) (
       let none = broken_none (turn_from mid f') gid (landing_of (turn_from mid f')) mid.machine.past next.events o broken
       (next.is f' (omega arith)) in
       let all = count_on next.events mid.machine.past in
-      let grown = ap landed_count next.grown in
+      let grown = ap landed_total next.grown in
       let counted = so.counted in
       omega (arith, none, all, grown, counted)
 

@@ -23,7 +23,7 @@ use Rattle.resume_core.specs.Openings.{KeepsBesides}
 use Rattle.resume_core.specs.Sharing.{share_names}
 use Rattle.stored_run.specs.RunFollows.{RunFollows}
 use Rattle.stored_run.specs.Saves.{AreSavable, AreStoredApart, IsApartFrom, SavesKeep}
-use Rattle.stored_run.specs.Steps.{DoesPart, GoesOn, IsStoredApart, KeepsStored, StoresGid, turn_from}
+use Rattle.stored_run.specs.Steps.{DoesPart, RunStays, IsStoredApart, KeepsStored, StoresGid, turn_from}
 use Rattle.stored_run.specs.Stored.{AreWantsKept, IsStored, IsStoredRun}
 use Rattle.stored_run.specs.Views.{GoesOpened, IsGoing, kept_want, kept_want_of, own_in}
 use Rattle.stored_run.specs.declared.run.StoredView.{StoredView}
@@ -145,7 +145,7 @@ module _ {D : Type 0} (gids : List Gid) (n : ℕ) (old now : StoredView D) (f f'
     counts = told.counts;
   }
 
-  module _ (gid : Gid) (there : slice_get gids n ≡ Some gid) (new : StoredView D) (f'' : ℕ) (on : GoesOn old now)
+  module _ (gid : Gid) (there : slice_get gids n ≡ Some gid) (new : StoredView D) (f'' : ℕ) (on : RunStays old now)
       (o : Outcome) (did : DoesPart (λ at. SavePhase at gid) now f' new f'' o) where
     phase_from : (from : ℕ) → from ≤ f → SavePhase (turn_from old from) gid now.machine.past did.events o
     phase_from from below =
@@ -219,7 +219,7 @@ module _ {D : Type 0} (gids : List Gid) (n : ℕ) (old now : StoredView D) (f f'
 -- of those that are still to be saved nothing changed, and each is stored; nothing goes on that didn't
 pub record SavesSoFar {D : Type 0} (tells : Bool) (gids : List Gid) (n : ℕ) (old now : StoredView D)
     (before after : DiskState) : Type 0 where
-  pub on : GoesOn old now
+  pub on : RunStays old now
   pub own : (i : ℕ) (gid : Gid) → n ≤ i → slice_get gids i ≡ Some gid → own_in now gid ≡ own_in old gid
   pub kept : (gid : Gid) → kept_want_of now gid ≡ kept_want_of old gid
   pub going : (gid : Gid) → IsGoing now gid → IsGoing old gid
@@ -282,7 +282,7 @@ module _ {D : Type 0} (laws : RunFollows) (tells : Bool) (faults : ℕ) (gids : 
   beside g w kept other apart =
       apart n gid here.0 w there (λ same. other (sym same)) kept_here kept
 
-  module _ (new : StoredView D) (c : DiskState) (on : GoesOn now new) (wants : new.wants ≡ now.wants)
+  module _ (new : StoredView D) (c : DiskState) (on : RunStays now new) (wants : new.wants ≡ now.wants)
       (came : SaveCame gid now.now now.machine.past new.machine.past) (disk : IsTrue tells → StoresGid gid now new b c) where
     left : LeavesOthers now.machine.start now.machine.past gid now.wants.items new.machine.past
     left =

@@ -28,7 +28,7 @@ use Rattle.machine_core.specs.declared.ends.End.TheVariants as end
 use Rattle.machine_core.specs.declared.events.Event.{Event}
 use Rattle.machine_core.specs.declared.events.Event.TheVariants.{Called, Ended, Stopped}
 use Rattle.stored_run.specs.RunFollows.{RunFollows}
-use Rattle.stored_run.specs.Saves.{IsDueLastIn, IsDueOffIn, StandOnce, TellsOnly, UnlessStarved, gids_of, is_active_status, is_going_status, is_off_by, status_at, status_in, statuses_in}
+use Rattle.stored_run.specs.Saves.{IsDueLastIn, IsDueOffIn, StandOnce, TellsOnly, UnlessStarved, gids_of, is_active_status, is_going_status, is_off_by, noted_status, status_in, statuses_in}
 use Rattle.stored_run.specs.Steps.{DoesPart, DoesRow, turn_from}
 use Rattle.stored_run.specs.Stored.{AreWantsKept}
 use Rattle.stored_run.specs.Views.{GoesOpened}
@@ -66,10 +66,10 @@ module _ (laws : RunFollows) (start : RunStart) (past : List Event) (wants : Lis
 
   -- the status that an opened download had
   had : (gid : Gid) → is_opened (own_of start (e ∷ past) gid) ≡ true
-      → status_at (statuses_in start past) (place_in start (e ∷ past) gid) ≡ status_in start past gid
+      → noted_status (statuses_in start past) (place_in start (e ∷ past) gid) ≡ status_in start past gid
   had gid opened =
       let added = opened_added start past wants gid are (opened_before gid opened) in
-      ap (status_at (statuses_in start past)) (laws.places start past e gid added.0 added.1)
+      ap (noted_status (statuses_in start past)) (laws.places start past e gid added.0 added.1)
       ∙ status_had start past gid added.0 added.1
 
   was_off : (gid : Gid) → IsDueOffIn (statuses_in start past) start (e ∷ past) gid

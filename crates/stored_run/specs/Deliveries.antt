@@ -47,12 +47,12 @@ pub record IsRangeOf (lengths : PayloadLengths) (run part : Run) (from to : ℕ)
       ≤ block_end lengths.total lengths.piece_len (run.first + run.count - 1)
 
 -- how many blocks landed in a history
-abbrev pub landed_count : List Event → ℕ
-landed_count past = sum_by blocks_in_event past
+abbrev pub landed_total : List Event → ℕ
+landed_total past = sum_by blocks_in_event past
 
 -- so many blocks landed between two histories
 abbrev pub LandedBetween : ℕ → (old new : List Event) → Type 0
-LandedBetween counted old new = landed_count new ≡ counted + landed_count old
+LandedBetween counted old new = landed_total new ≡ counted + landed_total old
 
 -- ---- claims
 
@@ -117,7 +117,7 @@ pub record MarksFilled (lengths : PayloadLengths) (before own : List OwnEvent) (
       → IsAmong lengths run piece
 
 -- a run of at most 64 blocks of the payload
-pub record IsRunOf (lengths : PayloadLengths) (run : Run) : Type 0 where
+pub record IsRunOfPayload (lengths : PayloadLengths) (run : Run) : Type 0 where
   pub some : 1 ≤ run.count
   pub few : run.count ≤ MAX_DELIVERY
   pub within : run.first + run.count ≤ blocks_of lengths.total lengths.piece_len

@@ -7,3 +7,4 @@ pub mod Landings
 pub mod Settlings
 pub mod Deliveries
 pub mod Saves
+pub mod Beginnings

@@ -50,8 +50,8 @@ abbrev pub statuses_in : RunStart → List Event → List (Option Status)
 statuses_in start past = map (status_in start past) (gids_in start past)
 
 -- the one at a place, if any
-abbrev pub status_at : List (Option Status) → ℕ → Option Status
-status_at statuses place = option_and_then (λ status. status) (slice_get statuses place)
+abbrev pub noted_status : List (Option Status) → ℕ → Option Status
+noted_status statuses place = option_and_then (λ status. status) (slice_get statuses place)
 
 -- ---- downloads that are due to be saved
 
@@ -62,7 +62,7 @@ pub record HasUnsavedIn (start : RunStart) (past : List Event) (gid : Gid) : Typ
 
 -- it is taken off since these were the statuses, with something to save
 pub record IsDueOffIn (was : List (Option Status)) (start : RunStart) (past : List Event) (gid : Gid) : Type 0 where
-  pub off : is_off_by (status_at was (place_in start past gid)) (status_in start past gid) ≡ true
+  pub off : is_off_by (noted_status was (place_in start past gid)) (status_in start past gid) ≡ true
   pub has : HasUnsavedIn start past gid
 
 -- it goes on, with something to save

@@ -72,7 +72,7 @@ module _ {D : Type 0} where
   turn_from r faults = record { start = r.machine.start; now = r.now; faults = faults }
 
   -- the start and the moment are the same, and what the disk is to keep is so still
-  pub record GoesOn (old new : StoredView D) : Type 0 where
+  pub record RunStays (old new : StoredView D) : Type 0 where
     pub start : new.machine.start ≡ old.machine.start
     pub now : new.now ≡ old.now
     pub wants : (gid : Gid) (want : Want) → kept_want_of old gid ≡ Some want → kept_want_of new gid ≡ Some want

@@ -5,7 +5,7 @@ ghost use Rattle.machine_core.specs.Answers.{applied_by};
 ghost use Rattle.machine_core.specs.LawfulCalls.{IsLawful};
 ghost use Rattle.machine_core.specs.declared.events.Event.TheVariants.{Called};
 ghost use Rattle.stored_run.specs.Saves.{TellsOnly, UnlessStarved};
-ghost use Rattle.stored_run.specs.Steps.{Continues, DoesRow, GoesOn, StoresEach};
+ghost use Rattle.stored_run.specs.Steps.{Continues, DoesRow, RunStays, StoresEach};
 
 use crate::StoredRun;
 use crate::following::runs_follow;
@@ -50,7 +50,7 @@ impl<D: Disk> StoredRun<D> {
         requires { IsLawful call }
         ensures row { DoesRow (λ at s. UnlessStarved (CallRow at s session call)) self.old
             (D.faults self.old.disk) self.new (D.faults self.new.disk) result }
-        ensures on { GoesOn self.old self.new }
+        ensures on { RunStays self.old self.new }
         ensures disk { IsTrue D.tells → StoresEach self.old self.new
             (D.state self.old.disk) (D.state self.new.disk) }
     {

@@ -9,7 +9,7 @@ ghost use Rattle.engine_turns.specs.declared.operations.Said.TheVariants.{Kept};
 ghost use Rattle.machine_core.specs.Claiming.{AreOpenIn};
 ghost use Rattle.machine_core.specs.MachineViews.{StandsUnder, standing_in};
 ghost use Rattle.machine_core.specs.Reads.{lengths_of_gid};
-ghost use Rattle.stored_run.specs.Deliveries.{AreBlocksOf, AreUnsettled, Delivers, FollowsSince, IsHomeIn, IsRunOf, LandedBetween};
+ghost use Rattle.stored_run.specs.Deliveries.{AreBlocksOf, AreUnsettled, Delivers, FollowsSince, IsHomeIn, IsRunOfPayload, LandedBetween};
 ghost use Rattle.stored_run.specs.Settlings.{OfDownload};
 ghost use Rattle.stored_run.specs.Steps.{Continues, DoesPart, DoesRow, EndsGid, turn_from};
 ghost use Rattle.stored_run.specs.Views.{IsGoing, own_in};
@@ -162,7 +162,7 @@ impl<D: Disk> StoredRun<D> {
     // What follows of blocks that landed: the pieces that they filled count as right, and the download ends or is saved.
     fn follow(&mut self, gid: Gid, run: Run, full: &[bool; MOST_PIECES]) -> Outcome
         requires going { IsGoing self.old gid }
-        requires run { IsRunOf (lengths_of_gid self.old.machine gid) run }
+        requires run { IsRunOfPayload (lengths_of_gid self.old.machine gid) run }
         requires unsettled { AreUnsettled (lengths_of_gid self.old.machine gid)
             (own_in self.old gid) run full.now }
         requires room { 66 ≤ self.old.machine.spare }

@@ -1,7 +1,7 @@
 // Which downloads are to be saved.
 ghost use Rattle.std.specs.Prelude.{◌≡◌, ◌<◌, [], IfOk, length, MatchBool, OnErr, slice_get, Some};
 ghost use Rattle.engine_turns.specs.CallRows.{AreThose};
-ghost use Rattle.stored_run.specs.Saves.{HasOpenedUnsaved, IsDueLast, IsDueOff, gids_of, is_active_status, is_going_status, is_off_by, status_at, statuses_in};
+ghost use Rattle.stored_run.specs.Saves.{HasOpenedUnsaved, IsDueLast, IsDueOff, gids_of, is_active_status, is_going_status, is_off_by, noted_status, statuses_in};
 
 use crate::StoredRun;
 use crate::following::runs_follow;
@@ -39,7 +39,7 @@ fn is_off(was: Option<Status>, now: Option<Status>) -> bool
 
 // The status at a place, if one stands there.
 fn status_then(statuses: &[Option<Status>], place: usize) -> Option<Status>
-    ensures { result ≡ status_at statuses.now place }
+    ensures { result ≡ noted_status statuses.now place }
 {
     if place < statuses.len() {
         statuses[place]

@@ -3,7 +3,7 @@ ghost use Rattle.std.specs.Prelude.{◌≡◌, ◌≤◌, ◌<◌, ◌+◌, ◌^
 ghost use Rattle.dl_history.specs.HistoryLaws.{IsFullIn};
 ghost use Rattle.machine_core.specs.RunLegal.{is_listed};
 ghost use Rattle.machine_core.specs.Reads.{IsOpenedGid, IsPieceOfGid, lengths_of_gid};
-ghost use Rattle.stored_run.specs.Deliveries.{AreUnsettled, CountsFilled, CountsPiece, FillsPieces, IsRunOf, IsUnsettledWhereFull, LandedBetween, TellsFull, first_piece, last_piece};
+ghost use Rattle.stored_run.specs.Deliveries.{AreUnsettled, CountsFilled, CountsPiece, FillsPieces, IsRunOfPayload, IsUnsettledWhereFull, LandedBetween, TellsFull, first_piece, last_piece};
 ghost use Rattle.stored_run.specs.Settlings.{OfDownload, OfWant};
 ghost use Rattle.stored_run.specs.Steps.{Continues, StoresGid};
 ghost use Rattle.stored_run.specs.Views.{IsGoing, own_in};
@@ -47,7 +47,7 @@ impl<D: Disk> StoredRun<D> {
     // The piece of a run's first block, and that of its last.
     fn pieces_of_run(&self, gid: Gid, run: Run) -> (u32, u32)
         requires opened { IsOpenedGid self.now.machine gid }
-        requires run { IsRunOf (lengths_of_gid self.now.machine gid) run }
+        requires run { IsRunOfPayload (lengths_of_gid self.now.machine gid) run }
         ensures first { result.0 ≡ first_piece (lengths_of_gid self.entry.now.machine gid) run }
         ensures last { result.1 ≡ last_piece (lengths_of_gid self.entry.now.machine gid) run }
         ensures ordered { result.0 ≤ result.1 }
@@ -65,7 +65,7 @@ impl<D: Disk> StoredRun<D> {
     // Which pieces of a run are full, from the piece of its first block on.
     pub(crate) fn full_pieces(&self, gid: Gid, run: Run) -> [bool; MOST_PIECES]
         requires opened { IsOpenedGid self.now.machine gid }
-        requires run { IsRunOf (lengths_of_gid self.now.machine gid) run }
+        requires run { IsRunOfPayload (lengths_of_gid self.now.machine gid) run }
         ensures { TellsFull (lengths_of_gid self.entry.now.machine gid) (own_in self.entry.now gid)
             run result }
     {
@@ -114,7 +114,7 @@ impl<D: Disk> StoredRun<D> {
     fn count_filled(&mut self, gid: Gid, run: Run, full: &[bool; MOST_PIECES])
         requires going { IsGoing self.old gid }
         requires unlisted { OfWant self.old gid (λ want. want.info_hash ≡ None) }
-        requires run { IsRunOf (lengths_of_gid self.old.machine gid) run }
+        requires run { IsRunOfPayload (lengths_of_gid self.old.machine gid) run }
         requires unsettled { AreUnsettled (lengths_of_gid self.old.machine gid)
             (own_in self.old gid) run full.now }
         requires room { 64 ≤ self.old.machine.spare }
@@ -153,7 +153,7 @@ impl<D: Disk> StoredRun<D> {
     // The pieces that a delivery filled count as right, where their download has no digests.
     pub(crate) fn fill(&mut self, gid: Gid, run: Run, full: &[bool; MOST_PIECES])
         requires going { IsGoing self.old gid }
-        requires run { IsRunOf (lengths_of_gid self.old.machine gid) run }
+        requires run { IsRunOfPayload (lengths_of_gid self.old.machine gid) run }
         requires unsettled { AreUnsettled (lengths_of_gid self.old.machine gid)
             (own_in self.old gid) run full.now }
         requires room { 64 ≤ self.old.machine.spare }

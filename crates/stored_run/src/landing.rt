@@ -8,7 +8,7 @@ ghost use Rattle.machine_core.specs.MachineViews.{StandsUnder};
 ghost use Rattle.machine_core.specs.Reads.{IsOpenedGid, lengths_of_gid};
 ghost use Rattle.machine_core.specs.RunLegal.{MayFollow};
 ghost use Rattle.machine_core.specs.declared.events.Event.TheVariants as event;
-ghost use Rattle.stored_run.specs.Deliveries.{Delivers, IsPartOf, IsRangeOf, IsRunOf, LandedBetween};
+ghost use Rattle.stored_run.specs.Deliveries.{Delivers, IsPartOf, IsRangeOf, IsRunOfPayload, LandedBetween};
 ghost use Rattle.stored_run.specs.Landings.{HasRunLen, HoldsRunOf, IsOneUnder};
 ghost use Rattle.stored_run.specs.Steps.{Continues, DoesPart, StoresGid};
 ghost use Rattle.stored_run.specs.Views.{IsGoing, own_in};
@@ -75,7 +75,7 @@ impl<D: Disk> StoredRun<D> {
     // From where to where the bytes of a part of a run stand among those of the run.
     fn part_range(&self, gid: Gid, run: Run, part: Run) -> (usize, usize)
         requires opened { IsOpenedGid self.now.machine gid }
-        requires run { IsRunOf (lengths_of_gid self.now.machine gid) run }
+        requires run { IsRunOfPayload (lengths_of_gid self.now.machine gid) run }
         requires part { IsPartOf run part }
         ensures { IsRangeOf (lengths_of_gid self.entry.now.machine gid) run part result.0 result.1 }
     {
@@ -96,7 +96,7 @@ impl<D: Disk> StoredRun<D> {
         requires may { MayFollow self.old.machine.start self.old.machine.past
             (event.Landed gid claim.id claim.mirror part self.old.now) }
         requires part { IsPartOf run part }
-        requires run { IsRunOf (lengths_of_gid self.old.machine gid) run }
+        requires run { IsRunOfPayload (lengths_of_gid self.old.machine gid) run }
         requires len { HasRunLen self.old.machine gid run (length bytes.now) }
         requires room { 1 ≤ self.old.machine.spare }
         ensures did { DoesPart
@@ -123,7 +123,7 @@ impl<D: Disk> StoredRun<D> {
         requires going { IsGoing self.old gid }
         requires stands { StandsUnder self.old.machine claim.id gid claim }
         requires delivery { Delivers self.old gid claim run bytes.now }
-        requires run { IsRunOf (lengths_of_gid self.old.machine gid) run }
+        requires run { IsRunOfPayload (lengths_of_gid self.old.machine gid) run }
         requires open_runs { AreOpenIn (own_in self.old gid) claim run open_runs.now }
         requires room { length open_runs.now ≤ self.old.machine.spare }
         ensures did { DoesPart (λ at. LandingsPhase at gid claim.id claim.mirror open_runs.now)

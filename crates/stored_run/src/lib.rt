@@ -1,6 +1,7 @@
 //! A run and the disk on which its downloads stand: what is written when, and what every crash leaves of it.
 #![tactic(auto)]
 
+mod beginning;
 mod calls;
 mod checking;
 mod claims;

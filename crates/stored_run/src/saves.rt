@@ -3,7 +3,7 @@ ghost use Rattle.std.specs.Prelude.{◌≡◌, ◌≤◌, [], IsTrue, true};
 ghost use Rattle.dl_history.specs.OwnLegal.{MaySave};
 ghost use Rattle.engine_turns.specs.Phases.{SavePhase, SavesPhase};
 ghost use Rattle.stored_run.specs.Saves.{AreSavable, AreStoredApart, SavesKeep, TellsOnly};
-ghost use Rattle.stored_run.specs.Steps.{DoesPart, GoesOn, IsStoredApart, StoresGid};
+ghost use Rattle.stored_run.specs.Steps.{DoesPart, RunStays, IsStoredApart, StoresGid};
 ghost use Rattle.stored_run.specs.Views.{own_in};
 
 use crate::StoredRun;
@@ -27,7 +27,7 @@ impl<D: Disk> StoredRun<D> {
         requires stored { IsTrue D.tells → IsStoredApart self.old gid (D.state self.old.disk) }
         ensures did { DoesPart (λ at. SavePhase at gid) self.old (D.faults self.old.disk)
             self.new (D.faults self.new.disk) result }
-        ensures on { GoesOn self.old self.new }
+        ensures on { RunStays self.old self.new }
         ensures wants { self.new.wants ≡ self.old.wants }
         ensures disk { IsTrue D.tells → StoresGid gid self.old self.new
             (D.state self.old.disk) (D.state self.new.disk) }
@@ -48,7 +48,7 @@ impl<D: Disk> StoredRun<D> {
             → AreStoredApart self.old gids.now (D.state self.old.disk) }
         ensures did { DoesPart (λ at. SavesPhase at gids.now) self.old (D.faults self.old.disk)
             self.new (D.faults self.new.disk) result }
-        ensures on { GoesOn self.old self.new }
+        ensures on { RunStays self.old self.new }
         ensures disk { IsTrue D.tells → SavesKeep gids.now self.old self.new
             (D.state self.old.disk) (D.state self.new.disk) }
     {

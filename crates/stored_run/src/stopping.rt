@@ -7,7 +7,7 @@ ghost use Rattle.engine_turns.specs.Standings.{AnswersUnlessStarved};
 ghost use Rattle.engine_turns.specs.declared.operations.Said.TheVariants.{Done};
 ghost use Rattle.machine_core.specs.RunLegal.{is_stop};
 ghost use Rattle.stored_run.specs.Saves.{TellsOnly};
-ghost use Rattle.stored_run.specs.Steps.{DoesRow, GoesOn, StoresEach};
+ghost use Rattle.stored_run.specs.Steps.{DoesRow, RunStays, StoresEach};
 
 use crate::StoredRun;
 use crate::following::runs_follow;
@@ -56,7 +56,7 @@ impl<D: Disk> StoredRun<D> {
     pub fn stop(&mut self) -> Said
         ensures row { DoesRow StopRow self.old (D.faults self.old.disk)
             self.new (D.faults self.new.disk) result }
-        ensures on { GoesOn self.old self.new }
+        ensures on { RunStays self.old self.new }
         ensures disk { IsTrue D.tells → StoresEach self.old self.new
             (D.state self.old.disk) (D.state self.new.disk) }
     {

@@ -10,7 +10,7 @@ use Rattle.engine_turns.specs.declared.outcome.Outcome.TheVariants.{Went}
 use Rattle.machine_core.specs.OwnParts.{PayloadLengths}
 use Rattle.machine_core.specs.RunLegal.{MayFollow}
 use Rattle.machine_core.specs.declared.events.Event.TheVariants.{Landed}
-use Rattle.stored_run.specs.Deliveries.{IsPartOf, IsRunOf, LandedBetween}
+use Rattle.stored_run.specs.Deliveries.{IsPartOf, IsRunOfPayload, LandedBetween}
 use Rattle.stored_run.specs.Steps.{Continues, DoesPart}
 use Rattle.stored_run.specs.Views.{own_in}
 use Rattle.stored_run.proofs.Doing.{continues_none, continues_on, continues_wider, did_nothing, grown_none, stores_none}
@@ -89,7 +89,7 @@ land_part-requires-clause-run g c =
     let was = c.loop-place.invariant in
     let so = landed_all v m c.args.gid c.args.claim (take c.loop-place.place c.args.open_runs.now) (d.faults v.disk)
     (d.faults m.disk) was.on.start was.did in
-    subst (λ (l : PayloadLengths). IsRunOf l c.args.run) (sym so.lengths) c.requires.run
+    subst (λ (l : PayloadLengths). IsRunOfPayload l c.args.run) (sym so.lengths) c.requires.run
 
 pub land_part-requires-clause-len : goal.land_part-requires-clause-len
 land_part-requires-clause-len g c =
