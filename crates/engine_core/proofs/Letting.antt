@@ -1,0 +1,57 @@
+-- Answers that let nothing go: no piece is handed out, and no bytes are let through.
+use Rattle.std.proofs.Common.{◌≡◌, Bool, true, false, None, List, [], refl, ap}
+use Rattle.std.specs.Prelude.{◌&&◌}
+use Rattle.machine_core.specs.Reads.{is_finished_in}
+use Rattle.machine_core.specs.Starts.{RunStart}
+use Rattle.machine_core.specs.declared.events.Event.{Event}
+use Rattle.engine_turns.specs.Levels.{spent_by}
+use Rattle.engine_turns.specs.RunTurns.{is_nearly_full}
+use Rattle.engine_turns.specs.Told.{handed_by}
+use Rattle.engine_turns.specs.declared.operations.Operation.{Operation}
+use Rattle.engine_turns.specs.declared.operations.Said.{Said}
+use Rattle.engine_turns.specs.declared.operations.Said.TheVariants.{Allow, Done, Finished, Grant, Hold, Idle, JournalFull, Kept, NoMemory, Replied, Void}
+use Rattle.engine_core.specs.Beginning.{IsBrokenOff, front_answer}
+
+-- a piece is handed out, or bytes are let through
+abbrev pub lets_go : Said → Bool
+lets_go (Grant grant) = true
+lets_go (Allow bytes) = true
+lets_go said = false
+
+pub nothing_handed : (said : Said) → lets_go said ≡ false → handed_by said ≡ []
+nothing_handed (Grant grant) none = absurd cc
+nothing_handed (Allow bytes) none = absurd cc
+nothing_handed (Replied place applied starved) none = refl
+nothing_handed (Kept counted repeated) none = refl
+nothing_handed Void none = refl
+nothing_handed (Hold ms) none = refl
+nothing_handed Idle none = refl
+nothing_handed Done none = refl
+nothing_handed Finished none = refl
+nothing_handed (JournalFull count) none = refl
+nothing_handed NoMemory none = refl
+
+pub nothing_spent : (start : RunStart) (past : List Event) (op : Operation) (said : Said) → lets_go said ≡ false
+    → spent_by start past op said ≡ None
+nothing_spent start past op (Grant grant) none = absurd cc
+nothing_spent start past op (Allow bytes) none = absurd cc
+nothing_spent start past op (Replied place applied starved) none = refl
+nothing_spent start past op (Kept counted repeated) none = refl
+nothing_spent start past op Void none = refl
+nothing_spent start past op (Hold ms) none = refl
+nothing_spent start past op Idle none = refl
+nothing_spent start past op Done none = refl
+nothing_spent start past op Finished none = refl
+nothing_spent start past op (JournalFull count) none = refl
+nothing_spent start past op NoMemory none = refl
+
+-- what is answered before an operation lets nothing go
+pub front_lets_none : (asks needs : Bool) (start : RunStart) (past : List Event) (said : Said)
+    → IsBrokenOff (front_answer asks needs start past) said → lets_go said ≡ false
+front_lets_none asks needs start past said is =
+    by (asks && is_finished_in start past) (needs && is_nearly_full past) refl refl
+  where
+    by : (a b : Bool) → (asks && is_finished_in start past) ≡ a → (needs && is_nearly_full past) ≡ b → lets_go said ≡ false
+    by true b finished full = let said_is = (rw finished at is) in ap lets_go said_is
+    by false true finished full = let said_is = (rw full at (rw finished at is)) in ap lets_go said_is
+    by false false finished full = let said_is = (rw full at (rw finished at is)) in ap lets_go said_is

@@ -1,0 +1,9 @@
+pub mod Letting
+pub mod Calm
+pub mod CalmRows
+pub mod Downloads
+pub mod Turning
+pub mod Levels
+pub mod Handings
+pub mod Serving
+pub mod Performed

@@ -1,0 +1,219 @@
+-- An operation that is performed is the next turn, and what is kept stands for all turns with it.
+use Rattle.std.proofs.Common.{◌≡◌, ◌≤◌, ℕ, Bool, true, false, Option, Some, None, List, [], ◌∷◌, ◌++◌, drop, length, map, reverse, refl, sym, ap, ◌∙◌, subst}
+use Rattle.std.specs.Prelude.{◌&&◌, ◌||◌, Contains, filter, max, not}
+use Rattle.std.specs.List.{list_any}
+use Rattle.std.proofs.lemmas.List.{reverse-append}
+use Rattle.std.proofs.lemmas.List.Elements.{filter_agree}
+use Rattle.machine_core.specs.Replays.{is_active_in}
+use Rattle.machine_core.specs.Starts.{Download, RunStart}
+use Rattle.machine_core.specs.declared.ends.End.TheVariants as end
+use Rattle.machine_core.specs.declared.events.Event.{Event}
+use Rattle.machine_core.specs.declared.events.Event.TheVariants.{Ended}
+use Rattle.machine_core.specs.declared.handed.Handed.{Handed}
+use Rattle.rate_tokens.specs.Level.{Level}
+use Rattle.turn_desk.specs.Turns.{turn_of}
+use Rattle.turn_desk.specs.declared.turn.Stamp.{Stamp}
+use Rattle.engine_turns.specs.Levels.{downloads_of, level_of_download, level_on, overall_rate, own_levels, spent_by}
+use Rattle.engine_turns.specs.Phases.{TurnStart}
+use Rattle.engine_turns.specs.RunTurns.{IsTurnAnswered, MayComeAfter, answer_before, brought_bytes, ties_turn, turn_start}
+use Rattle.engine_turns.specs.Standings.{RunStanding, standing_after}
+use Rattle.engine_turns.specs.Told.{RunTurn, handed_by, handed_in, history_after, history_of, is_taken, latest_moment, moment_of_operation, seals_handed, settles_handed, stays_out}
+use Rattle.engine_turns.specs.declared.operations.Operation.{Operation}
+use Rattle.engine_turns.specs.declared.operations.Said.{Said}
+use Rattle.engine_core.specs.Buckets.{HasRates, own_levels_on}
+use Rattle.engine_core.specs.Engines.{KeepsRates, StandsAfter, TakesTurn, past_of, standing_of, stands_for, start_of}
+use Rattle.engine_core.specs.Handing.{stays_handed}
+use Rattle.engine_core.specs.Performing.{IsAnsweredBy, Performs}
+use Rattle.engine_core.specs.declared.state.EngineState.{EngineState}
+use Rattle.engine_core.proofs.Downloads.{downloads_grow, each_found}
+use Rattle.engine_core.proofs.Handings.{filter_twice}
+use Rattle.engine_core.proofs.Levels.{turn_levels}
+use Rattle.engine_core.proofs.Turning.{events_behind, in_order}
+
+-- ---- what is answered
+
+same_answer : (start : RunStart) (told : List RunTurn) (t : RunTurn) (o : Option Said)
+    → IsAnsweredBy (turn_start start told t) (standing_after start told) t.op t.events t.answer.said o
+    → IsTurnAnswered start told t o
+same_answer start told t (Some before) is = is
+same_answer start told t None is = is
+
+-- ---- what is handed out
+
+joined : (a s k : Bool) → ((a && not s) && not k) ≡ (a && not (s || k))
+joined true true true = refl
+joined true true false = refl
+joined true false true = refl
+joined true false false = refl
+joined false s k = refl
+
+-- ---- the whole
+
+module _ {D : Type 0} (op : Operation) (said : Said) (back : List ℕ) (f f' : ℕ) (old mid new : EngineState D)
+    (done : Performs op old f mid f' said) (run : new.run ≡ mid.run) (limits : new.limits ≡ mid.limits)
+    (handed : new.handed.pieces
+    ≡ filter (stays_handed (start_of mid) (past_of mid) (drop (length (reverse (past_of old))) (reverse (past_of mid)))) mid.handed.pieces)
+    (back_is : back ≡ brought_bytes op) (turns : List RunTurn) (pass : ℕ) (m m' : Stamp) (faults : m.faults ≡ f)
+    (faults_after : m'.faults ≡ f') (stands : stands_for old turns) where
+  abbrev pub told : List RunTurn
+  told = reverse turns
+
+  abbrev pub t : RunTurn
+  t = turn_of pass turns op (record { said = said; back = back }) (reverse (past_of old)) m (reverse (past_of new)) m'
+
+  past_is : past_of old ≡ history_of told
+  past_is = ap (λ (s : RunStanding). s.past) stands.is
+
+  same_past : past_of new ≡ past_of mid
+  same_past = ap (λ r. r.machine.past) run
+
+  same_start : start_of new ≡ start_of old
+  same_start = ap (λ r. r.machine.start) run ∙ done.answers.start
+
+  events_are : t.events ≡ done.answers.events
+  events_are = events_behind (past_of old) done.answers.events (past_of new) (same_past ∙ done.answers.grown)
+
+  now_is : mid.run.now.0 ≡ max (moment_of_operation op) (latest_moment told)
+  now_is = done.answers.now ∙ ap (max (moment_of_operation op)) stands.now
+
+  at_is : record { start = start_of old; now = mid.run.now; faults = f } ≡ turn_start (start_of old) told t
+  at_is i = record { start = start_of old; now = record { 0 = now_is i }; faults = sym faults i }
+
+  answered : IsTurnAnswered (start_of old) told t (answer_before (start_of old) (history_of told) op)
+  answered =
+      same_answer (start_of old) told t (answer_before (start_of old) (history_of told) op)
+      (subst (λ (p : List Event). IsAnsweredBy (turn_start (start_of old) told t) (standing_after (start_of old) told) op t.events said (answer_before (start_of old) p op)) past_is
+      (subst (λ (es : List Event). IsAnsweredBy (turn_start (start_of old) told t) (standing_after (start_of old) told) op es said (answer_before (start_of old) (past_of old) op)) (sym events_are)
+      (subst (λ (s : RunStanding). IsAnsweredBy (turn_start (start_of old) told t) s op done.answers.events said (answer_before (start_of old) (past_of old) op)) stands.is
+      (subst (λ (a : TurnStart). IsAnsweredBy a (standing_of old) op done.answers.events said (answer_before (start_of old) (past_of old) op)) at_is
+      done.answers.answered))))
+
+  may_come : MayComeAfter (start_of old) told t
+  may_come = record {
+    back = back_is;
+    answered = answered;
+    counts = λ gid count there. subst (λ (n : ℕ). count ≤ n) (sym faults_after)
+        (done.answers.counts gid count
+        (subst (λ (es : List Event). Contains es (Ended gid (end.Disk count))) events_are there));
+  }
+
+  -- ---- after it
+
+  past_after : past_of new ≡ history_of (t ∷ told)
+  past_after =
+      same_past ∙ (done.answers.grown ∙ (ap (λ (p : List Event). history_after p done.answers.events) past_is
+      ∙ ap (history_after (history_of told)) (sym events_are)))
+
+  mid_past : past_of mid ≡ history_of (t ∷ told)
+  mid_past = sym same_past ∙ past_after
+
+  handed_are : new.handed.pieces ≡ handed_in (start_of old) (t ∷ told)
+  handed_are =
+      handed
+      ∙ (ap (λ (es : List Event). filter (stays_handed (start_of mid) (past_of mid) es) mid.handed.pieces) drops
+      ∙ (ap (λ (s : RunStart). filter (stays_handed s (past_of mid) t.events) mid.handed.pieces) done.answers.start
+      ∙ (ap (λ (p : List Event). filter (stays_handed (start_of old) p t.events) mid.handed.pieces) mid_past
+      ∙ (ap (filter (stays_handed (start_of old) (history_of (t ∷ told)) t.events)) done.handed
+      ∙ (filter_twice (stays_handed (start_of old) (history_of (t ∷ told)) t.events)
+      (λ h. not (seals_handed h op && is_taken said)) (handed_by said ++ old.handed.pieces)
+      ∙ (filter_agree
+      (λ h. stays_handed (start_of old) (history_of (t ∷ told)) t.events h && not (seals_handed h op && is_taken said))
+      (stays_out (start_of old) t (history_of (t ∷ told)))
+      (λ h. joined (is_active_in (start_of old) (history_of (t ∷ told)) h.gid)
+      (list_any (settles_handed h) t.events) (seals_handed h op && is_taken said)) (handed_by said ++ old.handed.pieces)
+      ∙ ap (λ (hs : List Handed). filter (stays_out (start_of old) t (history_of (t ∷ told))) (handed_by said ++ hs))
+      (ap (λ (s : RunStanding). s.handed) stands.is)))))))
+    where
+      drops : drop (length (reverse (past_of old))) (reverse (past_of mid)) ≡ t.events
+      drops = ap (λ (p : List Event). drop (length (reverse (past_of old))) (reverse p)) (sym same_past)
+
+  spent_is : spent_by (start_of old) (past_of old) op said ≡ spent_by (start_of old) (history_of told) op said
+  spent_is = ap (λ (p : List Event). spent_by (start_of old) p op said) past_is
+
+  overall_is : new.limits.overall
+      ≡ level_on (spent_by (start_of old) (history_of told) op said) (overall_rate (start_of old) (history_of told))
+      (overall_rate (start_of old) (history_of (t ∷ told))) (max (moment_of_operation op) (latest_moment told)) old.limits.overall
+  overall_is =
+      ap (λ l. l.overall) limits
+      ∙ (done.answers.levels.overall
+      ∙ (λ i. level_on (spent_is i) (overall_rate (start_of old) (past_is i)) (overall_rate (start_of old) (mid_past i))
+      (now_is i) old.limits.overall))
+
+  overall_after : new.limits.overall ≡ (standing_after (start_of old) (t ∷ told)).overall
+  overall_after =
+      overall_is
+      ∙ ap (λ (level : Level). level_on (spent_by (start_of old) (history_of told) op said)
+      (overall_rate (start_of old) (history_of told)) (overall_rate (start_of old) (history_of (t ∷ told)))
+      (max (moment_of_operation op) (latest_moment told)) level) (ap (λ (s : RunStanding). s.overall) stands.is)
+
+  own_is : new.limits.own
+      ≡ own_levels_on (start_of old) (history_of told) (history_of (t ∷ told))
+      (spent_by (start_of old) (history_of told) op said) (max (moment_of_operation op) (latest_moment told))
+      (downloads_of (start_of old) (history_of (t ∷ told))) (own_levels (start_of old) told)
+  own_is =
+      ap (λ l. l.own) limits
+      ∙ (done.answers.levels.own
+      ∙ (λ i. own_levels_on (start_of old) (past_is i) (mid_past i) (spent_is i) (now_is i)
+      (downloads_of (start_of old) (mid_past i)) (ap (λ (s : RunStanding). s.own) stands.is i)))
+
+  own_after : new.limits.own ≡ own_levels (start_of old) (t ∷ told)
+  own_after =
+      let grows = downloads_grow (start_of old) (history_of told) t.events in
+      let ds = downloads_of (start_of old) (history_of told) in
+      own_is
+      ∙ (ap (λ (all : List Download). own_levels_on (start_of old) (history_of told) (history_of (t ∷ told))
+      (spent_by (start_of old) (history_of told) op said) (max (moment_of_operation op) (latest_moment told)) all
+      (own_levels (start_of old) told)) grows.is
+      ∙ (sym (turn_levels (start_of old) t told ds grows.more (each_found ds) grows.fresh)
+      ∙ ap (map (level_of_download (start_of old) (t ∷ told))) (sym grows.is)))
+
+  stands_then : StandsAfter new (t ∷ told)
+  stands_then = record {
+    now = ap (λ r. r.now.0) run ∙ now_is;
+    is = standing_is ∙ ap (λ (s : RunStart). standing_after s (t ∷ told)) (sym same_start);
+  }
+    where
+      standing_is : standing_of new ≡ standing_after (start_of old) (t ∷ told)
+      standing_is i = record { past = past_after i; handed = handed_are i; overall = overall_after i; own = own_after i }
+
+  pub serves : ties_turn (start_of old) turns t × stands_for new (turns ++ t ∷ [])
+  serves = (may_come, subst (StandsAfter new) (sym (reverse-append turns (t ∷ []))) stands_then)
+
+-- ---- a method that takes one turn
+
+module _ {D : Type 0} (faults : D → ℕ) (op : Operation) (said : Said) (old inside mid new : EngineState D) (from : ℕ)
+    (seen : inside ≡ old) (did : Performs op inside (faults inside.run.disk) mid (faults mid.run.disk) said)
+    (from_is : from ≡ length (reverse (past_of inside))) (run : new.run ≡ mid.run) (limits : new.limits ≡ mid.limits)
+    (handed : new.handed.pieces
+    ≡ filter (stays_handed (start_of mid) (past_of mid) (drop from (reverse (past_of mid)))) mid.handed.pieces) where
+  done_since : Performs op old (faults old.run.disk) mid (faults mid.run.disk) said
+  done_since = subst (λ (e : EngineState D). Performs op e (faults e.run.disk) mid (faults mid.run.disk) said) seen did
+
+  handed_since : new.handed.pieces
+      ≡ filter (stays_handed (start_of mid) (past_of mid) (drop (length (reverse (past_of old))) (reverse (past_of mid)))) mid.handed.pieces
+  handed_since =
+      handed
+      ∙ ap (λ (n : ℕ). filter (stays_handed (start_of mid) (past_of mid) (drop n (reverse (past_of mid)))) mid.handed.pieces)
+      (from_is ∙ ap (λ (e : EngineState D). length (reverse (past_of e))) seen)
+
+  pub takes_turn : TakesTurn faults op old new said
+  takes_turn =
+      let done = done_since in
+      record {
+        start = ap (λ r. r.machine.start) run ∙ done.answers.start;
+        entries = (
+          done.answers.events,
+          ap (λ r. reverse r.machine.past) run
+              ∙ (ap reverse done.answers.grown ∙ in_order (past_of old) done.answers.events),
+        );
+        faults_later = subst (λ (n : ℕ). faults old.run.disk ≤ n) (sym (ap (λ r. faults r.disk) run)) done.answers.later;
+        turn = λ turns pass is. serves op said (brought_bytes op) (faults old.run.disk) (faults mid.run.disk) old mid new done run
+            limits handed_since refl turns pass (record { time = 0; faults = faults old.run.disk })
+            (record { time = 0; faults = faults new.run.disk }) refl (ap (λ r. faults r.disk) run) is;
+      }
+
+  -- and the buckets have their rates still
+  pub rates_since : KeepsRates new
+  rates_since =
+      subst (λ r. HasRates r.machine.start r.machine.past new.limits) (sym run)
+      (subst (λ l. HasRates (start_of mid) (past_of mid) l) (sym limits) done_since.rates)

@@ -1,0 +1,29 @@
+-- The buckets of a run from one turn to the next.
+use Rattle.std.specs.Prelude.{◌≡◌, ℕ, Option, Some, List, [], ◌∷◌, length, slice_get}
+use Rattle.machine_core.specs.Starts.{Download, RunStart}
+use Rattle.machine_core.specs.declared.events.Event.{Event}
+use Rattle.rate_limits.specs.Shared.{RunLevels, own_level}
+use Rattle.rate_tokens.specs.Level.{Level, full_level}
+use Rattle.engine_turns.specs.Levels.{Spending, downloads_of, level_on, overall_rate, own_rate, own_spending}
+
+-- each bucket has the rate that the options give
+pub record HasRates (start : RunStart) (past : List Event) (levels : RunLevels) : Type 0 where
+  pub many : length levels.own ≡ length (downloads_of start past)
+  pub overall : levels.overall.rate ≡ overall_rate start past
+  pub own : (place : ℕ) (download : Download) → slice_get (downloads_of start past) place ≡ Some download
+      → (own_level levels place).rate ≡ own_rate start past download
+
+-- from one history to another: those of downloads that were there go on, and a download that comes has a full one
+abbrev pub own_levels_on : RunStart → (past after : List Event) → Option Spending → ℕ → List Download → List Level
+    → List Level
+own_levels_on start past after spent now [] levels = []
+own_levels_on start past after spent now (d ∷ ds) [] =
+    full_level (own_rate start after d) now ∷ own_levels_on start past after spent now ds []
+own_levels_on start past after spent now (d ∷ ds) (level ∷ levels) =
+    level_on (own_spending d.gid spent) (own_rate start past d) (own_rate start after d) now level
+    ∷ own_levels_on start past after spent now ds levels
+
+pub record LevelsGoOn (start : RunStart) (past after : List Event) (spent : Option Spending) (now : ℕ)
+    (old new : RunLevels) : Type 0 where
+  pub overall : new.overall ≡ level_on spent (overall_rate start past) (overall_rate start after) now old.overall
+  pub own : new.own ≡ own_levels_on start past after spent now (downloads_of start after) old.own

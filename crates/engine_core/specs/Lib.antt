@@ -1,0 +1,5 @@
+pub mod Engines
+pub mod Buckets
+pub mod Beginning
+pub mod Performing
+pub mod Handing

@@ -1,0 +1,50 @@
+-- What an operation does to a run, and what is answered.
+use Rattle.std.specs.Prelude.{◌≡◌, ◌⊎◌, ◌≤◌, ◌&&◌, ℕ, max, not, true, Contains, Option, Some, None, List, ◌++◌, filter}
+use Rattle.dl_kinds.specs.declared.gid.Gid.{Gid}
+use Rattle.machine_core.specs.declared.ends.End.TheVariants as end
+use Rattle.machine_core.specs.declared.events.Event.{Event}
+use Rattle.machine_core.specs.declared.events.Event.TheVariants.{Ended}
+use Rattle.machine_core.specs.declared.handed.Handed.{Handed}
+use Rattle.engine_turns.specs.Levels.{spent_by}
+use Rattle.engine_turns.specs.Phases.{TurnStart}
+use Rattle.engine_turns.specs.RunTurns.{OperationRow, answer_before, takes_memory}
+use Rattle.engine_turns.specs.Standings.{AnswersOnly, RunStanding}
+use Rattle.engine_turns.specs.Told.{handed_by, history_after, is_taken, moment_of_operation, seals_handed}
+use Rattle.engine_turns.specs.declared.operations.Operation.{Operation}
+use Rattle.engine_turns.specs.declared.operations.Said.{Said}
+use Rattle.engine_turns.specs.declared.operations.Said.TheVariants.{NoMemory}
+use Rattle.engine_core.specs.Buckets.{LevelsGoOn}
+use Rattle.engine_core.specs.Engines.{KeepsRates, past_of, standing_of, start_of}
+use Rattle.engine_core.specs.declared.state.EngineState.{EngineState}
+
+-- what is answered before anything is done; otherwise the operation's row, or want of memory before it began
+abbrev pub IsAnsweredBy : TurnStart → RunStanding → Operation → List Event → Said → Option Said → Type 0
+IsAnsweredBy at s op events said (Some before) = AnswersOnly before events said
+IsAnsweredBy at s op events said None =
+    ((takes_memory op ≡ true) × AnswersOnly NoMemory events said) ⊎ OperationRow at s op events said
+
+-- the pieces that are out once an operation is answered, as far as its events don't tell
+abbrev pub handed_after : Operation → Said → List Handed → List Handed
+handed_after op said handed = filter (λ h. not (seals_handed h op && is_taken said)) (handed_by said ++ handed)
+
+module _ {D : Type 0} where
+  -- the events and the answer of an operation, by the counts of the disk's faults before and after it
+  pub record Answers (op : Operation) (old : EngineState D) (faults : ℕ) (new : EngineState D) (faults_after : ℕ)
+      (said : Said) : Type 0 where
+    pub start : start_of new ≡ start_of old
+    pub now : new.run.now.0 ≡ max (moment_of_operation op) old.run.now.0
+    pub events : List Event
+    pub grown : past_of new ≡ history_after (past_of old) events
+    pub answered : IsAnsweredBy (record { start = start_of old; now = new.run.now; faults = faults }) (standing_of old)
+        op events said (answer_before (start_of old) (past_of old) op)
+    pub later : faults ≤ faults_after
+    pub counts : (gid : Gid) (count : ℕ) → Contains events (Ended gid (end.Disk count)) → count ≤ faults_after
+    pub levels : LevelsGoOn (start_of old) (past_of old) (past_of new)
+        (spent_by (start_of old) (past_of old) op said) new.run.now.0 old.limits new.limits
+
+  -- .. and the pieces that are out before those go that its events settle; the buckets have their rates
+  pub record Performs (op : Operation) (old : EngineState D) (faults : ℕ) (new : EngineState D) (faults_after : ℕ)
+      (said : Said) : Type 0 where
+    pub answers : Answers op old faults new faults_after said
+    pub handed : new.handed.pieces ≡ handed_after op said old.handed.pieces
+    pub rates : KeepsRates new

@@ -1,0 +1,79 @@
+// What is asked and told of claims, and what needs none.
+ghost use Rattle.std.specs.Prelude.{◌≡◌};
+ghost use Rattle.engine_turns.specs.declared.operations.Operation.TheVariants as operation;
+ghost use Rattle.engine_core.specs.Engines.{KeepsRates};
+ghost use Rattle.engine_core.specs.Performing.{Performs};
+
+use crate::state::EngineState;
+use dl_disk::Disk;
+use dl_kinds::{Mark, Moment, Run};
+use engine_turns::Said;
+
+impl<D: Disk> EngineState<D> {
+    // Blocks of a claim came.
+    pub(crate) fn deliver(&mut self, claim: u64, run: Run, bytes: &[u8], now: Moment) -> Said
+        requires { KeepsRates self.old }
+        ensures { Performs (operation.Deliver claim run bytes.now now) self.old
+            (D.faults self.old.run.disk) self.new (D.faults self.new.run.disk) result }
+    {
+        match self.begin(false, now) {
+            Ok(()) => self.run.deliver(claim, run, bytes),
+            Err(said) => said,
+        }
+    }
+
+    // A claim failed.
+    pub(crate) fn lose(&mut self, claim: u64, mark: Mark, now: Moment) -> Said
+        requires { KeepsRates self.old }
+        ensures { Performs (operation.Lose claim mark now) self.old (D.faults self.old.run.disk)
+            self.new (D.faults self.new.run.disk) result }
+    {
+        match self.begin(false, now) {
+            Ok(()) => self.run.lose(claim, mark),
+            Err(said) => said,
+        }
+    }
+
+    // A probe told a length.
+    pub(crate) fn size(&mut self, claim: u64, total: u64, now: Moment) -> Said
+        requires { KeepsRates self.old }
+        ensures { Performs (operation.Sized claim total now) self.old (D.faults self.old.run.disk)
+            self.new (D.faults self.new.run.disk) result }
+    {
+        match self.begin(false, now) {
+            Ok(()) => self.run.size(claim, total),
+            Err(said) => said,
+        }
+    }
+
+    // A door of the console closed.
+    pub(crate) fn leave(&mut self) -> Said
+        requires { KeepsRates self.old }
+        ensures { Performs operation.Leave self.old (D.faults self.old.run.disk)
+            self.new (D.faults self.new.run.disk) result }
+    {
+        self.run.leave()
+    }
+
+    // The run is to stop.
+    pub(crate) fn stop(&mut self, now: Moment) -> Said
+        requires { KeepsRates self.old }
+        ensures { Performs (operation.Stop now) self.old (D.faults self.old.run.disk)
+            self.new (D.faults self.new.run.disk) result }
+    {
+        self.run.come_to(now);
+        self.run.stop()
+    }
+
+    // Whether anything is left to do.
+    pub(crate) fn pulse(&self) -> Said
+        requires { KeepsRates self.now }
+        ensures { Performs operation.Pulse self.entry.now (D.faults self.entry.now.run.disk)
+            self.entry.now (D.faults self.entry.now.run.disk) result }
+    {
+        match self.front(true, false) {
+            Some(said) => said,
+            None => Said::Idle,
+        }
+    }
+}

@@ -1,0 +1,11 @@
+//! A run that is steered by turns: each operation is the turn that the definitions of `engine_turns` say.
+#![tactic(auto)]
+
+mod claims;
+mod engine;
+mod front;
+mod handing;
+mod state;
+
+pub use engine::Engine;
+pub use state::EngineState;
