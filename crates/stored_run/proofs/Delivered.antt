@@ -1,15 +1,14 @@
 -- What a delivery fills, and what is answered for it.
-use Rattle.std.proofs.Common.{◌≡◌, ◌≢◌, ◌⊎◌, inl, inr, ⊎_elim, ℕ, suc, ◌<◌, ◌≤◌, ◌+◌, ◌-◌, ◌^◌, Bool, true, false, Some, List, [], ◌∷◌, ◌++◌, length, get_or, refl, sym, ap, ◌∙◌, subst, arith}
-use Rattle.std.specs.Prelude.{◌==◌, ◌↔◌, Contains, IsTrue, MatchBool, Option, sum_by}
+use Rattle.std.proofs.Common.{◌≡◌, inl, inr, ℕ, suc, ◌<◌, ◌≤◌, ◌+◌, ◌-◌, ◌^◌, Bool, true, false, Some, List, [], ◌∷◌, length, get_or, refl, sym, ap, ◌∙◌, subst, arith}
+use Rattle.std.specs.Prelude.{◌==◌, Contains, MatchBool, Option, sum_by}
 use Rattle.control_file.specs.declared.want.Want.{Want}
 use Rattle.std.proofs.lemmas.Bool.{eq-eqb, eqb-true}
 use Rattle.std.proofs.lemmas.List.Elements.{All-contains}
-use Rattle.dl_history.specs.HistoryLaws.{IsFullIn}
 use Rattle.dl_history.specs.OwnEvents.{OwnEvent}
 use Rattle.dl_history.specs.OwnLegal.{LegalOwn}
-use Rattle.dl_history.specs.PayloadParts.{is_opened, is_settled_in, is_verified_in}
+use Rattle.dl_history.specs.PayloadParts.{is_opened}
 use Rattle.dl_history.specs.StandingClaims.{is_open_since, is_probe, standing_claims}
-use Rattle.dl_history.proofs.Bools.{and_left, true_not_false}
+use Rattle.dl_history.proofs.Bools.{true_not_false}
 use Rattle.dl_history.proofs.Members.{Has}
 use Rattle.dl_kinds.specs.Plan.{IsPlan, block_end, block_start, blocks_of, piece_of, pieces_of}
 use Rattle.dl_kinds.specs.PlanLaws.{BlocksAreOfPieces, BlocksFollow}
@@ -18,13 +17,11 @@ use Rattle.dl_kinds.specs.declared.gid.Gid.{Gid}
 use Rattle.dl_kinds.specs.declared.runs.Run.{Run}
 use Rattle.piece_table.specs.Changes.{is_in}
 use Rattle.piece_table.specs.NewRuns.{IsIn}
-use Rattle.engine_turns.specs.ClaimRows.{DeliverRow, DeliveryPhase, IsDelivery, IsFilled, IsKept, blocks_in_event}
-use Rattle.engine_turns.specs.Phases.{TurnStart}
-use Rattle.engine_turns.specs.Standings.{AnswersUnlessStarved, IsHomeOf, OfClaim, RunStanding}
+use Rattle.engine_turns.specs.ClaimRows.{DeliverRow, DeliveryPhase, IsDelivery, IsKept, blocks_in_event}
+use Rattle.engine_turns.specs.Standings.{AnswersUnlessStarved, IsHomeOf, OfClaim}
 use Rattle.engine_turns.specs.declared.operations.Said.{Said}
 use Rattle.engine_turns.specs.declared.operations.Said.TheVariants.{Kept, Void}
 use Rattle.engine_turns.specs.declared.outcome.Outcome.{Outcome}
-use Rattle.engine_turns.specs.declared.outcome.Outcome.TheVariants.{Went}
 use Rattle.machine_core.specs.Claiming.{AreOpenIn}
 use Rattle.machine_core.specs.OwnParts.{PayloadLengths, own_of}
 use Rattle.machine_core.specs.Reads.{lengths_of_gid}

@@ -1,13 +1,11 @@
 -- Pieces that a delivery fills, one after another.
-use Rattle.std.proofs.Common.{◌≡◌, ◌≢◌, ◌⊎◌, inl, inr, ⊎_elim, ℕ, ◌<◌, ◌≤◌, ◌+◌, ◌-◌, Bool, true, false, Option, Some, None, List, [], ◌∷◌, ◌++◌, length, get_or, refl, sym, ap, ◌∙◌, subst, arith}
-use Rattle.std.specs.Prelude.{◌↔◌, All, AllPairs, Contains, IsTrue, slice_index_or, sum_by}
+use Rattle.std.proofs.Common.{◌≡◌, ◌⊎◌, inl, inr, ⊎_elim, ℕ, ◌<◌, ◌≤◌, ◌+◌, Bool, true, false, Option, Some, None, List, [], ◌∷◌, ◌++◌, length, refl, sym, ap, ◌∙◌, subst, arith}
+use Rattle.std.specs.Prelude.{◌↔◌, All, AllPairs, Contains, IsTrue, slice_index_or}
 use Rattle.std.specs.Option.{is_some}
-use Rattle.std.proofs.lemmas.Bool.{cases_eq, cases_lt}
+use Rattle.std.proofs.lemmas.Bool.{cases_eq}
 use Rattle.std.proofs.lemmas.List.{append-nil, append_assoc}
-use Rattle.std.proofs.lemmas.List.Elements.{All-contains, All-get_or, All-push, All-weaker, Contains-append_left, Contains-push}
+use Rattle.std.proofs.lemmas.List.Elements.{All-get_or, All-push, All-weaker, Contains-append_left, Contains-push}
 use Rattle.std.proofs.lemmas.List.Quantifiers.{all_pairs_push}
-use Rattle.std.proofs.lemmas.Option.{same_Some}
-use Rattle.control_file.specs.declared.want.Want.{Want}
 use Rattle.dl_history.specs.AccountLaws.{AccountsMatchEvents, MatchesEvents}
 use Rattle.dl_history.specs.Accounts.{Account, account_of}
 use Rattle.dl_history.specs.HistoryLaws.{IsFullIn}
@@ -25,7 +23,6 @@ use Rattle.engine_turns.specs.Told.{history_after}
 use Rattle.engine_turns.specs.declared.outcome.Outcome.{Outcome}
 use Rattle.engine_turns.specs.declared.outcome.Outcome.TheVariants.{Went}
 use Rattle.machine_core.specs.OwnParts.{PayloadLengths, own_of}
-use Rattle.machine_core.specs.MachineViews.{IsFindingOf, IsNext}
 use Rattle.machine_core.specs.Reads.{lengths_of_gid}
 use Rattle.machine_core.specs.RunLegal.{download_in, is_listed, known_lengths}
 use Rattle.machine_core.specs.Starts.{Download, RunStart}
@@ -35,10 +32,10 @@ use Rattle.one_download.proofs.Blocks.{blocks_of_full, full_of_blocks}
 use Rattle.piece_table.specs.Progress.{IsFull, Progress}
 use Rattle.piece_table.specs.declared.giver.Giver.{Giver}
 use Rattle.piece_table.specs.declared.giver.Giver.TheVariants.{Nobody}
-use Rattle.stored_run.specs.Deliveries.{AreFullBeside, AreUnsettled, CountsFilled, CountsPiece, FillsPieces, IsAmong, IsFullBeside, IsRunOfPayload, IsUnsettledWhereFull, MarksFilled, filling_phase, last_piece, mark_at}
+use Rattle.stored_run.specs.Deliveries.{AreFullBeside, AreUnsettled, CountsFilled, CountsPiece, FillsPieces, IsAmong, IsFullBeside, IsUnsettledWhereFull, MarksFilled, filling_phase, last_piece, mark_at}
 use Rattle.stored_run.specs.RunFollows.{RunFollows}
 use Rattle.stored_run.specs.Steps.{Continues, DoesPart, turn_from}
-use Rattle.stored_run.specs.Views.{IsGoing, own_in}
+use Rattle.stored_run.specs.Views.{own_in}
 use Rattle.stored_run.specs.declared.run.StoredView.{StoredView}
 use Rattle.stored_run.proofs.Doing.{IsGrown, did_wider, grown_none, history_on, part_on}
 use Rattle.stored_run.proofs.Findings.{gid_found, same_lengths, settled_own}

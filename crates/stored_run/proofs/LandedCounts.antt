@@ -1,10 +1,10 @@
 -- How many blocks land in the parts of a turn.
-use Rattle.std.proofs.Common.{◌≡◌, ◌≢◌, ◌⊎◌, inl, inr, ⊎_elim, ℕ, ◌≤◌, ◌+◌, Bool, true, false, List, [], ◌∷◌, ◌++◌, refl, sym, ap, ◌∙◌, subst, arith}
+use Rattle.std.proofs.Common.{◌≡◌, inl, inr, ℕ, ◌+◌, Bool, true, false, List, [], ◌∷◌, refl, ap, ◌∙◌, arith}
 use Rattle.std.specs.Prelude.{sum_by}
 use Rattle.std.proofs.lemmas.List.Sums.{sum_by-append, sum_by-cons}
 use Rattle.dl_kinds.specs.declared.gid.Gid.{Gid}
-use Rattle.engine_turns.specs.ClaimRows.{DueSavePhase, IsSaveDue, blocks_in_event}
-use Rattle.engine_turns.specs.Phases.{AfterDisk, AllRightPhase, AndThen, CheckedPhase, CompletionPhase, DiskFaultEnds, EndAfterDisk, EndingOr, FindingPhase, JustEnd, NoEvent, Phase, SavePhase, SettlingPhase, TurnStart, after_finding_phase}
+use Rattle.engine_turns.specs.ClaimRows.{DueSavePhase, blocks_in_event}
+use Rattle.engine_turns.specs.Phases.{AfterDisk, AllRightPhase, AndThen, CheckedPhase, CompletionPhase, DiskFaultEnds, EndAfterDisk, EndingOr, FindingPhase, JustEnd, NoEvent, Phase, SettlingPhase, TurnStart, after_finding_phase}
 use Rattle.engine_turns.specs.Told.{history_after}
 use Rattle.engine_turns.specs.declared.outcome.Outcome.{Outcome}
 use Rattle.engine_turns.specs.declared.outcome.Outcome.TheVariants.{Over, Starved, Went}

@@ -1,14 +1,12 @@
 -- Runs of blocks that land one after another: their events, and what these leave of the run.
-use Rattle.std.proofs.Common.{◌≡◌, ◌≢◌, ◌⊎◌, inl, inr, ⊎_elim, ℕ, ◌<◌, ◌≤◌, ◌+◌, Bool, true, false, Some, List, [], ◌∷◌, ◌++◌, map, length, get_or, drop, take, zero, suc, refl, sym, ap, ◌∙◌, subst, arith}
-use Rattle.std.specs.Prelude.{All, Contains, IsSome, Option, nat_le, nat_lt, slice_get, sum_by}
+use Rattle.std.proofs.Common.{◌≡◌, ◌≢◌, inl, inr, ⊎_elim, ℕ, ◌<◌, ◌+◌, true, Some, List, [], ◌∷◌, ◌++◌, map, length, get_or, drop, take, zero, suc, refl, sym, ap, ◌∙◌, subst, arith}
+use Rattle.std.specs.Prelude.{Contains, IsSome, Option, nat_le, nat_lt, slice_get, sum_by}
 use Rattle.std.proofs.lemmas.Option.{get_or_from_slice_get}
 use Rattle.std.proofs.lemmas.Bool.{cases_eq, leb-true}
 use Rattle.std.proofs.Math.Seq.{take-suc}
 use Rattle.std.proofs.lemmas.List.{append-nil, append_assoc, take-append-drop}
 use Rattle.std.proofs.lemmas.List.Sums.{sum_by-cons}
 use Rattle.dl_history.specs.OwnEvents.{OwnEvent, Lands}
-use Rattle.dl_history.specs.OwnLegal.{MayLand}
-use Rattle.dl_history.specs.PayloadParts.{told_total}
 use Rattle.dl_history.specs.StandingClaims.{is_open_since, standing_claims}
 use Rattle.dl_kinds.specs.declared.claims.Claim.{Claim}
 use Rattle.dl_kinds.specs.declared.gid.Gid.{Gid}
@@ -24,13 +22,13 @@ use Rattle.engine_turns.specs.Told.{history_after}
 use Rattle.engine_turns.specs.declared.outcome.Outcome.{Outcome}
 use Rattle.engine_turns.specs.declared.outcome.Outcome.TheVariants.{Over, Starved, Went}
 use Rattle.machine_core.specs.Claiming.{AreOpenIn}
-use Rattle.machine_core.specs.MachineViews.{StandsUnder, standing_in}
-use Rattle.machine_core.specs.OwnParts.{PayloadLengths, own_of}
+use Rattle.machine_core.specs.MachineViews.{StandsUnder}
+use Rattle.machine_core.specs.OwnParts.{own_of}
 use Rattle.machine_core.specs.Reads.{lengths_of_gid}
 use Rattle.machine_core.specs.RunLegal.{IsLaterThan, MayFollow, download_in, known_lengths}
 use Rattle.machine_core.specs.Starts.{Download, RunStart}
 use Rattle.machine_core.specs.declared.events.Event.{Event}
-use Rattle.machine_core.specs.declared.events.Event.TheVariants.{Ended, Landed}
+use Rattle.machine_core.specs.declared.events.Event.TheVariants.{Landed}
 use Rattle.stored_run.specs.Deliveries.{IsPartOf, LandedBetween, landed_total}
 use Rattle.stored_run.specs.Landings.{IsOneUnder}
 use Rattle.stored_run.specs.Steps.{Continues, DoesPart, turn_from}

@@ -1,21 +1,21 @@
 -- What landings of a claim leave of the history of its download.
-use Rattle.std.proofs.Common.{◌≡◌, ◌≢◌, ◌⊎◌, inl, inr, ⊎_elim, ℕ, ◌<◌, ◌≤◌, ◌+◌, ◌-◌, ◌*◌, ◌/◌, zero, suc, Bool, true, false, cond, List, [], ◌∷◌, refl, sym, ap, ◌∙◌, subst, arith}
+use Rattle.std.proofs.Common.{◌≡◌, ℕ, ◌<◌, ◌≤◌, ◌+◌, zero, suc, Bool, true, false, List, [], ◌∷◌, refl, sym, ap, ◌∙◌, subst, arith}
 use Rattle.std.specs.Prelude.{◌==◌, ◌&&◌, ◌||◌, not, nat_le, nat_lt, All, Contains, find}
 use Rattle.std.specs.List.{list_any}
 use Rattle.std.specs.Option.{is_some}
 use Rattle.std.proofs.Math.Nat.{add-div_left, le-div_iff_mul-le, div-mul-le_self}
-use Rattle.std.proofs.lemmas.Bool.{eqb-true, eq-eqb, leb-true, ltb-true}
+use Rattle.std.proofs.lemmas.Bool.{eqb-true, eq-eqb, leb-true}
 use Rattle.std.proofs.lemmas.List.Elements.{All-head, All-tail}
-use Rattle.dl_kinds.specs.Plan.{IsPlan, blocks_of, full_blocks, piece_of, pieces_of}
+use Rattle.dl_kinds.specs.Plan.{IsPlan, full_blocks, piece_of, pieces_of}
 use Rattle.dl_kinds.specs.declared.claims.Claim.{Claim}
 use Rattle.dl_kinds.specs.declared.runs.Run.{Run}
 use Rattle.piece_table.specs.Changes.{is_in}
 use Rattle.dl_history.specs.HistoryLaws.{IsFullIn, VerifiedAreFull}
 use Rattle.dl_history.specs.OwnEvents.{OwnEvent, Lands}
 use Rattle.dl_history.specs.OwnLegal.{LegalOwn, MayLand}
-use Rattle.dl_history.specs.PayloadParts.{is_landed_in, is_opened, is_run_on, is_settled_in, is_verified_in, lands_on, settles_piece}
-use Rattle.dl_history.specs.StandingClaims.{blocks_in, grants_claim, granted_claims, is_open_since, is_probe, is_standing, lands_block, since, standing_claims}
-use Rattle.dl_history.proofs.Bools.{and_both, and_left, and_right, not_not, not_true, or_cases, or_right, true_not_false}
+use Rattle.dl_history.specs.PayloadParts.{is_landed_in, is_opened, is_run_on, is_settled_in, is_verified_in}
+use Rattle.dl_history.specs.StandingClaims.{blocks_in, granted_claims, is_open_since, is_probe, is_standing, standing_claims}
+use Rattle.dl_history.proofs.Bools.{and_both, and_left, not_not, not_true, or_cases, true_not_false}
 use Rattle.dl_history.proofs.Early.{below_end, first_in}
 use Rattle.dl_history.proofs.Ends.{has_come, has_ended, has_more, stood_before_landing}
 use Rattle.dl_history.proofs.Members.{Has, any_has, has_any, has_filter, in_filter}

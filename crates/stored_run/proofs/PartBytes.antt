@@ -1,9 +1,8 @@
 -- The places of consecutive blocks in a payload.
-use Rattle.std.proofs.Common.{◌≡◌, ℕ, zero, suc, ◌<◌, ◌≤◌, ◌+◌, ◌-◌, refl, sym, ap, subst, inl, inr, ⊎_elim, arith}
+use Rattle.std.proofs.Common.{◌≡◌, ℕ, zero, suc, ◌<◌, ◌≤◌, ◌+◌, ◌-◌, subst, ⊎_elim, arith}
 use Rattle.std.proofs.lemmas.Bool.{cases_eq}
 use Rattle.dl_kinds.specs.Plan.{IsPlan, block_end, block_start, blocks_of}
 use Rattle.dl_kinds.specs.PlanLaws.{BlocksFollow}
-use Rattle.dl_kinds.specs.declared.runs.Run.{Run}
 
 module _ (follow : BlocksFollow) (total len : ℕ) (plan : IsPlan total len) where
   rise_by : (b n : ℕ) → b + n < blocks_of total len → block_start len b ≤ block_start len (b + n)

@@ -14,13 +14,7 @@ use std::alloc::{AllocError, Global};
 impl<D: Disk> StoredRun<D> {
     /// A run in which nothing happened, on this disk. `gids` is what the gids of downloads are made from, `doors` how many
     /// doors the console has. Without memory the disk is given back.
-    pub fn new(
-        alloc: Global,
-        disk: D,
-        gids: u64,
-        global: Options,
-        doors: u16,
-    ) -> Result<Self, D>
+    pub fn new(alloc: Global, disk: D, gids: u64, global: Options, doors: u16) -> Result<Self, D>
         ensures run { IfOk result (IsNewRun disk gids global doors) }
         ensures disk { IfErr result (λ given_back. given_back ≡ disk) }
     {

@@ -1,4 +1,4 @@
-use Rattle.std.proofs.Common.{◌≡◌, ◌<◌, ◌∙◌, [], ◌∷◌, length, take, ap, arith, sym}
+use Rattle.std.proofs.Common.{◌<◌, ◌∙◌, [], ◌∷◌, length, take, ap, arith, sym}
 use Rattle.std.proofs.lemmas.List.Sums.{sum_by-append, sum_by-cons, sum_by_more_le}
 use Rattle.dl_kinds.specs.declared.runs.Run.{Run}
 use Rattle.stored_run.proofs.Landings.{run_there, taken_next}

@@ -1,4 +1,4 @@
-use Rattle.std.proofs.Common.{◌≡◌, ◌+◌, ◌-◌, ◌<◌, ◌≤◌, ◌∙◌, ℕ, None, [], false, ap, arith, refl, subst, sym}
+use Rattle.std.proofs.Common.{◌≡◌, ◌+◌, ◌-◌, ◌<◌, ◌∙◌, ℕ, None, [], false, ap, arith, refl, subst, sym}
 use Rattle.std.specs.Prelude.{slice_index_or}
 use Rattle.std.proofs.lemmas.Option.{same_Some}
 use Rattle.control_file.specs.declared.want.Want.{Want}
@@ -7,7 +7,7 @@ use Rattle.engine_turns.specs.Phases.{AllRightPhase}
 use Rattle.engine_turns.specs.declared.outcome.Outcome.TheVariants.{Went}
 use Rattle.machine_core.specs.OwnParts.{PayloadLengths}
 use Rattle.machine_core.specs.Reads.{lengths_of_gid}
-use Rattle.stored_run.specs.Deliveries.{IsAmong, last_piece, mark_at}
+use Rattle.stored_run.specs.Deliveries.{IsAmong, mark_at}
 use Rattle.stored_run.specs.Steps.{Continues}
 use Rattle.stored_run.specs.Views.{own_in}
 use Rattle.stored_run.proofs.Doing.{continues_none, continues_on, continues_wider, did_nothing, grown_none, stores_none}

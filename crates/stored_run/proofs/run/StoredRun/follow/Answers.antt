@@ -1,4 +1,3 @@
-use Rattle.std.proofs.Common.{arith}
 use Rattle.engine_turns.specs.ClaimRows.{DueSavePhase, filled_phase}
 use Rattle.engine_turns.specs.Phases.{EndingOr}
 use Rattle.engine_turns.specs.declared.outcome.Outcome.TheVariants.{Went}

@@ -1,10 +1,10 @@
-use Rattle.std.proofs.Common.{◌≡◌, ◌≢◌, ◌+◌, ◌-◌, ◌<◌, ◌≤◌, ◌∙◌, ℕ, Bool, List, false, ap, arith, get_or, get_or-set_other, get_or-set_same, ⊎_elim, set, length, subst, sym}
+use Rattle.std.proofs.Common.{◌≡◌, ◌≢◌, ◌-◌, ◌<◌, ◌∙◌, ℕ, Bool, List, false, ap, arith, get_or, get_or-set_other, get_or-set_same, ⊎_elim, length, subst, sym}
 use Rattle.std.specs.Prelude.{◌↔◌, IsTrue}
 use Rattle.std.proofs.lemmas.Bool.{cases_eq}
 use Rattle.std.proofs.lemmas.List.{length-set}
 use Rattle.dl_history.specs.HistoryLaws.{IsFullIn}
 use Rattle.machine_core.specs.Reads.{lengths_of_gid}
-use Rattle.stored_run.specs.Deliveries.{first_piece, last_piece, mark_at}
+use Rattle.stored_run.specs.Deliveries.{first_piece, mark_at}
 use Rattle.stored_run.specs.Views.{own_in}
 use Rattle.stored_run.proofs.run.StoredRun.full_pieces.Goals as goal
 

@@ -1,5 +1,5 @@
-use Rattle.std.proofs.Common.{◌≡◌, ◌<◌, ◌≤◌, ◌-◌, ℕ, false, length}
-use Rattle.std.specs.Prelude.{◌↔◌, IsTrue, slice_index_or}
+use Rattle.std.proofs.Common.{◌≡◌, ◌<◌, ◌≤◌, ℕ, length}
+use Rattle.std.specs.Prelude.{◌↔◌, IsTrue}
 use Rattle.dl_history.specs.HistoryLaws.{IsFullIn}
 use Rattle.machine_core.specs.Reads.{lengths_of_gid}
 use Rattle.stored_run.specs.Deliveries.{first_piece, mark_at}

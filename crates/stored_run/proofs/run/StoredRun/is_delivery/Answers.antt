@@ -1,4 +1,4 @@
-use Rattle.std.proofs.Common.{◌≡◌, ◌+◌, ◌-◌, ◌∙◌, ap, arith, length, subst, sym}
+use Rattle.std.proofs.Common.{◌≡◌, ◌+◌, ◌-◌, ◌∙◌, ap, arith, length}
 use Rattle.dl_kinds.specs.Plan.{block_end, block_start}
 use Rattle.machine_core.specs.Reads.{lengths_of_gid}
 use Rattle.stored_run.specs.Deliveries.{AreBlocksOf, Delivers}

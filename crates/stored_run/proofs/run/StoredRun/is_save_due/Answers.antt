@@ -1,19 +1,15 @@
-use Rattle.std.proofs.Common.{◌≡◌, ◌≤◌, ◌<◌, ◌+◌, ◌*◌, ◌∙◌, ℕ, Option, Some, None, ap, arith, subst, sym}
+use Rattle.std.proofs.Common.{◌≡◌, ◌∙◌, Some, None, ap, arith, subst, sym}
 use Rattle.std.specs.Option.{is_some, option_map}
 use Rattle.dl_history.specs.Listings.{last_saved}
 use Rattle.dl_kinds.specs.declared.gid.Gid.{Gid}
-use Rattle.dl_kinds.specs.declared.runs.Moment.{Moment}
 use Rattle.engine_turns.specs.ClaimRows.{IsSaveDue}
 use Rattle.machine_core.proofs.Begun.{copied_is, copied_some}
 use Rattle.machine_core.specs.Choices.{options_now}
-use Rattle.machine_core.specs.OwnParts.{own_of}
 use Rattle.machine_core.specs.RunLegal.{download_in}
-use Rattle.machine_core.specs.Starts.{Download}
 use Rattle.option_set.specs.Values.{OptionValues, number_value}
 use Rattle.option_set.specs.declared.kinds.Num.TheVariants.{AutoSaveInterval}
 use Rattle.stored_run.specs.Steps.{turn_from}
 use Rattle.stored_run.specs.Views.{IsGoing, own_in}
-use Rattle.stored_run.specs.declared.run.StoredView.{StoredView}
 use Rattle.stored_run.proofs.Delivered.{match_map}
 use Rattle.stored_run.proofs.DueSaves.{early_yet, is_due, saved_in, unsaved_yet}
 use Rattle.stored_run.proofs.Endings.{going_facts}

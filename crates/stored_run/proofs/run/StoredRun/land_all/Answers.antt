@@ -1,4 +1,4 @@
-use Rattle.std.proofs.Common.{◌≡◌, ◌+◌, ◌-◌, ◌<◌, ◌≤◌, ◌∙◌, List, [], ◌∷◌, length, take, arith, refl, subst, sym, ap, true}
+use Rattle.std.proofs.Common.{◌≡◌, ◌+◌, ◌-◌, ◌<◌, ◌∙◌, List, [], ◌∷◌, length, take, arith, refl, subst, sym, ap, true}
 use Rattle.std.proofs.lemmas.List.{take_all}
 use Rattle.std.proofs.lemmas.List.Sums.{sum_by-append, sum_by-cons, sum_by_more_le}
 use Rattle.dl_history.specs.StandingClaims.{is_open_since}
@@ -11,7 +11,7 @@ use Rattle.machine_core.specs.OwnParts.{PayloadLengths}
 use Rattle.machine_core.specs.RunLegal.{MayFollow}
 use Rattle.machine_core.specs.declared.events.Event.TheVariants.{Landed}
 use Rattle.stored_run.specs.Deliveries.{IsPartOf, IsRunOfPayload, LandedBetween}
-use Rattle.stored_run.specs.Steps.{Continues, DoesPart}
+use Rattle.stored_run.specs.Steps.{DoesPart}
 use Rattle.stored_run.specs.Views.{own_in}
 use Rattle.stored_run.proofs.Doing.{continues_none, continues_on, continues_wider, did_nothing, grown_none, stores_none}
 use Rattle.stored_run.proofs.Endings.{going_facts}

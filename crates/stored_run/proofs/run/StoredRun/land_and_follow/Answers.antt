@@ -1,6 +1,5 @@
-use Rattle.std.proofs.Common.{◌≡◌, ◌+◌, ◌≤◌, List, arith, subst, sym}
+use Rattle.std.proofs.Common.{arith, subst, sym}
 use Rattle.dl_kinds.specs.declared.gid.Gid.{Gid}
-use Rattle.dl_kinds.specs.declared.runs.Run.{Run}
 use Rattle.engine_turns.specs.ClaimRows.{DueSavePhase, filled_phase}
 use Rattle.engine_turns.specs.Phases.{AndThen, EndingOr, LandingsPhase}
 use Rattle.engine_turns.specs.declared.outcome.Outcome.{Outcome}

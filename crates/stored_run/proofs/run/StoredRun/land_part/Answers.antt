@@ -1,4 +1,4 @@
-use Rattle.std.proofs.Common.{◌-◌, arith, drop, take}
+use Rattle.std.proofs.Common.{◌-◌, arith, drop}
 use Rattle.std.proofs.lemmas.List.{length-drop, length-take}
 use Rattle.stored_run.proofs.run.StoredRun.land_part.Goals as goal
 

@@ -1,4 +1,4 @@
-use Rattle.std.proofs.Common.{◌≡◌, ◌+◌, ◌-◌, ◌<◌, ◌≤◌, ℕ, ap, arith, sym, ◌∙◌}
+use Rattle.std.proofs.Common.{◌≡◌, ◌+◌, ◌-◌, ap, arith, ◌∙◌}
 use Rattle.dl_kinds.specs.Plan.{block_end, block_start}
 use Rattle.machine_core.specs.Reads.{lengths_of_gid}
 use Rattle.stored_run.proofs.Delivered.{part_places}

@@ -1,4 +1,4 @@
-use Rattle.std.proofs.Common.{◌≡◌, ◌+◌, ◌-◌, ap, arith, subst, sym, ◌∙◌}
+use Rattle.std.proofs.Common.{◌≡◌, ◌+◌, ◌-◌, ap, arith, ◌∙◌}
 use Rattle.dl_kinds.specs.Plan.{piece_of}
 use Rattle.machine_core.specs.Reads.{lengths_of_gid}
 use Rattle.stored_run.specs.Deliveries.{first_piece, last_piece}

@@ -1,10 +1,9 @@
-use Rattle.std.proofs.Common.{Bool, ℕ, List, arith, inl, inr, subst, sym}
+use Rattle.std.proofs.Common.{Bool, arith, inl, inr, subst, sym}
 use Rattle.std.specs.Prelude.{MatchBool}
 use Rattle.dl_kinds.specs.declared.gid.Gid.{Gid}
 use Rattle.engine_turns.specs.ClaimRows.{DueSavePhase, IsSaveDue}
 use Rattle.engine_turns.specs.Phases.{NoEvent, SavePhase}
 use Rattle.engine_turns.specs.declared.outcome.Outcome.TheVariants.{Went}
-use Rattle.machine_core.specs.declared.events.Event.{Event}
 use Rattle.stored_run.specs.Steps.{turn_from}
 use Rattle.stored_run.specs.Views.{own_in}
 use Rattle.stored_run.proofs.Doing.{continues_none, continues_wider, did_nothing, did_wider, ends_stored, grown_none, stores_none}
