@@ -54,20 +54,25 @@ pub calm_lose : (at : TurnStart) (s : RunStanding) (mark : Mark) (download : Dow
 calm_lose at s mark download claim events said is =
     let piece = lost_piece at.start s.past download.gid claim in
     let sole = is_sole_in (own_of at.start s.past download.gid) piece in (
-    calm_then (JustEvent (Lost download.gid claim.id claim.mirror piece mark))
-    (AndThen (sole_phase download.gid piece sole) (DeadPhase at download piece))
-    (calm_event (Lost download.gid claim.id claim.mirror piece mark) refl)
-    (calm_then (sole_phase download.gid piece sole) (DeadPhase at download piece) (sole_calm download.gid piece sole)
-    (calm_dead at download piece)) s.past events is.0 is.1, ap lets_go is.2)
+      calm_then (JustEvent (Lost download.gid claim.id claim.mirror piece mark))
+          (AndThen (sole_phase download.gid piece sole) (DeadPhase at download piece))
+          (calm_event (Lost download.gid claim.id claim.mirror piece mark) refl)
+          (calm_then (sole_phase download.gid piece sole) (DeadPhase at download piece) (sole_calm download.gid piece sole)
+          (calm_dead at download piece)) s.past events is.0 is.1,
+      ap lets_go is.2,
+    )
 
 pub calm_sized : (at : TurnStart) (s : RunStanding) (total : ℕ) (download : Download) (claim : Claim)
     → IsCalmRow (SizedRow at s total download claim)
 calm_sized at s total download claim events said is = ⊎_elim
-    (λ told. (calm_then (JustEvent (Sized download.gid claim.id total))
-    (IfElse _ (JustEnd (Ended download.gid (end.TooLarge total))) NoEvent)
-    (calm_event (Sized download.gid claim.id total) refl)
-    (calm_if _ (JustEnd (Ended download.gid (end.TooLarge total))) NoEvent
-    (calm_end (Ended download.gid (end.TooLarge total)) refl) calm_none) s.past events told.1.0 told.1.1, ap lets_go told.1.2))
+    (λ told. (
+      calm_then (JustEvent (Sized download.gid claim.id total))
+          (IfElse _ (JustEnd (Ended download.gid (end.TooLarge total))) NoEvent)
+          (calm_event (Sized download.gid claim.id total) refl)
+          (calm_if _ (JustEnd (Ended download.gid (end.TooLarge total))) NoEvent
+          (calm_end (Ended download.gid (end.TooLarge total)) refl) calm_none) s.past events told.1.0 told.1.1,
+      ap lets_go told.1.2,
+    ))
     (λ void. calm_only Void refl events said void.1) is
 
 right_calm : (at : TurnStart) (download : Download) (pieces : List ℕ) → IsCalm (AllRightPhase at download pieces)
@@ -91,13 +96,14 @@ pub calm_deliver : (at : TurnStart) (s : RunStanding) (run : Run) (bytes : List 
 calm_deliver at s run bytes download claim events said is = ⊎_elim
     (λ (kept : _ × _).
     let here = kept.1 in (
-    calm_then (LandingsPhase at download.gid claim.id claim.mirror here.runs)
-    (AndThen (filled_phase at s.past download _) (EndingOr at download (DueSavePhase at download)))
-    (calm_landings at download.gid claim.id claim.mirror here.runs)
-    (calm_then (filled_phase at s.past download _) (EndingOr at download (DueSavePhase at download))
-    (filled_calm at s.past download _)
-    (calm_ending at download (DueSavePhase at download) (due_calm at download))) s.past events here.outcome here.is,
-    unless_starved _ here.outcome said refl here.answer))
+      calm_then (LandingsPhase at download.gid claim.id claim.mirror here.runs)
+          (AndThen (filled_phase at s.past download _) (EndingOr at download (DueSavePhase at download)))
+          (calm_landings at download.gid claim.id claim.mirror here.runs)
+          (calm_then (filled_phase at s.past download _) (EndingOr at download (DueSavePhase at download))
+          (filled_calm at s.past download _)
+          (calm_ending at download (DueSavePhase at download) (due_calm at download))) s.past events here.outcome here.is,
+      unless_starved _ here.outcome said refl here.answer,
+    ))
     (λ (void : _ × _). calm_only Void refl events said void.1) is
 
 -- ---- saves, and doors

@@ -35,13 +35,7 @@ impl<D: Disk> Model for Engine<D> {
 impl<D: Disk> Engine<D> {
     /// A run without turns, on this disk. `gids` is what the gids of downloads are made from, `doors` how many doors the
     /// console has. Without memory the disk is given back.
-    pub fn new(
-        alloc: Global,
-        disk: D,
-        gids: u64,
-        global: Options,
-        doors: u16,
-    ) -> Result<Self, D>
+    pub fn new(alloc: Global, disk: D, gids: u64, global: Options, doors: u16) -> Result<Self, D>
         ensures engine { IfOk result (IsNewEngine disk gids global doors) }
         ensures disk { IfErr result (λ given_back. given_back ≡ disk) }
     {
@@ -64,12 +58,11 @@ impl<D: Disk> Engine<D> {
         ensures events { result.1.events.items ≡ reverse (past_of self) }
     {
         let Engine {
-            state:
-                EngineState {
-                    run,
-                    handed: _,
-                    limits: _,
-                },
+            state: EngineState {
+                run,
+                handed: _,
+                limits: _,
+            },
         } = self;
         run.into_parts()
     }
