@@ -28,14 +28,14 @@ ReadsOrLoses parts before used bytes added room allow result new link faults = M
     (Loses parts before used bytes link.exchanges added allow faults new)
 
 -- so by what waits, without a call of the link
-abbrev pub GoesOn : {T : Type 0} → List JobPart → List Exchange → List ℕ → Result T Loss → Chain → Type 0
-GoesOn parts used bytes result new = MatchResult result
+abbrev pub MovesOrLoses : {T : Type 0} → List JobPart → List Exchange → List ℕ → Result T Loss → Chain → Type 0
+MovesOrLoses parts used bytes result new = MatchResult result
     (λ _. IsChain parts used bytes new)
     (λ loss. (faults : ℕ) → TellsLoss parts used bytes faults loss)
 
 -- the next request was sent, or the rest was lost
-abbrev pub Asks : {T : Type 0} → Chain → LinkState → Result T Loss → Chain → LinkState → ℕ → Type 0
-Asks old link result new new_link faults =
+abbrev pub SendsOrLoses : {T : Type 0} → Chain → LinkState → Result T Loss → Chain → LinkState → ℕ → Type 0
+SendsOrLoses old link result new new_link faults =
     ForEachUse old link (λ parts before used bytes. StepsOrLoses parts before used bytes [] old result new new_link faults)
 
 -- more of the newest exchange came, or the rest was lost

@@ -18,7 +18,7 @@ abbrev pub RestsOn : ChainRoom → LinkState → Type 0
 RestsOn room link = room.rests ≡ true → IsOpenTo room.peer link
 
 -- the reply of the exchange was received to the end of its body and nothing behind it, and the end of the connection wasn't told
-pub record IsWhole (stream : Exchange) : Type 0 where
+pub record IsReplyWhole (stream : Exchange) : Type 0 where
   pub url : List ℕ
   pub asked : Asked
   pub exchange : IsExchange url asked stream
@@ -27,11 +27,11 @@ pub record IsWhole (stream : Exchange) : Type 0 where
 
 -- so the reply of the newest of these exchanges, the oldest first
 abbrev pub NewestIsWhole : List Exchange → Type 0
-NewestIsWhole used = (older : List Exchange) × (newest : Exchange) × (used ≡ older ++ newest ∷ []) × IsWhole newest
+NewestIsWhole used = (older : List Exchange) × (newest : Exchange) × (used ≡ older ++ newest ∷ []) × IsReplyWhole newest
 
 -- so the reply of the newest of these exchanges, the newest first
 abbrev pub TopIsWhole : List Exchange → Type 0
-TopIsWhole exchanges = (newest : Exchange) × (older : List Exchange) × (exchanges ≡ newest ∷ older) × IsWhole newest
+TopIsWhole exchanges = (newest : Exchange) × (older : List Exchange) × (exchanges ≡ newest ∷ older) × IsReplyWhole newest
 
 -- a connection may take another request only behind such a reply
 abbrev pub RestsWhole : ChainRoom → List Exchange → Type 0

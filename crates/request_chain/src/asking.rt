@@ -4,7 +4,7 @@ ghost use Rattle.link_source.specs.Exchanges.{Exchange};
 ghost use Rattle.reply_reader.specs.Losses.{IsKnown};
 ghost use Rattle.reply_reader.specs.declared.loss.Loss.TheVariants.{Link};
 ghost use Rattle.request_chain.specs.Answered.{KeepsAnswers};
-ghost use Rattle.request_chain.specs.Calls.{Asks};
+ghost use Rattle.request_chain.specs.Calls.{SendsOrLoses};
 ghost use Rattle.request_chain.specs.Courses.{plan_now, IsAsking};
 ghost use Rattle.request_chain.specs.Links.{CountsLinkLoss};
 ghost use Rattle.request_chain.specs.Turns.{IfUnusable, MayGoOn, weight_of};
@@ -21,7 +21,7 @@ impl Chain {
     fn ask_first<L: Links>(&mut self, alloc: Global, link: &mut L) -> Result<(), Loss>
         requires asking { IsAsking (plan_now self.old.course) }
         requires none_open { self.old.stage ≡ Stage.Asking }
-        ensures asks { IsTrue L.tells → Asks self.old (L.state link.old) result
+        ensures asks { IsTrue L.tells → SendsOrLoses self.old (L.state link.old) result
             self.new (L.state link.new) (L.faults link.new) }
         ensures course { self.new.course ≡ self.old.course }
         ensures taken { self.new.taken ≡ self.old.taken }
@@ -50,7 +50,7 @@ impl Chain {
         requires none_open { self.old.stage ≡ Stage.Asking }
         requires rests { self.old.room.rests ≡ true }
         requires may { IsTrue L.tells → MayGoOn self.old (L.state link.old) }
-        ensures asks { IsTrue L.tells → Asks self.old (L.state link.old) result
+        ensures asks { IsTrue L.tells → SendsOrLoses self.old (L.state link.old) result
             self.new (L.state link.new) (L.faults link.new) }
         ensures course { self.new.course ≡ self.old.course }
         ensures taken { self.new.taken ≡ self.old.taken }
@@ -86,7 +86,7 @@ impl Chain {
         requires asking { IsAsking (plan_now self.old.course) }
         requires none_open { self.old.stage ≡ Stage.Asking }
         requires may { IsTrue L.tells → MayGoOn self.old (L.state link.old) }
-        ensures asks { IsTrue L.tells → Asks self.old (L.state link.old) result
+        ensures asks { IsTrue L.tells → SendsOrLoses self.old (L.state link.old) result
             self.new (L.state link.new) (L.faults link.new) }
         ensures course { self.new.course ≡ self.old.course }
         ensures taken { self.new.taken ≡ self.old.taken }

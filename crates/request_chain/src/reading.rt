@@ -3,7 +3,7 @@ ghost use Rattle.std.specs.Prelude.{◌≡◌, ◌≢◌, ◌⊎◌, ◌≤◌, 
 ghost use Rattle.link_source.specs.Exchanges.{Exchange};
 ghost use Rattle.reply_reader.specs.Losses.{IsKnown};
 ghost use Rattle.reply_reader.specs.declared.loss.Loss.TheVariants.{Link};
-ghost use Rattle.request_chain.specs.Calls.{GoesOn};
+ghost use Rattle.request_chain.specs.Calls.{MovesOrLoses};
 ghost use Rattle.request_chain.specs.Contents.{IsReadWhole};
 ghost use Rattle.request_chain.specs.Courses.{plan_now, IsAsking};
 ghost use Rattle.request_chain.specs.Plans.{asked_of};
@@ -33,7 +33,7 @@ impl Chain {
         requires none_open { self.old.stage ≡ Stage.Asking }
         ensures follows { (parts : List JobPart) (used : List Exchange) (bytes : List ℕ)
             → HeadIsRead parts used self.old.course self.old.room.inbox bytes head.now
-            → HasMoved self.old.course head.now → GoesOn parts used bytes result self.new }
+            → HasMoved self.old.course head.now → MovesOrLoses parts used bytes result self.new }
         ensures small { OnOk result (weight_of self.new ≤ 5) }
         ensures taken { self.new.taken ≡ self.old.taken }
         ensures peer { self.new.room.peer ≡ self.old.room.peer }
@@ -69,7 +69,7 @@ impl Chain {
         requires busy { self.old.room.rests ≡ false }
         ensures starts { (parts : List JobPart) (used : List Exchange) (bytes : List ℕ)
             → HeadIsRead parts used self.old.course self.old.room.inbox bytes head.now
-            → GoesOn parts used bytes result self.new }
+            → MovesOrLoses parts used bytes result self.new }
         ensures small { OnOk result ((weight_of self.new ≤ 6 * length self.old.room.inbox)
             ⊎ (weight_of self.new ≤ 5)) }
         ensures taken { self.new.taken ≡ self.old.taken }
@@ -98,7 +98,7 @@ impl Chain {
         requires some { 0 < length self.old.room.inbox }
         ensures reads { (parts : List JobPart) (used : List Exchange) (bytes : List ℕ)
             → IsReadingHead parts used self.old.course self.old.room.inbox bytes reader
-            → GoesOn parts used bytes result self.new }
+            → MovesOrLoses parts used bytes result self.new }
         ensures smaller { OnOk result (weight_of self.new < 6 * length self.old.room.inbox + 1) }
         ensures taken { self.new.taken ≡ self.old.taken }
         ensures peer { self.new.room.peer ≡ self.old.room.peer }
@@ -138,7 +138,7 @@ impl Chain {
         ensures reads { (parts : List JobPart) (used : List Exchange) (bytes : List ℕ)
             → IsReadingContent parts used self.old.course self.old.room.inbox bytes content
             → (added : List ℕ) × (out.new.items ≡ out.old.items ++ added)
-            × GoesOn parts used (bytes ++ added) result self.new }
+            × MovesOrLoses parts used (bytes ++ added) result self.new }
         // The connection may take another request only where the reply was read whole, and nothing more.
         ensures whole { self.new.room.rests ≡ true
             → (parts : List JobPart) (used : List Exchange) (bytes : List ℕ)
@@ -188,7 +188,7 @@ impl Chain {
         ensures reads { (parts : List JobPart) (used : List Exchange) (bytes : List ℕ)
             → IsReading self.old.stage self.old.course self.old.room.inbox parts used bytes
             → (added : List ℕ) × (out.new.items ≡ out.old.items ++ added)
-            × GoesOn parts used (bytes ++ added) result self.new }
+            × MovesOrLoses parts used (bytes ++ added) result self.new }
         ensures whole { self.new.room.rests ≡ true
             → (parts : List JobPart) (used : List Exchange) (bytes : List ℕ)
             → IsReading self.old.stage self.old.course self.old.room.inbox parts used bytes
