@@ -5,12 +5,12 @@ use Rattle.machine_core.specs.Reads.{is_finished_in}
 use Rattle.machine_core.specs.Starts.{RunStart}
 use Rattle.machine_core.specs.declared.events.Event.{Event}
 use Rattle.engine_turns.specs.Levels.{spent_by}
-use Rattle.engine_turns.specs.RunTurns.{is_nearly_full}
+use Rattle.engine_turns.specs.RunTurns.{answer_to, is_nearly_full}
 use Rattle.engine_turns.specs.Told.{handed_by}
 use Rattle.engine_turns.specs.declared.operations.Operation.{Operation}
 use Rattle.engine_turns.specs.declared.operations.Said.{Said}
 use Rattle.engine_turns.specs.declared.operations.Said.TheVariants.{Allow, Done, Finished, Grant, Hold, Idle, JournalFull, Kept, NoMemory, Replied, Void}
-use Rattle.engine_core.specs.Beginning.{IsBrokenOff, front_answer}
+use Rattle.engine_core.specs.Beginning.{IsBrokenOff}
 
 -- a piece is handed out, or bytes are let through
 abbrev pub lets_go : Said → Bool
@@ -47,7 +47,7 @@ nothing_spent start past op NoMemory none = refl
 
 -- what is answered before an operation lets nothing go
 pub front_lets_none : (asks needs : Bool) (start : RunStart) (past : List Event) (said : Said)
-    → IsBrokenOff (front_answer asks needs start past) said → lets_go said ≡ false
+    → IsBrokenOff (answer_to asks needs start past) said → lets_go said ≡ false
 front_lets_none asks needs start past said is =
     by (asks && is_finished_in start past) (needs && is_nearly_full past) refl refl
   where

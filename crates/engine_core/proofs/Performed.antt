@@ -9,17 +9,17 @@ use Rattle.machine_core.specs.declared.events.Event.{Event}
 use Rattle.machine_core.specs.declared.handed.Handed.{Handed}
 use Rattle.engine_turns.specs.Levels.{spent_by}
 use Rattle.engine_turns.specs.Phases.{TurnStart}
-use Rattle.engine_turns.specs.RunTurns.{OperationRow, answer_before, takes_memory}
+use Rattle.engine_turns.specs.RunTurns.{IsAnswered, OperationRow, answer_before, answer_to, takes_memory}
 use Rattle.engine_turns.specs.Standings.{RunStanding}
 use Rattle.engine_turns.specs.Told.{history_after, is_taken, moment_of_operation, seals_handed}
 use Rattle.engine_turns.specs.declared.operations.Operation.{Operation}
 use Rattle.engine_turns.specs.declared.operations.Said.{Said}
 use Rattle.stored_run.specs.Steps.{DoesRow, turn_from}
 use Rattle.stored_run.specs.declared.run.StoredView.{StoredView}
-use Rattle.engine_core.specs.Beginning.{Begins, IsBrokenOff, front_answer}
+use Rattle.engine_core.specs.Beginning.{Begins, IsBrokenOff}
 use Rattle.engine_core.specs.Buckets.{HasRates, LevelsGoOn}
 use Rattle.engine_core.specs.Engines.{KeepsRates, past_of, standing_of, start_of}
-use Rattle.engine_core.specs.Performing.{IsAnsweredBy, Performs, handed_after}
+use Rattle.engine_core.specs.Performing.{Performs, handed_after}
 use Rattle.engine_core.specs.declared.state.EngineState.{EngineState}
 use Rattle.engine_core.proofs.Calm.{AreCalm, StaysUncalled, no_events, stays_uncalled}
 use Rattle.engine_core.proofs.Handings.{filter_all}
@@ -54,9 +54,9 @@ module _ {D : Type 0} (op : Operation) (unsealed : (h : Handed) → seals_handed
 
   -- nothing came
   pub broken_off : (f f' : ℕ) (asks needs : Bool) (said : Said) → f ≤ f' → HasRates (start_of old) (past_of old) old.limits
-      → (front_answer asks needs (start_of old) (past_of old) ≡ None → takes_memory op ≡ true)
-      → answer_before (start_of old) (past_of old) op ≡ front_answer asks needs (start_of old) (past_of old)
-      → IsBrokenOff (front_answer asks needs (start_of old) (past_of old)) said → Performs op old f mid f' said
+      → (answer_to asks needs (start_of old) (past_of old) ≡ None → takes_memory op ≡ true)
+      → answer_before (start_of old) (past_of old) op ≡ answer_to asks needs (start_of old) (past_of old)
+      → IsBrokenOff (answer_to asks needs (start_of old) (past_of old)) said → Performs op old f mid f' said
   broken_off f f' asks needs said more rates takes front is =
       let none = front_lets_none asks needs (start_of old) (past_of old) said is in
       record {
@@ -65,10 +65,10 @@ module _ {D : Type 0} (op : Operation) (unsealed : (h : Handed) → seals_handed
           now = begins.moment ∙ ap (λ (n : ℕ). max n old.run.now.0) (sym brings);
           events = [];
           grown = begins.machine.past_is;
-          answered = subst (IsAnsweredBy (record { start = start_of old; now = mid.run.now; faults = f }) (standing_of old) op [] said)
+          answered = subst (IsAnswered (record { start = start_of old; now = mid.run.now; faults = f }) (standing_of old) op [] said)
               (sym front)
               (by (record { start = start_of old; now = mid.run.now; faults = f })
-              (front_answer asks needs (start_of old) (past_of old)) refl is);
+              (answer_to asks needs (start_of old) (past_of old)) refl is);
           later = more;
           counts = λ gid count there. absurd (let within = there.1 in omega arith);
           levels = subst (λ l. LevelsGoOn (start_of old) (past_of old) (past_of mid) (spent_by (start_of old) (past_of old) op said) mid.run.now.0 old.limits l)
@@ -83,8 +83,8 @@ module _ {D : Type 0} (op : Operation) (unsealed : (h : Handed) → seals_handed
         rates = rates_after begins.limits begins.machine.start_is begins.machine.past_is rates;
       }
     where
-      by : (at : TurnStart) (o : Option Said) → front_answer asks needs (start_of old) (past_of old) ≡ o
-          → IsBrokenOff o said → IsAnsweredBy at (standing_of old) op [] said o
+      by : (at : TurnStart) (o : Option Said) → answer_to asks needs (start_of old) (past_of old) ≡ o
+          → IsBrokenOff o said → IsAnswered at (standing_of old) op [] said o
       by at (Some before) front_is said_is = (refl, said_is)
       by at None front_is said_is = inl (takes front_is, (refl, said_is))
 
@@ -112,7 +112,7 @@ module _ {D : Type 0} (op : Operation) (unsealed : (h : Handed) → seals_handed
           now = ap (λ r. r.now.0) run_is ∙ (ap (λ (m : Moment). m.0) now_is ∙ (begins.moment ∙ ap (λ (n : ℕ). max n old.run.now.0) (sym brings)));
           events = row.events;
           grown = past_is;
-          answered = subst (IsAnsweredBy (record { start = start_of old; now = new.run.now; faults = before }) s op row.events said)
+          answered = subst (IsAnswered (record { start = start_of old; now = new.run.now; faults = before }) s op row.events said)
               (sym front) (inr (subst (λ (a : TurnStart). OperationRow a s op row.events said) turn_is (gives at s row.events here)));
           later = omega (arith, more, row.later);
           counts = row.counts;

@@ -15,7 +15,7 @@ use Rattle.turn_desk.specs.Turns.{turn_of}
 use Rattle.turn_desk.specs.declared.turn.Stamp.{Stamp}
 use Rattle.engine_turns.specs.Levels.{downloads_of, level_of_download, level_on, overall_rate, own_levels, spent_by}
 use Rattle.engine_turns.specs.Phases.{TurnStart}
-use Rattle.engine_turns.specs.RunTurns.{IsTurnAnswered, MayComeAfter, answer_before, brought_bytes, ties_turn, turn_start}
+use Rattle.engine_turns.specs.RunTurns.{IsAnswered, IsTurnAnswered, MayComeAfter, answer_before, brought_bytes, ties_turn, turn_start}
 use Rattle.engine_turns.specs.Standings.{RunStanding, standing_after}
 use Rattle.engine_turns.specs.Told.{RunTurn, handed_by, handed_in, history_after, history_of, is_taken, latest_moment, moment_of_operation, seals_handed, settles_handed, stays_out}
 use Rattle.engine_turns.specs.declared.operations.Operation.{Operation}
@@ -23,20 +23,12 @@ use Rattle.engine_turns.specs.declared.operations.Said.{Said}
 use Rattle.engine_core.specs.Buckets.{HasRates, own_levels_on}
 use Rattle.engine_core.specs.Engines.{KeepsRates, StandsAfter, TakesTurn, past_of, standing_of, stands_for, start_of}
 use Rattle.engine_core.specs.Handing.{stays_handed}
-use Rattle.engine_core.specs.Performing.{IsAnsweredBy, Performs}
+use Rattle.engine_core.specs.Performing.{Performs}
 use Rattle.engine_core.specs.declared.state.EngineState.{EngineState}
 use Rattle.engine_core.proofs.Downloads.{downloads_grow, each_found}
 use Rattle.engine_core.proofs.Handings.{filter_twice}
 use Rattle.engine_core.proofs.Levels.{turn_levels}
 use Rattle.engine_core.proofs.Turning.{events_behind, in_order}
-
--- ---- what is answered
-
-same_answer : (start : RunStart) (told : List RunTurn) (t : RunTurn) (o : Option Said)
-    → IsAnsweredBy (turn_start start told t) (standing_after start told) t.op t.events t.answer.said o
-    → IsTurnAnswered start told t o
-same_answer start told t (Some before) is = is
-same_answer start told t None is = is
 
 -- ---- what is handed out
 
@@ -81,12 +73,11 @@ module _ {D : Type 0} (op : Operation) (said : Said) (back : List ℕ) (f f' : �
 
   answered : IsTurnAnswered (start_of old) told t (answer_before (start_of old) (history_of told) op)
   answered =
-      same_answer (start_of old) told t (answer_before (start_of old) (history_of told) op)
-      (subst (λ (p : List Event). IsAnsweredBy (turn_start (start_of old) told t) (standing_after (start_of old) told) op t.events said (answer_before (start_of old) p op)) past_is
-      (subst (λ (es : List Event). IsAnsweredBy (turn_start (start_of old) told t) (standing_after (start_of old) told) op es said (answer_before (start_of old) (past_of old) op)) (sym events_are)
-      (subst (λ (s : RunStanding). IsAnsweredBy (turn_start (start_of old) told t) s op done.answers.events said (answer_before (start_of old) (past_of old) op)) stands.is
-      (subst (λ (a : TurnStart). IsAnsweredBy a (standing_of old) op done.answers.events said (answer_before (start_of old) (past_of old) op)) at_is
-      done.answers.answered))))
+      subst (λ (p : List Event). IsAnswered (turn_start (start_of old) told t) (standing_after (start_of old) told) op t.events said (answer_before (start_of old) p op)) past_is
+      (subst (λ (es : List Event). IsAnswered (turn_start (start_of old) told t) (standing_after (start_of old) told) op es said (answer_before (start_of old) (past_of old) op)) (sym events_are)
+      (subst (λ (s : RunStanding). IsAnswered (turn_start (start_of old) told t) s op done.answers.events said (answer_before (start_of old) (past_of old) op)) stands.is
+      (subst (λ (a : TurnStart). IsAnswered a (standing_of old) op done.answers.events said (answer_before (start_of old) (past_of old) op)) at_is
+      done.answers.answered)))
 
   may_come : MayComeAfter (start_of old) told t
   may_come = record {

@@ -1,27 +1,18 @@
 -- What an operation does to a run, and what is answered.
-use Rattle.std.specs.Prelude.{◌≡◌, ◌⊎◌, ◌≤◌, ◌&&◌, ℕ, max, not, true, Contains, Option, Some, None, List, ◌++◌, filter}
+use Rattle.std.specs.Prelude.{◌≡◌, ◌≤◌, ◌&&◌, ℕ, max, not, Contains, List, ◌++◌, filter}
 use Rattle.dl_kinds.specs.declared.gid.Gid.{Gid}
 use Rattle.machine_core.specs.declared.ends.End.TheVariants as end
 use Rattle.machine_core.specs.declared.events.Event.{Event}
 use Rattle.machine_core.specs.declared.events.Event.TheVariants.{Ended}
 use Rattle.machine_core.specs.declared.handed.Handed.{Handed}
 use Rattle.engine_turns.specs.Levels.{spent_by}
-use Rattle.engine_turns.specs.Phases.{TurnStart}
-use Rattle.engine_turns.specs.RunTurns.{OperationRow, answer_before, takes_memory}
-use Rattle.engine_turns.specs.Standings.{AnswersOnly, RunStanding}
+use Rattle.engine_turns.specs.RunTurns.{IsAnswered, answer_before}
 use Rattle.engine_turns.specs.Told.{handed_by, history_after, is_taken, moment_of_operation, seals_handed}
 use Rattle.engine_turns.specs.declared.operations.Operation.{Operation}
 use Rattle.engine_turns.specs.declared.operations.Said.{Said}
-use Rattle.engine_turns.specs.declared.operations.Said.TheVariants.{NoMemory}
 use Rattle.engine_core.specs.Buckets.{LevelsGoOn}
 use Rattle.engine_core.specs.Engines.{KeepsRates, past_of, standing_of, start_of}
 use Rattle.engine_core.specs.declared.state.EngineState.{EngineState}
-
--- what is answered before anything is done; otherwise the operation's row, or want of memory before it began
-abbrev pub IsAnsweredBy : TurnStart → RunStanding → Operation → List Event → Said → Option Said → Type 0
-IsAnsweredBy at s op events said (Some before) = AnswersOnly before events said
-IsAnsweredBy at s op events said None =
-    ((takes_memory op ≡ true) × AnswersOnly NoMemory events said) ⊎ OperationRow at s op events said
 
 -- the pieces that are out once an operation is answered, as far as its events don't tell
 abbrev pub handed_after : Operation → Said → List Handed → List Handed
@@ -35,7 +26,7 @@ module _ {D : Type 0} where
     pub now : new.run.now.0 ≡ max (moment_of_operation op) old.run.now.0
     pub events : List Event
     pub grown : past_of new ≡ history_after (past_of old) events
-    pub answered : IsAnsweredBy (record { start = start_of old; now = new.run.now; faults = faults }) (standing_of old)
+    pub answered : IsAnswered (record { start = start_of old; now = new.run.now; faults = faults }) (standing_of old)
         op events said (answer_before (start_of old) (past_of old) op)
     pub later : faults ≤ faults_after
     pub counts : (gid : Gid) (count : ℕ) → Contains events (Ended gid (end.Disk count)) → count ≤ faults_after

@@ -44,11 +44,15 @@ needs_entries op = true
 abbrev pub is_nearly_full : List Event → Bool
 is_nearly_full past = nat_lt (MAX_ENTRIES - TURN_EVENTS) (length past)
 
-abbrev pub answer_before : RunStart → List Event → Operation → Option Said
-answer_before start past op =
-    if asks_for_work op && is_finished_in start past then Some Finished
-    else if needs_entries op && is_nearly_full past then Some (JournalFull (length past))
+-- to an operation that asks for work, or needs entries
+abbrev pub answer_to : (asks needs : Bool) → RunStart → List Event → Option Said
+answer_to asks needs start past =
+    if asks && is_finished_in start past then Some Finished
+    else if needs && is_nearly_full past then Some (JournalFull (length past))
     else None
+
+abbrev pub answer_before : RunStart → List Event → Operation → Option Said
+answer_before start past op = answer_to (asks_for_work op) (needs_entries op) start past
 
 -- ---- each operation
 
@@ -83,11 +87,15 @@ brought_bytes op = []
 abbrev pub turn_start : RunStart → List RunTurn → RunTurn → TurnStart
 turn_start start told t = record { start = start; now = moment_in told t.op; faults = t.before.faults }
 
+-- what is answered before anything is done; otherwise want of memory before the operation began, or its row
+abbrev pub IsAnswered : TurnStart → RunStanding → Operation → List Event → Said → Option Said → Type 0
+IsAnswered at s op events said (Some before) = AnswersOnly before events said
+IsAnswered at s op events said None =
+    ((takes_memory op ≡ true) × AnswersOnly NoMemory events said) ⊎ OperationRow at s op events said
+
 abbrev pub IsTurnAnswered : RunStart → List RunTurn → RunTurn → Option Said → Type 0
-IsTurnAnswered start told t (Some said) = AnswersOnly said t.events t.answer.said
-IsTurnAnswered start told t None =
-    ((takes_memory t.op ≡ true) × AnswersOnly NoMemory t.events t.answer.said)
-    ⊎ OperationRow (turn_start start told t) (standing_after start told) t.op t.events t.answer.said
+IsTurnAnswered start told t before =
+    IsAnswered (turn_start start told t) (standing_after start told) t.op t.events t.answer.said before
 
 -- the turn may come after these, of which the newest is the first
 pub record MayComeAfter (start : RunStart) (told : List RunTurn) (t : RunTurn) : Type 0 where
