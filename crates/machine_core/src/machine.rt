@@ -1,17 +1,18 @@
 // The state of a run.
 ghost use Rattle.std.specs.Prelude.{◌≡◌, ◌≤◌, ◌↔◌, [], false, length, reverse, IfNone, IfOk, IfSome, MatchBool, None, OnErr, OnOk, option_copied, slice_get, true};
+ghost use Rattle.std.specs.List.{list_any};
 ghost use Rattle.std.specs.Option.{option_map};
 ghost use Rattle.dl_history.specs.PayloadParts.{is_opened};
 ghost use Rattle.dl_kinds.specs.declared.gid.Gid.{Gid};
 ghost use Rattle.machine_core.specs.Answers.{applied_by};
 ghost use Rattle.machine_core.specs.Choices.{options_now};
 ghost use Rattle.dl_queue.specs.Places.{status_of};
-ghost use Rattle.machine_core.specs.Replays.{queue_in};
+ghost use Rattle.machine_core.specs.Replays.{queue_in, replay_of};
 ghost use Rattle.machine_core.specs.OwnParts.{own_of};
 ghost use Rattle.machine_core.specs.LawfulCalls.{IsLawful};
 ghost use Rattle.machine_core.specs.MachineViews.{Appends, HasMarkRoomAt, IsFindingOf, IsLandingOf, IsLossOfClaim, IsNext, IsPlaceOf, IsSizingBy, StandsNowhere, StandsSomewhere, StandsUnder, IsFirstOpen, account_of_gid, is_added_in, UsesMarkRoomAt, UsesMarkRoomOf, UsesRoom, mark_spare_in, place_in};
 ghost use Rattle.machine_core.specs.Reads.{HasNoDeadMark, IsPieceOfGid, IsAdding, IsAllSaved, IsDeadPiece, IsOpenedGid, IsPieceUnlisted, downloads_in, is_finished_in};
-ghost use Rattle.machine_core.specs.RunLegal.{IsLaterThan, IsLegal, MayFollow, doors_left, download_in};
+ghost use Rattle.machine_core.specs.RunLegal.{IsLaterThan, IsLegal, MayFollow, doors_left, download_in, is_stop};
 ghost use Rattle.machine_core.specs.TurnRooms.{HasTurnMarkRoom, IsRoomierRun};
 ghost use Rattle.machine_core.specs.declared.events.Event.TheVariants as event;
 ghost use Rattle.machine_core.specs.declared.journal.TheConstants.{MAX_BEFORE_TURN, TURN_EVENTS};
@@ -447,6 +448,13 @@ impl Machine {
         Some(&self.entries[place].options)
     }
 
+    /// The global options, as they are now.
+    pub fn global(&self) -> &Options
+        ensures { result.now ≡ (replay_of self.now.start self.now.past).global }
+    {
+        &self.global
+    }
+
     /// The moment of the last save of a download, or of its opening where there is none.
     pub fn saved_at(&self, gid: Gid) -> Option<Moment>
         ensures { is_added_in self.now gid ≡ true → result ≡ (account_of_gid self.now gid).saved }
@@ -463,6 +471,13 @@ impl Machine {
             Ok(status) => Some(status),
             Err(_) => None,
         }
+    }
+
+    /// Whether the run stopped.
+    pub fn has_stopped(&self) -> bool
+        ensures { result ≡ list_any is_stop self.now.past }
+    {
+        self.stopped
     }
 
     /// How many doors of the console stand.

@@ -2,7 +2,7 @@
 ghost use Rattle.std.specs.Prelude.{◌≡◌, ◌==◌, ◌↔◌, ◌^◌, ◌+◌, ◌-◌, ◌<◌, ◌≤◌, [], ◌∷◌, ◌++◌, length, OnErr, OnOk};
 ghost use Rattle.rate_tokens.specs.Calls.{IfGo, IfHold, IsHold, RateSet};
 ghost use Rattle.rate_tokens.specs.Level.{full_level};
-ghost use Rattle.rate_limits.specs.Shared.{lesser_credit, levels_taken, longer_wait, overall_by, own_by, shared_answer};
+ghost use Rattle.rate_limits.specs.Shared.{lesser_credit, levels_taken, longer_wait, overall_by, own_by, own_level, shared_answer};
 
 use dl_kinds::Moment;
 use rate_tokens::{Bucket, Take};
@@ -55,6 +55,21 @@ impl RateLimits {
         ensures { result ≡ (length self.now.own == 0) }
     {
         self.own.is_empty()
+    }
+
+    /// The overall rate.
+    pub fn overall_rate(&self) -> u64
+        ensures { result ≡ self.now.overall.rate }
+    {
+        self.overall.rate()
+    }
+
+    /// The rate of a download.
+    pub fn own_rate(&self, place: usize) -> u64
+        requires { place < length self.now.own }
+        ensures { result ≡ (own_level self.now place).rate }
+    {
+        self.own[place].rate()
     }
 
     /// Makes room for `more` more downloads. No other call takes memory.

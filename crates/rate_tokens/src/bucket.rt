@@ -62,6 +62,13 @@ impl Bucket {
         }
     }
 
+    /// Its rate in bytes a second, 0 where it limits nothing.
+    pub fn rate(&self) -> u64
+        ensures { result ≡ self.now.rate }
+    {
+        self.rate
+    }
+
     // What it holds at this moment.
     fn held_at(&self, now: Moment) -> u128
         ensures { result ≡ held_in self.now now.0 }

@@ -36,6 +36,5 @@ pub mod SavedOnes
 pub mod Dues
 pub mod EachSaved
 pub mod SavedRows
-pub mod Stops
 pub mod CallSaves
 pub mod AfterTelling

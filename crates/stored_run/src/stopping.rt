@@ -1,7 +1,6 @@
 // The stop.
-ghost use Rattle.std.specs.Prelude.{◌≡◌, false, IsTrue, reverse, slice_get};
+ghost use Rattle.std.specs.Prelude.{◌≡◌, IsTrue};
 ghost use Rattle.std.specs.List.{list_any};
-ghost use Rattle.std.specs.Option.{option_map_or};
 ghost use Rattle.engine_turns.specs.CallRows.{StopRow, stop_events};
 ghost use Rattle.engine_turns.specs.Standings.{AnswersUnlessStarved};
 ghost use Rattle.engine_turns.specs.declared.operations.Said.TheVariants.{Done};
@@ -14,39 +13,16 @@ use crate::following::runs_follow;
 use crate::sealing::done_unless_starved;
 use dl_disk::Disk;
 use engine_turns::Said;
-use machine_core::{Event, NoMemory};
+use machine_core::NoMemory;
 
 impl<D: Disk> StoredRun<D> {
-    // Whether the event at a place of the journal is the stop.
-    fn stops_at(&self, place: u32) -> bool
-        ensures { result ≡ option_map_or is_stop
-            (slice_get (reverse self.entry.now.machine.past) place) false }
-    {
-        match self.machine.journal().get(place) {
-            Some(Event::Stopped) => true,
-            _ => false,
-        }
-    }
-
-    // Whether the run was stopped. It looks at each event of the journal.
-    fn has_stopped(&self) -> bool
-        ensures { result ≡ list_any is_stop self.entry.now.machine.past }
-    {
-        for place in 0..self.machine.journal().len() {
-            if self.stops_at(place) {
-                return true;
-            }
-        }
-        false
-    }
-
     // The run stops, where it didn't before.
     fn tell_stop(&mut self)
         ensures { TellsOnly (stop_events (list_any is_stop self.old.machine.past))
             self.old self.new }
     {
         runs_follow();
-        if !self.has_stopped() {
+        if !self.machine.has_stopped() {
             self.machine.stopped();
         }
     }
