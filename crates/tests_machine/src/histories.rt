@@ -223,6 +223,27 @@ const SAVED: Case = (
     ],
 );
 
+// A piece that the last save lists is found wrong: another save comes, which lists nothing of it, and it is cleared. What comes of
+// it again isn't listed until it is found right.
+const LISTED_WRONG: Case = (
+    &[],
+    &[
+        ("torrent p 32768 32768", "done; a0"),
+        ("open 0", "true; a0"),
+        ("take 0", "claim 0: 0+2 at 0; a0"),
+        ("land 0 0 2", "2; a2"),
+        ("save 0", "true; a2"),
+        ("wrong 0", "piece 0 wrong; a0"),
+        ("unsaved 0", "false; a0"),
+        ("take 0", "claim 1: 0+2 at 1; a0"),
+        ("land 1 0 1", "1; a1"),
+        ("unsaved 0", "false; a1"),
+        ("land 1 1 1", "1; a2"),
+        ("take 0", "piece 0 right; a2"),
+        ("unsaved 0", "true; a2"),
+    ],
+);
+
 // A piece that was opened with its only block is full at once.
 const RESUMED: Case = (
     &[],
@@ -285,6 +306,61 @@ const PROBED: Case = (
         ("lose 1", "true; a0"),
         ("take 1", "idle; a0"),
         ("die 0 0", "dead of 3; f0"),
+    ],
+);
+
+// No plan has more than 1,048,576 pieces: of 1 MiB each, 2^40 bytes at most.
+const TOO_LARGE: Case = (
+    &[("max-concurrent-downloads", "1"), ("piece-length", "1M")],
+    &[
+        ("uri http://m.test/a", "done; a0"),
+        ("uri http://m.test/b", "done; a0 w0"),
+        ("take 0", "probe 0 at 0; a0 w0"),
+        ("size 0 1099511627777", "true; f0 a0"),
+        ("stands 0", "false; f0 a0"),
+        ("size 0 5", "false; f0 a0"),
+        ("take 0", "probe 1 at 0; f0 a0"),
+        ("size 1 1099511627776", "true; f0 a0"),
+    ],
+);
+
+// The digest of `hello`.
+const SUM: (&str, &str) = (
+    "checksum",
+    "sha-1=aaf4c61ddcc5e8a2dabede0f3b482cd9aea9434d",
+);
+
+// A payload without its checksum ends its download, once it is there.
+const WRONG_SUM: Case = (
+    &[SUM],
+    &[
+        ("uri http://m.test/a", "done; a0"),
+        ("sum 0 wrong", "false; a0"),
+        ("take 0", "probe 0 at 0; a0"),
+        ("size 0 5", "true; a0"),
+        ("open 0", "true; a0"),
+        ("take 0", "claim 1: 0+1 at 0; a0"),
+        ("land 1 0 1", "1; a0"),
+        ("sum 0 wrong", "false; a0"),
+        ("take 0", "piece 0 right; a0"),
+        ("complete 0", "false; a0"),
+        ("sum 0 wrong", "true; f0"),
+        ("sum 0 right", "false; f0"),
+        ("finished", "true; f0"),
+    ],
+);
+
+// One with its checksum is complete.
+const RIGHT_SUM: Case = (
+    &[SUM],
+    &[
+        ("uri http://m.test/a", "done; a0"),
+        ("take 0", "probe 0 at 0; a0"),
+        ("size 0 5", "true; a0"),
+        ("open 0 0", "true; a0"),
+        ("take 0", "piece 0 right; a0"),
+        ("sum 0 right", "true; c0"),
+        ("sum 0 wrong", "false; c0"),
     ],
 );
 
@@ -408,8 +484,9 @@ fn tell_all<R: Abort>(
 fn histories(rt: HostRuntime) -> Result<(), Fail> {
     let alloc = rt.alloc();
     for (values, lines) in [
-        QUEUED, IN_FRONT, WRONG, BLAMED, MIXED, SOLE, STOLEN, PAUSED, STOPPED, SAVED, RESUMED,
-        COMPARED, SELECTED, PROBED, THROTTLED, SHARED, FAILED, TWINS, CLASHING,
+        QUEUED, IN_FRONT, WRONG, BLAMED, MIXED, SOLE, STOLEN, PAUSED, STOPPED, SAVED, LISTED_WRONG,
+        RESUMED, COMPARED, SELECTED, PROBED, TOO_LARGE, WRONG_SUM, RIGHT_SUM, THROTTLED, SHARED,
+        FAILED, TWINS, CLASHING,
     ] {
         let mut rig = Rig::new(alloc, options(alloc, values)?)?;
         tell_all(&rt, alloc, &mut rig, lines)?;

@@ -8,6 +8,10 @@ mod histories;
 mod lines;
 #[cfg(test)]
 mod plain;
+#[cfg(test)]
+mod plain_choice;
+#[cfg(test)]
+mod plain_download;
 mod rates;
 mod rig;
 #[cfg(test)]

@@ -296,6 +296,11 @@ fn answer(alloc: Global, rig: &mut Rig, words: &[&str]) -> Result<String, Fail> 
             word,
             number,
         ] => { of_pair(alloc, rig, name, word, number.parse::<u32>()?) }
+        ["sum", word, is @ ("right" | "wrong")] => {
+            let gid = gid_of(rig, word)?;
+            let right = *is == "right";
+            Ok(format!(in alloc; "{}", rig.check(alloc, gid, right)?)?)
+        }
         ["size", claim, total] => {
             let sized = rig.size(claim.parse::<u64>()?, total.parse::<u64>()?)?;
             Ok(format!(in alloc; "{sized}")?)
