@@ -1,10 +1,9 @@
 -- A probe tells too long a payload, and a whole payload is compared with its checksum.
 use Rattle.std.proofs.Common.{◌≡◌, ◌∙◌, ◌<◌, ℕ, Bool, true, false, Option, Some, None, List, [], ◌∷◌, get_or, refl, sym, ap, subst, arith}
-use Rattle.std.specs.Prelude.{IfSome, Bor}
-use Rattle.std.specs.Option.{is_none, is_some, option_map_or, unwrap_or}
+use Rattle.std.specs.Option.{is_some, option_map_or}
 use Rattle.std.proofs.lemmas.List.FromFn.{get_or-map-range_with_len}
 use Rattle.dl_history.specs.OwnEvents.{OwnEvent, Checks, Halts, Sizes}
-use Rattle.dl_history.specs.PayloadParts.{is_ended, is_opened, is_verified_in, last_check, told_total}
+use Rattle.dl_history.specs.PayloadParts.{is_ended, is_verified_in, last_check, told_total}
 use Rattle.dl_kinds.specs.Plan.{IsPlan, pieces_of}
 use Rattle.dl_kinds.specs.declared.claims.Claim.{Claim}
 use Rattle.dl_kinds.specs.declared.gid.Gid.{Gid}
@@ -13,7 +12,7 @@ use Rattle.machine_core.specs.Done.{IsDoneGid}
 use Rattle.machine_core.specs.DownloadWants.{HasWant}
 use Rattle.machine_core.specs.MachineViews.{Appends, IsSizingBy, MachineView, StandsUnder}
 use Rattle.machine_core.specs.Openings.{wanted_of_gid}
-use Rattle.machine_core.specs.OwnParts.{PayloadLengths, no_lengths, own_of}
+use Rattle.machine_core.specs.OwnParts.{PayloadLengths, own_of}
 use Rattle.machine_core.specs.Reads.{IsOpenedGid, lengths_of_gid}
 use Rattle.machine_core.specs.RunLegal.{IsLegal, LengthsStay, MayFollow, MayOwn, download_in, has_checksum, info_hash_by, is_listed, known_lengths}
 use Rattle.machine_core.specs.Starts.{Download, Listed, RunStart, Subject, Unlisted}

@@ -188,7 +188,7 @@ saved_clears start past gid piece giver now may same =
       direct = λ loss. absurd (subst (IsLossOf piece) is loss);
     }
 
-both_lengths : (start : RunStart) (past after : List Event) (gid : Gid) (l : PayloadLengths)
+pub both_lengths : (start : RunStart) (past after : List Event) (gid : Gid) (l : PayloadLengths)
     → payload_lengths_of start past gid ≡ Some l → payload_lengths_of start after gid ≡ Some l
     → known_lengths start past gid ≡ known_lengths start after gid
 both_lengths start past after gid l before is = ap (λ (o : Option PayloadLengths). unwrap_or o no_lengths) (before ∙ sym is)
@@ -204,8 +204,8 @@ sized_as None is = absurd cc
 pub is_sized : (start : RunStart) (past : List Event) (gid : Gid) → is_some (payload_lengths_of start past gid) ≡ true
     → IsSized start past gid
 is_sized start past gid is =
-    let as = sized_as (payload_lengths_of start past gid) is in
-    record { lengths = as.0; known = as.1 }
+    let found = sized_as (payload_lengths_of start past gid) is in
+    record { lengths = found.0; known = found.1 }
 
 -- once it is saved, it may be cleared
 pub may_clear_saved : LengthsStay → (old found new : MachineView) (gid : Gid) (piece : ℕ) (now : Moment)

@@ -1,12 +1,15 @@
 // Worked histories.
+use crate::end_histories::{
+    CLASHING, FAILED, LIMITED, PROBED, RIGHT_SUM, TOO_LARGE, TWINS, WRONG_SUM,
+};
 use crate::lines::{options, told};
 use crate::rig::Rig;
 use std::alloc::Global;
 use std::process::Abort;
 use std::test::Fail;
 
-// The lines and what is told after each, of runs with these options.
-type Case = (
+/// The lines and what is told after each, of runs with these options.
+pub type Case = (
     &'static [(&'static str, &'static str)],
     &'static [(&'static str, &'static str)],
 );
@@ -291,79 +294,6 @@ const SELECTED: Case = (
     ],
 );
 
-// The length is asked first; each loss counts for its mirror.
-const PROBED: Case = (
-    &[("max-tries", "1"), ("piece-length", "1M")],
-    &[
-        ("uri http://m.test/a", "done; a0"),
-        ("open 0", "false; a0"),
-        ("take 0", "probe 0 at 0; a0"),
-        ("take 1", "idle; a0"),
-        ("size 0 32768", "true; a0"),
-        ("size 0 32768", "false; a0"),
-        ("open 0", "true; a0"),
-        ("take 1", "claim 1: 0+2 at 0; a0"),
-        ("lose 1", "true; a0"),
-        ("take 1", "idle; a0"),
-        ("die 0 0", "dead of 3; f0"),
-    ],
-);
-
-// No plan has more than 1,048,576 pieces: of 1 MiB each, 2^40 bytes at most.
-const TOO_LARGE: Case = (
-    &[("max-concurrent-downloads", "1"), ("piece-length", "1M")],
-    &[
-        ("uri http://m.test/a", "done; a0"),
-        ("uri http://m.test/b", "done; a0 w0"),
-        ("take 0", "probe 0 at 0; a0 w0"),
-        ("size 0 1099511627777", "true; f0 a0"),
-        ("stands 0", "false; f0 a0"),
-        ("size 0 5", "false; f0 a0"),
-        ("take 0", "probe 1 at 0; f0 a0"),
-        ("size 1 1099511627776", "true; f0 a0"),
-    ],
-);
-
-// The digest of `hello`.
-const SUM: (&str, &str) = (
-    "checksum",
-    "sha-1=aaf4c61ddcc5e8a2dabede0f3b482cd9aea9434d",
-);
-
-// A payload without its checksum ends its download, once it is there.
-const WRONG_SUM: Case = (
-    &[SUM],
-    &[
-        ("uri http://m.test/a", "done; a0"),
-        ("sum 0 wrong", "false; a0"),
-        ("take 0", "probe 0 at 0; a0"),
-        ("size 0 5", "true; a0"),
-        ("open 0", "true; a0"),
-        ("take 0", "claim 1: 0+1 at 0; a0"),
-        ("land 1 0 1", "1; a0"),
-        ("sum 0 wrong", "false; a0"),
-        ("take 0", "piece 0 right; a0"),
-        ("complete 0", "false; a0"),
-        ("sum 0 wrong", "true; f0"),
-        ("sum 0 right", "false; f0"),
-        ("finished", "true; f0"),
-    ],
-);
-
-// One with its checksum is complete.
-const RIGHT_SUM: Case = (
-    &[SUM],
-    &[
-        ("uri http://m.test/a", "done; a0"),
-        ("take 0", "probe 0 at 0; a0"),
-        ("size 0 5", "true; a0"),
-        ("open 0 0", "true; a0"),
-        ("take 0", "piece 0 right; a0"),
-        ("sum 0 right", "true; c0"),
-        ("sum 0 wrong", "false; c0"),
-    ],
-);
-
 // A bucket of 16,384 bytes a second, and then of 32,768. While it is empty, blocks are held and a probe isn't.
 const THROTTLED: Case = (
     &[("max-download-limit", "16K")],
@@ -411,62 +341,6 @@ const SHARED: Case = (
     ],
 );
 
-// A download that fails stops, and the next one becomes active.
-const FAILED: Case = (
-    &[("max-concurrent-downloads", "1")],
-    &[
-        ("torrent p 16384 16384", "done; a0"),
-        ("torrent q 16384 16384", "done; a0 w0"),
-        ("open 0", "true; a0 w0"),
-        ("take 0", "claim 0: 0+1 at 0; a0 w0"),
-        ("fail 0", "true; f0 a0"),
-        ("fail 0", "false; f0 a0"),
-        ("stands 0", "false; f0 a0"),
-        ("land 0 0 1", "0; f0 a0"),
-        ("save 0", "false; f0 a0"),
-        ("pause 0", "WrongStatus(Failed); f0 a0"),
-        ("fail 9", "true; f0 f0"),
-        ("finished", "true; f0 f0"),
-    ],
-);
-
-// Of two that write the same, the one that is opened later ends.
-const TWINS: Case = (
-    &[],
-    &[
-        ("torrent a 16384 16384", "done; a0"),
-        ("torrent a 16384 16384", "done; a0 a0"),
-        ("end", "no clash; a0 a0"),
-        ("open 0", "true; a0 a0"),
-        ("end", "same hash as 1; a0 f0"),
-        ("end", "no clash; a0 f0"),
-        ("torrent a 32768 16384", "done; a0 f0 a0"),
-        ("end", "same file as 1; a0 f0 f0"),
-    ],
-);
-
-// What others that are opened and haven't stopped write isn't written by another: the payload, its control file and the
-// temporary one.
-const CLASHING: Case = (
-    &[],
-    &[
-        ("torrent a 16384 16384", "done; a0"),
-        ("clash 0", "no clash; a0"),
-        ("torrent a 16384 16384", "done; a0 a0"),
-        ("torrent a 32768 16384", "done; a0 a0 a0"),
-        ("torrent a.aria2__temp 5 16384", "done; a0 a0 a0 a0"),
-        ("clash 9", "no clash; a0 a0 a0 a0"),
-        ("open 0", "true; a0 a0 a0 a0"),
-        ("clash 0", "no clash; a0 a0 a0 a0"),
-        ("clash 9", "same hash as 1; a0 a0 a0 a0"),
-        ("clash 3", "same file as 1; a0 a0 a0 a0"),
-        ("clash d", "same file as 1; a0 a0 a0 a0"),
-        ("remove 0", "done; r0 a0 a0 a0"),
-        ("clash 9", "no clash; r0 a0 a0 a0"),
-        ("clash d", "no clash; r0 a0 a0 a0"),
-    ],
-);
-
 // Each line is answered so.
 fn tell_all<R: Abort>(
     rt: &R,
@@ -484,9 +358,30 @@ fn tell_all<R: Abort>(
 fn histories(rt: HostRuntime) -> Result<(), Fail> {
     let alloc = rt.alloc();
     for (values, lines) in [
-        QUEUED, IN_FRONT, WRONG, BLAMED, MIXED, SOLE, STOLEN, PAUSED, STOPPED, SAVED, LISTED_WRONG,
-        RESUMED, COMPARED, SELECTED, PROBED, TOO_LARGE, WRONG_SUM, RIGHT_SUM, THROTTLED, SHARED,
-        FAILED, TWINS, CLASHING,
+        QUEUED,
+        IN_FRONT,
+        WRONG,
+        BLAMED,
+        MIXED,
+        SOLE,
+        STOLEN,
+        PAUSED,
+        STOPPED,
+        SAVED,
+        LISTED_WRONG,
+        RESUMED,
+        COMPARED,
+        SELECTED,
+        PROBED,
+        TOO_LARGE,
+        WRONG_SUM,
+        RIGHT_SUM,
+        THROTTLED,
+        SHARED,
+        FAILED,
+        LIMITED,
+        TWINS,
+        CLASHING,
     ] {
         let mut rig = Rig::new(alloc, options(alloc, values)?)?;
         tell_all(&rt, alloc, &mut rig, lines)?;

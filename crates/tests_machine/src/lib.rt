@@ -1,6 +1,8 @@
 //! Worked histories of a run through the machine, and random steps beside a plain program.
 #![tactic(auto)]
 
+#[cfg(test)]
+mod end_histories;
 mod ends;
 #[cfg(test)]
 mod histories;
