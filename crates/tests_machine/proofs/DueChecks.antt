@@ -1,5 +1,6 @@
 -- A probe tells too long a payload, and a whole payload is compared with its checksum.
 use Rattle.std.proofs.Common.{◌≡◌, ◌∙◌, ◌<◌, ℕ, Bool, true, false, Option, Some, None, List, [], ◌∷◌, get_or, refl, sym, ap, subst, arith}
+use Rattle.std.specs.Prelude.{IfSome}
 use Rattle.std.specs.Option.{is_some, option_map_or}
 use Rattle.std.proofs.lemmas.List.FromFn.{get_or-map-range_with_len}
 use Rattle.dl_history.specs.OwnEvents.{OwnEvent, Checks, Halts, Sizes}
@@ -187,3 +188,8 @@ may_end_right stay old new gid legal sized going done a =
     subst (λ (start : RunStart). MayFollow start new.past (Ended gid end.Complete)) (sym a.start_is)
     (subst (λ (p : List Event). MayFollow old.start p (Ended gid end.Complete))
     (sym (a.past_is ∙ ap (λ (e : Event). e ∷ old.past) a.is)) (right_ends old gid going done same))
+
+-- what a look-up told
+pub told_when : {A : Type 0} (P : Type 0) (o : Option A) → IfSome o (λ x. P) → is_some o ≡ true → P
+told_when P (Some x) h is = h
+told_when P None h is = absurd cc
