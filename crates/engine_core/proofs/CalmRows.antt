@@ -108,7 +108,7 @@ calm_deliver at s run bytes download claim events said is = ⊎_elim
 
 -- ---- saves, and doors
 
-saves_calm : (at : TurnStart) (gids : List Gid) (past events : List Event) (o : Outcome) → SavesPhase at gids past events o
+pub saves_calm : (at : TurnStart) (gids : List Gid) (past events : List Event) (o : Outcome) → SavesPhase at gids past events o
     → AreCalm events
 saves_calm at [] past events o is = no_events events is.0
 saves_calm at (gid ∷ gids) past events o is = ⊎_elim

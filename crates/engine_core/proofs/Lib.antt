@@ -2,6 +2,8 @@ pub mod Letting
 pub mod Calm
 pub mod CalmRows
 pub mod Downloads
+pub mod NewRates
+pub mod Called
 pub mod Turning
 pub mod Levels
 pub mod Handings

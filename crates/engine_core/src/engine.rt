@@ -1,13 +1,14 @@
 // A run that is steered by turns.
 ghost use Rattle.std.specs.Prelude.{◌≡◌, [], IfErr, IfOk, reverse};
 ghost use Rattle.engine_turns.specs.declared.operations.Operation.TheVariants as operation;
+ghost use Rattle.machine_core.specs.LawfulCalls.{IsLawful};
 ghost use Rattle.engine_core.specs.Engines.{IsNewEngine, TakesTurn, past_of};
 
 use crate::state::EngineState;
 use dl_disk::Disk;
 use dl_kinds::{Mark, Moment, Run};
 use engine_turns::Said;
-use machine_core::{HandedPieces, Journal};
+use machine_core::{Call, HandedPieces, Journal};
 use option_set::{Num, Options};
 use rate_limits::RateLimits;
 use std::alloc::Global;
@@ -65,6 +66,18 @@ impl<D: Disk> Engine<D> {
             },
         } = self;
         run.into_parts()
+    }
+
+    /// A call of a console session, or of the command line; of a console's the number is from 1 on. The progress of the
+    /// downloads that it takes off is saved, and the buckets take the rates of the options as they are then.
+    pub fn call(&mut self, session: u32, call: Call, now: Moment) -> Said
+        requires { IsLawful call }
+        ensures { TakesTurn D.faults (operation.Call session call now) self.old self.new result }
+    {
+        let from = self.state.run.machine().journal().len();
+        let said = self.state.call(session, call, now);
+        self.state.take_back(from);
+        said
     }
 
     /// Blocks of a claim came, with their bytes. Those that are open in the claim are written and counted; the pieces that

@@ -1,8 +1,10 @@
 //! A run that is steered by turns: each operation is the turn that the definitions of `engine_turns` say.
 #![tactic(auto)]
 
+mod calls;
 mod claims;
 mod engine;
+mod following;
 mod front;
 mod handing;
 mod state;
