@@ -31,7 +31,7 @@ use Rattle.engine_core.proofs.CalmRows.{saves_calm}
 use Rattle.engine_core.proofs.Downloads.{AddsNew, GrowsByNew, downloads_grow, event_adds}
 use Rattle.engine_core.proofs.Letting.{lets_go, nothing_spent}
 use Rattle.engine_core.proofs.NewRates.{all_followed_length, all_followed_rate, followed_rate, levels_followed, map_length, map_there, prefix_there}
-use Rattle.engine_core.proofs.Performed.{handed_stay}
+use Rattle.engine_core.proofs.Performed.{handed_stay, out_same}
 
 -- ---- the buckets
 
@@ -164,6 +164,7 @@ module _ {D : Type 0} (session : ℕ) (call : Call) (now : Moment) (old mid : En
                 (levels_called (start_of old) (past_of old) (past_of new) new.run.now.0 old.limits new.limits grows rates follows);
           };
           handed = ap (λ h. h.pieces) (handed_is ∙ begins.handed) ∙ handed_stay op said old.handed.pieces (λ h. refl) none;
+        out = out_same old new (ap (λ h. h.pieces) (handed_is ∙ begins.handed));
           rates = subst (λ (st : RunStart). HasRates st (past_of new) new.limits) (sym same_start)
               (rates_called (start_of old) (past_of old) (past_of new) new.run.now.0 old.limits new.limits grows rates follows);
         }
@@ -173,7 +174,7 @@ module _ {D : Type 0} (session : ℕ) (call : Call) (now : Moment) (old mid : En
 pub roomier_performs : {D : Type 0} (op : Operation) (old mid : EngineState D) (f f' : ℕ) (said : Said) (levels : RunLevels)
     → levels ≡ record mid.limits { room = levels.room } → Performs op old f mid f' said
     → Performs op old f (record mid { limits = levels }) f' said
-roomier_performs op old mid f f' said levels is done = record {
+roomier_performs o old mid f f' said levels is done = record {
   answers = record {
     start = done.answers.start;
     now = done.answers.now;
@@ -188,6 +189,7 @@ roomier_performs op old mid f f' said levels is done = record {
     };
   };
   handed = done.handed;
+  out = done.out;
   rates = record {
     many = ap (λ l. length l.own) is ∙ done.rates.many;
     overall = ap (λ l. l.overall.rate) is ∙ done.rates.overall;

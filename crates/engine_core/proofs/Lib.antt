@@ -9,3 +9,4 @@ pub mod Levels
 pub mod Handings
 pub mod Serving
 pub mod Performed
+pub mod Awaiting

@@ -1,6 +1,6 @@
 -- Operations that let nothing go: they grant nothing, and let no bytes through.
 use Rattle.std.proofs.Common.{◌≡◌, inl, inr, ◌≤◌, ℕ, Bool, true, false, Option, Some, None, List, [], ◌++◌, refl, sym, ap, ◌∙◌, subst, arith}
-use Rattle.std.specs.Prelude.{◌&&◌, filter, max, not}
+use Rattle.std.specs.Prelude.{◌&&◌, All, filter, max, not}
 use Rattle.dl_kinds.specs.declared.runs.Moment.{Moment}
 use Rattle.machine_core.specs.MachineViews.{MachineView}
 use Rattle.machine_core.specs.TurnRooms.{IsRoomierRun}
@@ -19,7 +19,8 @@ use Rattle.stored_run.specs.declared.run.StoredView.{StoredView}
 use Rattle.engine_core.specs.Beginning.{Begins, IsBrokenOff}
 use Rattle.engine_core.specs.Buckets.{HasRates, LevelsGoOn}
 use Rattle.engine_core.specs.Engines.{KeepsRates, past_of, standing_of, start_of}
-use Rattle.engine_core.specs.Performing.{Performs, handed_after}
+use Rattle.engine_core.specs.Handing.{IsOut}
+use Rattle.engine_core.specs.Performing.{HandsOnlyOut, Performs, handed_after}
 use Rattle.engine_core.specs.declared.state.EngineState.{EngineState}
 use Rattle.engine_core.proofs.Calm.{AreCalm, StaysUncalled, no_events, stays_uncalled}
 use Rattle.engine_core.proofs.Handings.{filter_all}
@@ -33,6 +34,10 @@ pub handed_stay : (op : Operation) (said : Said) (pieces : List Handed) → ((h 
 handed_stay op said pieces unsealed none =
     sym (ap (λ (new : List Handed). filter (λ h. not (seals_handed h op && is_taken said)) (new ++ pieces)) (nothing_handed said none)
     ∙ filter_all (λ h. not (seals_handed h op && is_taken said)) pieces (λ h. let is = unsealed h in rw is refl))
+
+-- none more are out
+pub out_same : {D : Type 0} (old new : EngineState D) → new.handed.pieces ≡ old.handed.pieces → HandsOnlyOut old new
+out_same old new same out = subst (All (IsOut (start_of old) (past_of old))) (sym same) out
 
 -- ---- an operation that no seal is, which is broken off or makes a row of the run
 
@@ -80,6 +85,7 @@ module _ {D : Type 0} (op : Operation) (unsealed : (h : Handed) → seals_handed
               (stays_uncalled (start_of old) (past_of old) [] (no_events [] refl))) mid.run.now.0 old.limits rates));
         };
         handed = ap (λ h. h.pieces) begins.handed ∙ handed_stay op said old.handed.pieces unsealed none;
+        out = out_same old mid (ap (λ h. h.pieces) begins.handed);
         rates = rates_after begins.limits begins.machine.start_is begins.machine.past_is rates;
       }
     where
@@ -125,6 +131,7 @@ module _ {D : Type 0} (op : Operation) (unsealed : (h : Handed) → seals_handed
               (stays_uncalled (start_of old) (past_of old) row.events quiet.0)) new.run.now.0 old.limits rates));
         };
         handed = ap (λ h. h.pieces) (handed_is ∙ begins.handed) ∙ handed_stay op said old.handed.pieces unsealed quiet.1;
+        out = out_same old new (ap (λ h. h.pieces) (handed_is ∙ begins.handed));
         rates = rates_then new row.events quiet.0 (limits_is ∙ begins.limits)
             (ap (λ r. r.machine.start) run_is ∙ (start_is ∙ begins.machine.start_is)) past_is rates;
       }

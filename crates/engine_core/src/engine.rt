@@ -23,14 +23,14 @@ pub struct Engine<D: Disk> {
 }
 
 impl<D: Disk> Model for Engine<D> {
-    ghost use Rattle.engine_core.specs.Engines.{KeepsRates};
+    ghost use Rattle.engine_core.specs.Engines.{IsEngineState};
     ghost use Rattle.engine_core.specs.declared.state.EngineState.{EngineState};
 
     ghost Value = { EngineState D };
 
     ghost view = { λ e. e.state };
 
-    ghost invariant = { λ e. KeepsRates e.state };
+    ghost invariant = { λ e. IsEngineState e.state };
 }
 
 impl<D: Disk> Engine<D> {
