@@ -11,6 +11,7 @@ mod ending;
 mod filling;
 mod following;
 mod landing;
+mod opening;
 mod run;
 mod saves;
 mod saving;
