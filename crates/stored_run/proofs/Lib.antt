@@ -42,3 +42,4 @@ pub mod Openings
 pub mod OpenedKept
 pub mod OpenNext
 pub mod OpenParts
+pub mod Grants

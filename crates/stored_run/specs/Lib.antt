@@ -9,3 +9,4 @@ pub mod Deliveries
 pub mod Saves
 pub mod Beginnings
 pub mod Opening
+pub mod Granting

@@ -10,6 +10,8 @@ mod due;
 mod ending;
 mod filling;
 mod following;
+mod granting;
+mod jobs;
 mod landing;
 mod opening;
 mod run;

@@ -5,7 +5,8 @@ ghost use Rattle.engine_turns.specs.Standings.{AnswersUnlessStarved};
 ghost use Rattle.engine_turns.specs.declared.operations.Said.TheVariants.{Done};
 ghost use Rattle.engine_turns.specs.declared.outcome.Outcome.TheVariants.{Went};
 ghost use Rattle.machine_core.specs.MachineViews.{IsFindingOf, IsNext, mark_spare_in};
-ghost use Rattle.machine_core.specs.Reads.{IsPieceOfGid};
+ghost use Rattle.machine_core.specs.Reads.{IsPieceOfGid, lengths_of_gid};
+ghost use Rattle.stored_run.specs.Granting.{IsLongAsPiece};
 ghost use Rattle.stored_run.specs.Settlings.{CountedRow, HasItsDigest, IsToBeSettled, OfDownload, OfWant, ReadsPieceOf, UnreadRow};
 ghost use Rattle.stored_run.specs.Views.{IsGoing};
 ghost use Rattle.stored_run.specs.Steps.{Continues, DoesPart, DoesRow, EndsGid, StoresGid};
@@ -41,6 +42,8 @@ impl<D: Disk> StoredRun<D> {
             (D.state self.old.disk) (D.state self.new.disk) }
         ensures read { result ≡ Went → IsTrue D.tells
             → ReadsPieceOf self.old gid piece (D.state self.old.disk).seen into.new.items }
+        ensures len { result ≡ Went
+            → IsLongAsPiece (lengths_of_gid self.old.machine gid) piece into.new.items }
         ensures same { result ≡ Went → self.new.machine ≡ self.old.machine }
     {
         runs_follow();
@@ -91,6 +94,8 @@ impl<D: Disk> StoredRun<D> {
         requires room { 1 ≤ self.old.machine.spare }
         ensures read { IfOk result (λ bytes. IsTrue D.tells
             → ReadsPieceOf self.old gid piece (D.state self.old.disk).seen bytes) }
+        ensures len { IfOk result (IsLongAsPiece (lengths_of_gid self.old.machine gid) piece) }
+        ensures later { D.faults self.old.disk ≤ D.faults self.new.disk }
         ensures same { OnOk result (self.new.machine ≡ self.old.machine) }
         ensures row { IfErr result (DoesRow (UnreadRow gid)
             self.old (D.faults self.old.disk) self.new (D.faults self.new.disk)) }
