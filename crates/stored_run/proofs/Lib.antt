@@ -43,3 +43,5 @@ pub mod OpenedKept
 pub mod OpenNext
 pub mod OpenParts
 pub mod Grants
+pub mod Between
+pub mod SealedPieces

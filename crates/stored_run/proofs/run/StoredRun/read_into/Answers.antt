@@ -8,6 +8,7 @@ use Rattle.machine_core.specs.declared.events.Event.{Event}
 use Rattle.machine_core.specs.declared.events.Event.TheVariants.{Ended}
 use Rattle.control_file.specs.Wants.{IsWant}
 use Rattle.control_file.specs.declared.want.Want.{Want}
+use Rattle.dl_disk.specs.Files.{IsSame}
 use Rattle.dl_words.specs.Counts.{Rose}
 use Rattle.machine_core.specs.OwnParts.{own_of}
 use Rattle.std.proofs.lemmas.Option.{same_Some}
@@ -207,3 +208,9 @@ returns-in-Ok-clause-len g c went =
     (piece_of_want m.start m.past c.args.gid facts.want c.args.piece facts.has sound piece)
     (c.in-Ok.ensures.len ∙ ap (λ (w : Want). len_of_piece w.plan c.args.piece) want_eq)
     (let ok = c.read_piece.new.into.ok.0 in omega (arith, ok)))
+
+pub returns-in-Ok-clause-still : goal.returns-in-Ok-clause-still
+returns-in-Ok-clause-still g c went told =
+    let d = g.D.Disk in
+    subst (λ (v : StoredView _). IsSame (d.state v.disk).seen (d.state c.read_piece.new.disk).seen) c.self.view_is
+    (c.read_piece.ensures.looks told).stays.seen
