@@ -1,6 +1,6 @@
 -- The download that is opened next, what its store may refuse, and what comes of it.
-use Rattle.std.proofs.Common.{◌≡◌, ◌≢◌, ◌≤◌, ◌<◌, ◌^◌, ℕ, Bool, true, false, cond, Option, Some, None, List, [], ◌∷◌, inl, inr, refl, sym, ap, ◌∙◌, subst, arith}
-use Rattle.std.specs.Prelude.{◌==◌, ◌&&◌, ◌||◌, Err, IfErr, IfOk, IfSome, IsTrue, Ok, OnOk, Result, find, is_err, not}
+use Rattle.std.proofs.Common.{◌≡◌, ◌≤◌, ◌<◌, ◌^◌, ℕ, Bool, true, false, Option, Some, None, List, [], ◌∷◌, refl, sym, ap, ◌∙◌, subst}
+use Rattle.std.specs.Prelude.{◌&&◌, ◌||◌, Err, IfErr, IfOk, IfSome, Ok, OnOk, Result, find, is_err, not}
 use Rattle.std.specs.List.{list_any}
 use Rattle.std.specs.Option.{is_some, option_and_then}
 use Rattle.std.proofs.lemmas.Bool.{eq-eqb}
@@ -19,14 +19,13 @@ use Rattle.machine_core.specs.Clashes.{IsBeforeOpening}
 use Rattle.machine_core.specs.DownloadWants.{HasWant}
 use Rattle.machine_core.specs.MachineViews.{MachineView}
 use Rattle.machine_core.specs.Openings.{HasPlan}
-use Rattle.machine_core.specs.OwnParts.{PayloadLengths, lengths_by, own_of, payload_lengths_of}
+use Rattle.machine_core.specs.OwnParts.{PayloadLengths, own_of, payload_lengths_of}
 use Rattle.machine_core.specs.Replays.{is_active_in, is_same_gid, queue_in}
 use Rattle.machine_core.specs.RunLegal.{IsEndCause, IsLaterThan, IsLegal, IsNewFault, IsOpening, MayFollow, disk_fault_of, download_in, info_hash_by, is_listed, known_lengths}
-use Rattle.machine_core.specs.Starts.{Download, RunStart, Subject, Listed, Unlisted}
+use Rattle.machine_core.specs.Starts.{Download, Subject, Listed, Unlisted}
 use Rattle.machine_core.specs.Wanted.{wanted_pieces}
 use Rattle.machine_core.specs.declared.ends.End.{End}
 use Rattle.machine_core.specs.declared.ends.End.TheVariants as end
-use Rattle.machine_core.specs.declared.events.Event.{Event}
 use Rattle.machine_core.specs.declared.events.Event.TheVariants.{Ended, Opened as OpenedEvent}
 use Rattle.piece_table.specs.Progress.{IsStart}
 use Rattle.resume_core.specs.Openings.{AreOpenedRows, HasOpenCause}

@@ -1,8 +1,7 @@
 -- The parts of an opening, one after the other: a place for the want, the store, the event, and the end.
-use Rattle.std.proofs.Common.{◌≡◌, ◌≢◌, ◌≤◌, ◌<◌, ◌⊎◌, inl, inr, ℕ, Bool, true, false, Option, Some, None, List, [], ◌∷◌, ◌++◌, length, slice_get, refl, sym, ap, ◌∙◌, subst, arith}
-use Rattle.std.specs.Prelude.{IfNone, IfSome, IsSome, IsTrue, Result, Ok, Err}
+use Rattle.std.proofs.Common.{◌≡◌, ◌≤◌, ◌<◌, inl, inr, ℕ, Bool, false, Option, Some, None, List, [], ◌∷◌, ◌++◌, length, refl, sym, ap, ◌∙◌, subst, arith}
+use Rattle.std.specs.Prelude.{IfNone, IfSome, IsSome, IsTrue}
 use Rattle.std.proofs.lemmas.Option.{slice_get_within}
-use Rattle.control_file.specs.Wants.{IsWant}
 use Rattle.control_file.specs.declared.want.Opened.{Opened}
 use Rattle.control_file.specs.declared.want.Want.{Want}
 use Rattle.dl_disk.specs.Passes.{present}
@@ -11,16 +10,14 @@ use Rattle.dl_history.specs.OwnEvents.{OwnEvent, Opens}
 use Rattle.dl_history.specs.PayloadParts.{is_opened}
 use Rattle.dl_kinds.specs.declared.gid.Gid.{Gid}
 use Rattle.dl_kinds.specs.declared.runs.Moment.{Moment}
-use Rattle.engine_turns.specs.NextRows.{OpenRow}
 use Rattle.engine_turns.specs.Phases.{AndThen, EndingOr, NoEvent, OpeningPhase, Phase, TurnStart}
-use Rattle.engine_turns.specs.Standings.{AnswersUnlessStarved, RunStanding}
+use Rattle.engine_turns.specs.Standings.{AnswersUnlessStarved}
 use Rattle.engine_turns.specs.Told.{history_after}
 use Rattle.engine_turns.specs.declared.operations.Said.{Said}
 use Rattle.engine_turns.specs.declared.operations.Said.TheVariants.{Done, NoMemory}
 use Rattle.engine_turns.specs.declared.outcome.Outcome.{Outcome}
 use Rattle.machine_core.proofs.Here.{told_some}
-use Rattle.machine_core.specs.Clashes.{HasClash, HasNoClash, IsClash, IsClear}
-use Rattle.machine_core.specs.DownloadWants.{HasWant}
+use Rattle.machine_core.specs.Clashes.{HasClash, HasNoClash, IsClash}
 use Rattle.machine_core.specs.MachineViews.{IsPlaceOf, MachineView}
 use Rattle.machine_core.specs.OwnParts.{own_of}
 use Rattle.machine_core.specs.Replays.{replay_of}
@@ -32,14 +29,14 @@ use Rattle.machine_core.specs.declared.events.Event.{Event}
 use Rattle.machine_core.specs.declared.events.Event.TheVariants.{Ended, Opened as OpenedEvent}
 use Rattle.resume_core.proofs.Openings.{besides_none, besides_on}
 use Rattle.resume_core.specs.Openings.{KeepsBesides}
-use Rattle.stored_run.specs.Opening.{IsToResume, OpenNextRow, OpensFor, OpensGid, OpensJustIn, OpensOn, OpensThenEnds, OpensWhere, OpensWith, StandsStill, is_checked_in, is_checked_of, own_opened}
+use Rattle.stored_run.specs.Opening.{IsToResume, OpenNextRow, OpensFor, OpensJustIn, OpensOn, OpensWhere, OpensWith, StandsStill, is_checked_in, is_checked_of}
 use Rattle.stored_run.specs.RunFollows.{RunFollows}
 use Rattle.stored_run.specs.Steps.{Continues, DoesPart, DoesRow, EndsGid, EndsStored, StoresEach, turn_from}
-use Rattle.stored_run.specs.Stored.{IsStored, IsStoredRun}
+use Rattle.stored_run.specs.Stored.{IsStoredRun}
 use Rattle.stored_run.specs.Telling.{TellsEvent}
-use Rattle.stored_run.specs.Views.{IsGoing, kept_want_of, own_in}
+use Rattle.stored_run.specs.Views.{own_in}
 use Rattle.stored_run.specs.declared.run.StoredView.{StoredView}
-use Rattle.stored_run.proofs.Doing.{IsGrown, fault_in, no_counts, own_grows}
+use Rattle.stored_run.proofs.Doing.{IsGrown, fault_in, no_counts}
 use Rattle.stored_run.proofs.Keeps.{keeps_beside, keeps_none}
 use Rattle.stored_run.proofs.Openings.{apart_opening}
 use Rattle.stored_run.proofs.PlainEvents.{gid_added}
@@ -144,20 +141,20 @@ opens_none want check disk = record {
 
 module _ {D : Type 0} (laws : RunFollows) (tells : Bool) (faults : ℕ) (old new : StoredView D) (a b : DiskState) (gid : Gid)
     (run : IsStoredRun tells faults a old) (told : IsTrue tells) (grown : (g : Gid) → IsGrown (own_in old g) (own_in new g))
-    where
-  -- no call of the disk
-  pub each_still : StoresEach old new a a
-  each_still g w goes kept =
-      keeps_none laws w (own_in old g) (own_in new g) a (run.wants_are.sound g w kept) (grown g)
-      (run.stored told g w goes kept)
+  where
+    -- no call of the disk
+    pub each_still : StoresEach old new a a
+    each_still g w goes kept =
+        keeps_none laws w (own_in old g) (own_in new g) a (run.wants_are.sound g w kept) (grown g)
+        (run.stored told g w goes kept)
 
-  -- calls for the files of a want that is opened
-  pub each_beside : (want : Want) → IsToResume old.machine gid want → KeepsBesides want a b → StoresEach old new a b
-  each_beside want is besides g w goes kept =
-      keeps_beside laws want w (own_in old g) (own_in new g) a a b
-      (apart_opening old.machine.start old.machine.past old.wants.items old.machine gid want refl refl run.wants_are is.has
-      is.before.opening.unopened is.apart g w goes kept)
-      (omega arith) (each_still g w goes kept) besides
+    -- calls for the files of a want that is opened
+    pub each_beside : (want : Want) → IsToResume old.machine gid want → KeepsBesides want a b → StoresEach old new a b
+    each_beside want is besides g w goes kept =
+        keeps_beside laws want w (own_in old g) (own_in new g) a a b
+        (apart_opening old.machine.start old.machine.past old.wants.items old.machine gid want refl refl run.wants_are is.has
+        is.before.opening.unopened is.apart g w goes kept)
+        (omega arith) (each_still g w goes kept) besides
 
 -- ---- the opening, and the end after it
 

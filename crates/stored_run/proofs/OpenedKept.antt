@@ -1,5 +1,5 @@
 -- What is kept of a run and its disk after a download is opened.
-use Rattle.std.proofs.Common.{◌≡◌, ◌≢◌, ◌≤◌, ◌<◌, ◌+◌, ◌⊎◌, inl, inr, ⊎_elim, ℕ, zero, suc, Bool, true, false, Option, Some, None, List, [], ◌∷◌, length, slice_get, refl, sym, ap, ◌∙◌, subst, arith}
+use Rattle.std.proofs.Common.{◌≡◌, ◌≢◌, ◌≤◌, ◌<◌, ◌⊎◌, inl, inr, ⊎_elim, ℕ, zero, suc, Bool, true, false, Option, Some, None, List, [], ◌∷◌, length, slice_get, refl, sym, ap, ◌∙◌, subst, arith}
 use Rattle.std.specs.Prelude.{◌||◌, IsTrue, slice_index_or, slice_set}
 use Rattle.std.specs.List.{list_any}
 use Rattle.std.specs.Option.{is_some}
@@ -8,7 +8,7 @@ use Rattle.std.proofs.lemmas.List.Folds.{find_at}
 use Rattle.std.proofs.lemmas.Option.{same_Some}
 use Rattle.std.proofs.lemmas.Slice.Eq.{bytes_eq-Decides}
 use Rattle.std.proofs.Math.ListN.{length-set}
-use Rattle.control_file.specs.Wants.{IsListedWant, IsWant}
+use Rattle.control_file.specs.Wants.{IsWant}
 use Rattle.control_file.specs.declared.want.Opened.{Opened}
 use Rattle.control_file.specs.declared.want.Want.{Want}
 use Rattle.dl_disk.specs.State.{DiskState}
@@ -188,9 +188,12 @@ module _ (laws : RunFollows) (held : OpenedAreHeld) (tells : Bool) (faults : ℕ
   kept_was g w is =
       ⊎_elim
       (λ (same : g ≡ gid).
-      inl (same, same_Some w want (sym is
-      ∙ (ap (λ (h : Gid). kept_want (slice_set wants place (Some want)) start
-      (OpenedEvent gid opened.verified opened.blocks now ∷ past) h) same ∙ kept_here))))
+      inl (
+        same,
+        same_Some w want (sym is
+            ∙ (ap (λ (h : Gid). kept_want (slice_set wants place (Some want)) start
+            (OpenedEvent gid opened.verified opened.blocks now ∷ past) h) same ∙ kept_here)),
+      ))
       (λ (other : g ≢ gid). inr (other, sym (kept_beside g other) ∙ is))
       (same_or_apart g gid)
 

@@ -1,11 +1,8 @@
 -- An opening: a place for its want, the calls of the disk, and the event.
-use Rattle.std.proofs.Common.{◌≡◌, ◌≢◌, ◌≤◌, ◌<◌, ◌+◌, ◌-◌, ◌==◌, ℕ, zero, suc, Bool, true, false, cond, Option, Some, None, List, [], ◌∷◌, ◌++◌, ◌⊎◌, inl, inr, ⊎_elim, length, slice_get, refl, sym, ap, ◌∙◌, subst, arith}
+use Rattle.std.proofs.Common.{◌≡◌, ◌≤◌, ◌<◌, ℕ, zero, suc, Bool, true, false, Option, Some, None, List, [], ◌∷◌, ◌++◌, ◌⊎◌, inl, inr, ⊎_elim, length, slice_get, refl, sym, ap, ◌∙◌, subst, arith}
 use Rattle.std.specs.Prelude.{IsTrue, slice_set}
-use Rattle.std.specs.List.{position_or_len}
 use Rattle.std.specs.Option.{is_some, option_and_then}
-use Rattle.std.proofs.lemmas.Bool.{cases_lt, eq-eqb, eqb-true}
 use Rattle.std.proofs.lemmas.List.{append-nil, append_assoc, length-append}
-use Rattle.control_file.specs.Wants.{IsWant}
 use Rattle.control_file.specs.declared.want.Want.{Want}
 use Rattle.dl_disk.specs.State.{DiskState}
 use Rattle.dl_kinds.specs.declared.gid.Gid.{Gid}
@@ -16,14 +13,14 @@ use Rattle.machine_core.specs.MachineViews.{MachineView, place_in}
 use Rattle.machine_core.specs.OwnParts.{own_of}
 use Rattle.machine_core.specs.Replays.{replay_of}
 use Rattle.machine_core.specs.RunLegal.{IsOpenedBeside}
-use Rattle.machine_core.specs.Starts.{Download, RunStart}
+use Rattle.machine_core.specs.Starts.{RunStart}
 use Rattle.machine_core.specs.declared.events.Event.{Event}
 use Rattle.dl_history.specs.PayloadParts.{is_opened}
 use Rattle.resume_core.specs.Openings.{KeepsBesides}
 use Rattle.resume_core.specs.Sharing.{share_names}
 use Rattle.stored_run.specs.Opening.{HoldsPlace}
 use Rattle.stored_run.specs.RunFollows.{RunFollows}
-use Rattle.stored_run.specs.Stored.{AreFaultsWithin, AreWantsKept, IsStored, IsStoredWith}
+use Rattle.stored_run.specs.Stored.{AreWantsKept, IsStoredWith}
 use Rattle.stored_run.specs.Views.{GoesOpened, kept_want}
 use Rattle.stored_run.proofs.Kept.{stored_beside, within_more}
 

@@ -1,6 +1,6 @@
 -- A piece that a worker compared: what the disk reads of it, what its digest says, and what comes of it.
-use Rattle.std.proofs.Common.{◌≡◌, ◌≢◌, ◌≤◌, ◌<◌, inl, inr, ℕ, zero, suc, Bool, true, false, Option, Some, None, List, [], ◌∷◌, length, slice_get, refl, sym, ap, ◌∙◌, subst, arith}
-use Rattle.std.specs.Prelude.{IsSome, IsTrue, slice_index_or}
+use Rattle.std.proofs.Common.{◌≡◌, ◌≢◌, ◌<◌, inl, inr, ℕ, Bool, true, false, Option, Some, List, [], length, slice_get, refl, sym, ap, ◌∙◌, subst, arith}
+use Rattle.std.specs.Prelude.{IsSome, slice_index_or}
 use Rattle.std.specs.Option.{option_map_or}
 use Rattle.std.specs.Str.{bytes_eq}
 use Rattle.std.proofs.lemmas.Option.{same_Some, slice_get-get_or}
@@ -8,10 +8,9 @@ use Rattle.std.proofs.lemmas.Slice.Eq.{bytes_eq-Decides}
 use Rattle.control_file.specs.Wants.{IsListedWant, IsWant}
 use Rattle.control_file.specs.declared.want.Want.{Want}
 use Rattle.dl_disk.specs.Files.{Files, IsSame}
-use Rattle.dl_disk.specs.State.{DiskState}
 use Rattle.dl_history.specs.OwnLegal.{MaySettle}
 use Rattle.dl_kinds.specs.declared.gid.Gid.{Gid}
-use Rattle.engine_turns.specs.Phases.{AfterDisk, AndThen, EndingOr, NoEvent, SettlingPhase, TurnStart}
+use Rattle.engine_turns.specs.Phases.{AfterDisk, AndThen, EndingOr, NoEvent, SettlingPhase}
 use Rattle.engine_turns.specs.SealRows.{SealPhase, has_listed_digest}
 use Rattle.engine_turns.specs.Standings.{AnswersUnlessStarved}
 use Rattle.engine_turns.specs.Told.{history_after}
@@ -29,9 +28,8 @@ use Rattle.machine_core.specs.declared.events.Event.{Event}
 use Rattle.machine_core.specs.declared.events.Event.TheVariants.{Ended, Settled}
 use Rattle.piece_table.specs.declared.giver.Giver.{Giver}
 use Rattle.resume_core.proofs.Filed.{files_kept}
-use Rattle.resume_core.specs.Resume.{HasDigest, ReachesPiece, piece_payload}
+use Rattle.resume_core.specs.Resume.{ReachesPiece, piece_payload}
 use Rattle.resume_core.specs.Runs.{ReadsPiece}
-use Rattle.resume_core.specs.Wants.{files_in}
 use Rattle.sha1.specs.Sha1.{sha1}
 use Rattle.verify_piece.specs.Checks.{has_digest}
 use Rattle.verify_piece.specs.Seals.{PieceBytes}

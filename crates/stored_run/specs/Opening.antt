@@ -8,7 +8,6 @@ use Rattle.dl_disk.specs.State.{DiskState}
 use Rattle.dl_history.specs.OwnEvents.{OwnEvent, Opens}
 use Rattle.dl_history.specs.PayloadParts.{is_opened}
 use Rattle.dl_kinds.specs.declared.gid.Gid.{Gid}
-use Rattle.dl_kinds.specs.declared.runs.Moment.{Moment}
 use Rattle.engine_turns.specs.NextRows.{OpenRow}
 use Rattle.engine_turns.specs.Phases.{IsOpeningRefusal, TurnStart}
 use Rattle.engine_turns.specs.Standings.{AnswersOnly, RunStanding}

@@ -1,4 +1,4 @@
-use Rattle.std.proofs.Common.{ℕ, ◌+◌, ◌-◌}
+use Rattle.std.proofs.Common.{◌+◌, ◌-◌}
 use Rattle.std.specs.Prelude.{vec_len}
 use Rattle.stored_run.specs.Opening.{HoldsPlace}
 use Rattle.stored_run.proofs.opening.make_place.Given as goal

@@ -1,4 +1,4 @@
-use Rattle.std.proofs.Common.{◌≡◌, ◌∙◌, ap, refl, subst, sym, true}
+use Rattle.std.proofs.Common.{◌∙◌, ap, sym}
 use Rattle.control_file.specs.declared.want.Want.{Want}
 use Rattle.machine_core.proofs.Begun.{copied_is, copied_some}
 use Rattle.std.proofs.lemmas.Option.{same_Some}

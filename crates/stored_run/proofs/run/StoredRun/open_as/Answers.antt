@@ -1,4 +1,4 @@
-use Rattle.std.proofs.Common.{◌≡◌, ◌<◌, List, Option, Some, ◌∷◌, ◌∙◌, ap, arith, length, refl, subst, sym}
+use Rattle.std.proofs.Common.{◌≡◌, ◌<◌, List, Option, Some, ◌∷◌, ◌∙◌, ap, length, refl, subst, sym}
 use Rattle.std.specs.Prelude.{IsTrue, slice_set}
 use Rattle.control_file.specs.declared.want.Want.{Want}
 use Rattle.machine_core.specs.MachineViews.{place_in}

@@ -1,7 +1,6 @@
-use Rattle.std.proofs.Common.{◌≡◌, ◌≤◌, List, Option, Some, None, ◌∷◌, arith, inl, inr, refl, subst, sym}
-use Rattle.std.specs.Prelude.{IfNone, IfSome}
+use Rattle.std.proofs.Common.{◌≡◌, ◌≤◌, Option, Some, arith, inl, inr, refl, subst, sym}
+use Rattle.std.specs.Prelude.{IfNone}
 use Rattle.control_file.specs.Wants.{IsWant}
-use Rattle.control_file.specs.declared.want.Want.{Want}
 use Rattle.machine_core.proofs.Here.{told_some}
 use Rattle.machine_core.specs.Claiming.{next_to_open}
 use Rattle.machine_core.specs.Clashes.{HasClash, IsClear, SharesNoName}

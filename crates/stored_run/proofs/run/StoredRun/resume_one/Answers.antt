@@ -1,6 +1,6 @@
-use Rattle.std.proofs.Common.{◌≡◌, ◌<◌, ◌≤◌, List, [], ◌∷◌, ◌∙◌, ap, arith, length, refl, subst, sym, true, false}
+use Rattle.std.proofs.Common.{◌≡◌, ◌<◌, ◌≤◌, [], ◌∷◌, ◌∙◌, ap, arith, length, refl, subst, sym, true, false}
 use Rattle.std.specs.Prelude.{IfSome}
-use Rattle.dl_history.specs.OwnEvents.{OwnEvent, Halts}
+use Rattle.dl_history.specs.OwnEvents.{Halts}
 use Rattle.dl_history.specs.PayloadParts.{is_opened}
 use Rattle.engine_turns.specs.Phases.{OpeningPhase}
 use Rattle.engine_turns.specs.declared.outcome.Outcome.TheVariants.{Over, Starved, Went}
@@ -9,7 +9,6 @@ use Rattle.machine_core.specs.MachineViews.{MachineView, place_in}
 use Rattle.machine_core.specs.OwnParts.{own_of}
 use Rattle.machine_core.specs.Reads.{downloads_in}
 use Rattle.machine_core.specs.RunLegal.{MayFollow, disk_fault_of}
-use Rattle.machine_core.specs.declared.events.Event.{Event}
 use Rattle.machine_core.specs.declared.events.Event.TheVariants.{Ended, Opened as OpenedEvent}
 use Rattle.stored_run.specs.Opening.{IsRefusedSince, IsToResume, OpensOn, is_checked_of}
 use Rattle.stored_run.specs.Steps.{turn_from}

@@ -1,6 +1,6 @@
-use Rattle.std.proofs.Common.{◌≡◌, ◌<◌, ◌≤◌, ◌^◌, ⊎_elim, arith, refl, subst, sym}
+use Rattle.std.proofs.Common.{⊎_elim, arith, refl, subst, sym}
 use Rattle.std.specs.Prelude.{IfSome}
-use Rattle.machine_core.specs.RunLegal.{MayFollow, disk_fault_of}
+use Rattle.machine_core.specs.RunLegal.{MayFollow}
 use Rattle.machine_core.specs.declared.events.Event.TheVariants.{Ended}
 use Rattle.stored_run.specs.Opening.{IsRefusedSince, IsToResume, OpensOn, is_checked_of}
 use Rattle.stored_run.specs.declared.run.StoredView.{StoredView}

@@ -1,5 +1,4 @@
 use Rattle.std.proofs.Common.{◌≡◌, ◌∙◌, List, ℕ, arith, inl, inr, refl, subst, sym, true, false}
-use Rattle.std.specs.Str.{bytes_eq}
 use Rattle.std.proofs.lemmas.Slice.Eq.{bytes_eq-Decides}
 use Rattle.stored_run.specs.Settlings.{ReadsPieceOf}
 use Rattle.stored_run.specs.Views.{own_in}

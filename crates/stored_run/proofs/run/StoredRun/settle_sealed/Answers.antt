@@ -1,4 +1,4 @@
-use Rattle.std.proofs.Common.{◌≡◌, ℕ, Bool, refl, subst, sym, true}
+use Rattle.std.proofs.Common.{ℕ, Bool, subst, sym}
 use Rattle.engine_turns.specs.Phases.{AndThen, EndingOr, NoEvent, SettlingPhase}
 use Rattle.machine_core.specs.MachineViews.{IsFindingOf, IsNext}
 use Rattle.stored_run.specs.Settlings.{HasItsDigest}
