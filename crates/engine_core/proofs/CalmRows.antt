@@ -32,7 +32,7 @@ IsCalmRow Row = (events : List Event) (said : Said) → Row events said → AreC
 pub calm_only : (usual : Said) → lets_go usual ≡ false → IsCalmRow (AnswersOnly usual)
 calm_only usual none events said is = (no_events events is.0, ap lets_go is.1 ∙ none)
 
-unless_starved : (usual : Said) (outcome : Outcome) (said : Said) → lets_go usual ≡ false
+pub unless_starved : (usual : Said) (outcome : Outcome) (said : Said) → lets_go usual ≡ false
     → AnswersUnlessStarved usual outcome said → lets_go said ≡ false
 unless_starved usual Went said none is = ap lets_go is ∙ none
 unless_starved usual Over said none is = ap lets_go is ∙ none

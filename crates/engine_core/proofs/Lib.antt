@@ -8,5 +8,8 @@ pub mod Turning
 pub mod Levels
 pub mod Handings
 pub mod Serving
+pub mod Spendings
 pub mod Performed
 pub mod Awaiting
+pub mod Given
+pub mod Allowing

@@ -92,6 +92,17 @@ impl<D: Disk> Engine<D> {
         said
     }
 
+    /// How many more bytes of a claim may be fetched, of at most `want`: as many as both buckets of its download let go, and
+    /// never more than `MAX_ALLOWANCE`. Where they let none go, the answer is in how many milliseconds they do.
+    pub fn more(&mut self, claim: u64, want: u32, now: Moment) -> Said
+        ensures { TakesTurn D.faults (operation.More claim want now) self.old self.new result }
+    {
+        let from = self.state.run.machine().journal().len();
+        let said = self.state.more(claim, want, now);
+        self.state.take_back(from);
+        said
+    }
+
     /// A claim failed. A sole piece of it is cleared, and the download ends where no mirror has a try left for the piece.
     pub fn lose(&mut self, claim: u64, mark: Mark, now: Moment) -> Said
         ensures { TakesTurn D.faults (operation.Lose claim mark now) self.old self.new result }
