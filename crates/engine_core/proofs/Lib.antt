@@ -13,3 +13,5 @@ pub mod Performed
 pub mod Awaiting
 pub mod Given
 pub mod Allowing
+pub mod Granted
+pub mod Nexts

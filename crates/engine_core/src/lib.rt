@@ -6,6 +6,7 @@ mod claims;
 mod engine;
 mod following;
 mod front;
+mod granting;
 mod handing;
 mod state;
 
