@@ -37,6 +37,8 @@ use Rattle.engine_core.specs.Engines.{KeepsRates, past_of, standing_of, start_of
 use Rattle.engine_core.specs.Giving.{MakesRow}
 use Rattle.engine_core.specs.declared.state.EngineState.{EngineState}
 use Rattle.engine_core.proofs.Calm.{AreCalm, no_events}
+use Rattle.std.proofs.lemmas.List.Elements.{All-nil}
+use Rattle.engine_core.specs.Handing.{IsUnsettled}
 use Rattle.engine_core.proofs.Given.{gives_spent, gives_unspent}
 
 -- ---- the bucket of a download
@@ -206,7 +208,8 @@ module _ {D : Type 0} (now : Moment) (mid new : EngineState D) (id want place f 
               (turn_credit (turn_from mid.run from) (standing_of mid) gid).bytes some
               (subst (λ (c : ℕ). 1 ≤ c) same lets.some),
         ),
-      )) (omega arith) none_count (ap (λ h. h.pieces) handed) gid bytes place limits
+      )) (omega arith) none_count (ap (λ h. h.pieces) handed)
+      (All-nil (IsUnsettled (start_of mid) (past_of mid))) gid bytes place limits
       (spending_home (start_of mid) (past_of mid) id home.download home.claim home.home.stands home.home.id_is home.home.added
       home.one bytes) home.first (slice_get_within (downloads_of (start_of mid) (past_of mid)) place home.download home.there)
 
@@ -230,4 +233,5 @@ module _ {D : Type 0} (now : Moment) (mid new : EngineState D) (id want place f 
               ∙ said_hold (turn_from mid.run from) (standing_of mid) gid want
               (turn_credit (turn_from mid.run from) (standing_of mid) gid).bytes some (sym same ∙ holds.0),
         ),
-      )) (omega arith) none_count (ap (λ h. h.pieces) handed) limits refl
+      )) (omega arith) none_count (ap (λ h. h.pieces) handed)
+      (All-nil (IsUnsettled (start_of mid) (past_of mid))) limits refl

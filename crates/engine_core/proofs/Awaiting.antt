@@ -259,7 +259,7 @@ pub out_stays : Laws → OutPiecesStay
 out_stays laws start past events h legal out stays =
     let both = and_parts (is_active_in start (history_after past events) h.gid) (settle_none events h) stays in
     record {
-      unsettled = unsettled_after laws start h past events legal (not_any (list_any (settles_handed h) events) both.1) out.unsettled;
+      unsettled = unsettled_after laws start h past events legal (not_any (list_any (settles_handed h) events) both.1) out;
       active = both.0;
     }
 
@@ -277,14 +277,14 @@ all_kept P Q f (h ∷ hs) keep all = by (f h) refl (All-head P h hs all) (all_ke
 pub out_after : OutPiecesStay → (start : RunStart) (before past events : List Event) (from : ℕ) (old new : List Handed)
     → past ≡ history_after before events → from ≡ length before → IsLegal start past
     → new ≡ filter (stays_handed start past (drop from (reverse past))) old
-    → All (IsOut start before) old → All (IsOut start past) new
+    → All (IsUnsettled start before) old → All (IsOut start past) new
 out_after stay start before past events from old new past_is from_is legal new_is out =
     let drops : drop from (reverse past) ≡ events =
     ap (λ (n : ℕ). drop n (reverse past)) (from_is ∙ sym (length-reverse before)) ∙ events_behind before events past past_is in
     let kept : new ≡ filter (stays_handed start past events) old =
     new_is ∙ ap (λ (es : List Event). filter (stays_handed start past es) old) drops in
     subst (All (IsOut start past)) (sym kept)
-    (all_kept (IsOut start before) (IsOut start past) (stays_handed start past events) old
+    (all_kept (IsUnsettled start before) (IsOut start past) (stays_handed start past events) old
     (λ h here stays.
     subst (λ (p : List Event). IsOut start p h) (sym past_is)
     (stay start before events h (subst (IsLegal start) past_is legal) here

@@ -1,6 +1,7 @@
 -- What is given in a turn, and what that leaves.
 use Rattle.std.proofs.Common.{◌≡◌, inr, ⊎_elim, ◌≤◌, ◌<◌, ℕ, Bool, true, false, Some, None, List, ◌++◌, length, refl, sym, ap, ◌∙◌, subst, arith}
-use Rattle.std.specs.Prelude.{◌&&◌, Contains, max, not}
+use Rattle.std.specs.Prelude.{◌&&◌, All, Contains, max, not}
+use Rattle.std.proofs.lemmas.List.Elements.{All-append}
 use Rattle.dl_kinds.specs.declared.gid.Gid.{Gid}
 use Rattle.dl_kinds.specs.declared.runs.Moment.{Moment}
 use Rattle.machine_core.specs.MachineViews.{place_in}
@@ -30,7 +31,8 @@ use Rattle.engine_core.specs.Beginning.{Begins}
 use Rattle.engine_core.specs.Buckets.{HasRates, LevelsGoOn}
 use Rattle.engine_core.specs.Engines.{KeepsRates, past_of, standing_of, start_of}
 use Rattle.engine_core.specs.Giving.{GivenRow, MakesRow, UnopenedRow}
-use Rattle.engine_core.specs.Performing.{Performs}
+use Rattle.engine_core.specs.Handing.{IsUnsettled}
+use Rattle.engine_core.specs.Performing.{HandsUnsettled, Performs}
 use Rattle.engine_core.specs.declared.state.EngineState.{EngineState}
 use Rattle.engine_core.proofs.Calm.{AreCalm, StaysUncalled, calm_ending, calm_none, calm_settling, calm_then, no_events, one_event, stays_uncalled}
 use Rattle.engine_core.proofs.CalmRows.{calm_only, unless_starved}
@@ -96,6 +98,17 @@ module _ {D : Type 0} (old mid : EngineState D) (now : Moment) (begins : Begins 
         (rates_on (start_of old) (past_of old) after stays (spent_by (start_of old) (past_of old) op said) new.run.now.0 old.limits
         new.limits rates on))
 
+    -- what is handed out awaits its finding
+    abbrev Unsettled : Handed → Type 0
+    Unsettled = IsUnsettled (start_of old) (past_of old)
+
+    out_then : HandsUnsettled old new
+    out_then all =
+        subst (All Unsettled) (sym (gives.handed ∙ ap (λ h. handed_by said ++ h.pieces) begins.handed))
+        (All-append Unsettled (handed_by said) old.handed.pieces
+        (subst (λ (s : RunStart). All (IsUnsettled s (past_of old)) (handed_by said)) begins.machine.start_is
+        (subst (λ (p : List Event). All (IsUnsettled (start_of mid) p) (handed_by said)) begins.machine.past_is gives.out)) all)
+
     pub gives_performed : Performs op old before new f' said
     gives_performed = record {
       answers = record {
@@ -112,6 +125,7 @@ module _ {D : Type 0} (old mid : EngineState D) (now : Moment) (begins : Begins 
       handed = gives.handed ∙ (ap (λ h. handed_by said ++ h.pieces) begins.handed
           ∙ sym (filter_all (λ h. not (seals_handed h op && is_taken said)) (handed_by said ++ old.handed.pieces)
           (λ h. let is = unsealed h in rw is refl)));
+      out = out_then;
       rates = rates_then;
     }
 
@@ -123,7 +137,8 @@ module _ {D : Type 0} (op : Operation) (Row : TurnStart → RunStanding → List
     (grown : past_of new ≡ history_after (past_of old) events)
     (row : (from : ℕ) → from ≤ f → Row (turn_from old.run from) (standing_of old) events said) (later : f ≤ f')
     (counts : (gid : Gid) (count : ℕ) → Contains events (Ended gid (end.Disk count)) → count ≤ f')
-    (handed : new.handed.pieces ≡ handed_by said ++ old.handed.pieces) where
+    (handed : new.handed.pieces ≡ handed_by said ++ old.handed.pieces)
+    (out : All (IsUnsettled (start_of old) (past_of old)) (handed_by said)) where
   abbrev stays_then : StaysUncalled (start_of old) (past_of old) (past_of new)
   stays_then = subst (StaysUncalled (start_of old) (past_of old)) (sym grown)
       (stays_uncalled (start_of old) (past_of old) events calm)
@@ -140,6 +155,7 @@ module _ {D : Type 0} (op : Operation) (Row : TurnStart → RunStanding → List
     later = later;
     counts = counts;
     handed = handed;
+    out = out;
     levels = subst (λ l. LevelsGoOn (start_of old) (past_of old) (past_of new) (spent_by (start_of old) (past_of old) op said) new.run.now.0 old.limits l)
         (sym limits)
         (subst (λ spent. LevelsGoOn (start_of old) (past_of old) (past_of new) spent new.run.now.0 old.limits old.limits)
@@ -161,6 +177,7 @@ module _ {D : Type 0} (op : Operation) (Row : TurnStart → RunStanding → List
     later = later;
     counts = counts;
     handed = handed;
+    out = out;
     levels = subst (λ l. LevelsGoOn (start_of old) (past_of old) (past_of new) (spent_by (start_of old) (past_of old) op said) new.run.now.0 old.limits l)
         (ap (λ (m : Moment). levels_taken place m.0 (Go bytes) old.limits) now ∙ sym limits)
         (subst (λ spent. LevelsGoOn (start_of old) (past_of old) (past_of new) spent new.run.now.0 old.limits (levels_taken place new.run.now.0 (Go bytes) old.limits))

@@ -1,6 +1,6 @@
 -- What was offered is given.
 use Rattle.std.proofs.Common.{◌≡◌, inl, inr, ⊎_elim, ◌≤◌, ◌<◌, ℕ, Bool, true, false, Option, Some, None, List, [], ◌∷◌, ◌++◌, length, refl, sym, ap, ◌∙◌, subst, arith}
-use Rattle.std.specs.Prelude.{Contains, IfNone, IfSome, IsSome, map, min}
+use Rattle.std.specs.Prelude.{Contains, IfNone, IfSome, IsSome, map, min, All}
 use Rattle.std.specs.Option.{is_some}
 use Rattle.std.proofs.lemmas.Option.{slice_get_within}
 use Rattle.dl_kinds.specs.declared.gid.Gid.{Gid}
@@ -38,18 +38,20 @@ use Rattle.engine_turns.specs.declared.operations.Said.{Said}
 use Rattle.engine_turns.specs.declared.operations.Said.TheVariants.{Grant}
 use Rattle.stored_run.specs.Beginnings.{IsRoomier}
 use Rattle.stored_run.specs.Granting.{MakesClaim, IsLongAsPiece, MayBeGiven, UngivenRow}
-use Rattle.stored_run.specs.Settlings.{OfDownload}
+use Rattle.stored_run.specs.Settlings.{IsToBeSettled, OfDownload}
 use Rattle.stored_run.specs.Steps.{DoesRow, turn_from}
 use Rattle.stored_run.proofs.Doing.{fault_in}
 use Rattle.stored_run.proofs.PlainEvents.{gid_added}
 use Rattle.engine_core.specs.Buckets.{HasRates, LevelsGoOn}
 use Rattle.engine_core.specs.Engines.{KeepsRates, past_of, standing_of, start_of}
+use Rattle.std.proofs.lemmas.List.Elements.{All-cons, All-nil}
+use Rattle.engine_core.specs.Handing.{IsUnsettled}
 use Rattle.engine_core.specs.Giving.{GivenRow, MakesRow, MayGive, UnopenedRow, credit_now}
 use Rattle.engine_core.specs.declared.state.EngineState.{EngineState}
 use Rattle.engine_core.proofs.Allowing.{place_added}
 use Rattle.engine_core.proofs.Calm.{no_events, one_event}
 use Rattle.engine_core.proofs.Given.{calm_ungiven, given_of_ungiven, gives_spent, gives_unspent}
-use Rattle.engine_core.proofs.Letting.{lets_go, nothing_handed, nothing_spent}
+use Rattle.engine_core.proofs.Letting.{lets_go, none_out, nothing_handed, nothing_spent}
 
 pub some_added : (o : Option Download) → is_some o ≡ true → (d : Download) × (o ≡ Some d)
 some_added None is = absurd (let no : false ≡ true = is in cc)
@@ -105,20 +107,29 @@ module _ {D : Type 0} (worker : ℕ) (now : Moment) (old new : EngineState D) (g
     is = (refl, ap (λ (g : Gid). Grant (Hash g piece bytes)) (sym its_gid));
   })
 
-  pub hash_given : (piece : ℕ) (bytes : List ℕ)
+  pub hash_given : (piece : ℕ) (bytes : List ℕ) → IsToBeSettled old.run gid piece
       → OfDownload old.run gid (λ download. is_listed download.subject ≡ true)
       → IsLongAsPiece (lengths_of_gid old.run.machine gid) piece bytes → new.run.machine ≡ old.run.machine
       → new.run.now ≡ old.run.now → new.handed.pieces ≡ record { gid = gid; piece = piece } ∷ old.handed.pieces
       → new.limits ≡ old.limits
       → MakesRow (Next worker now) (GivenRow gid worker (offer.Whole piece)) old f new f' (Grant (Hash gid piece bytes))
-  hash_given piece bytes listed long machine now_is handed limits =
+  hash_given piece bytes to listed long machine now_is handed limits =
+      let unsettled : IsUnsettled start past (record { gid = gid; piece = piece }) = record {
+        download = its.0;
+        added = its.1;
+        listed = listed its.0 its.1;
+        opened = to.may.opened;
+        awaits = record { within = to.may.within; full = to.may.full; unverified = to.may.unverified; anew = to.may.anew };
+      } in
       gives_unspent (Next worker now) (GivenRow gid worker (offer.Whole piece)) old new f f' (Grant (Hash gid piece bytes)) []
       (no_events [] refl) rates (ap (λ m. m.start) machine) now_is (ap (λ m. m.past) machine)
       (λ from below. inr (
         its.0,
         its.1,
         hash_row (is_listed its.0.subject) piece from bytes (listed its.0 its.1) long,
-      )) later (none_count f') handed limits refl
+      )) later (none_count f') handed
+      (All-cons (IsUnsettled start past) (record { gid = gid; piece = piece }) [] unsettled (All-nil (IsUnsettled start past)))
+      limits refl
 
   -- .. or isn't
   pub whole_ungiven : (piece : ℕ) (said : Said) → DoesRow (UngivenRow gid piece) old.run f new.run f' said
@@ -132,7 +143,7 @@ module _ {D : Type 0} (worker : ℕ) (now : Moment) (old new : EngineState D) (g
       (λ from below. given_of_ungiven gid worker piece (turn_from old.run from) (standing_of old) row.events said
       (row.is from (standing_of old) below refl)) later row.counts
       (ap (λ h. h.pieces) handed ∙ ap (λ (hs : List Handed). hs ++ old.handed.pieces) (sym (nothing_handed said quiet.1)))
-      limits (nothing_spent start past (Next worker now) said quiet.1)
+      (none_out (IsUnsettled start past) said quiet.1) limits (nothing_spent start past (Next worker now) said quiet.1)
 
   -- a mirror is to be asked for the length
   pub probe_given : (mirror id : ℕ) (url : List ℕ) → MakesClaim gid worker mirror no_blocks None id old.run new.run
@@ -153,7 +164,8 @@ module _ {D : Type 0} (worker : ℕ) (now : Moment) (old new : EngineState D) (g
           is = ap (λ (g : Gid). Grant (Probe id g url)) (sym its_gid)
               ∙ ap (λ (u : List ℕ). Grant (Probe id its.0.gid u)) (url_is its.0 its.1);
         },
-      )) later (fault_in (Claimed gid claim) f' tt) (ap (λ h. h.pieces) handed) limits refl
+      )) later (fault_in (Claimed gid claim) f' tt) (ap (λ h. h.pieces) handed)
+      (All-nil (IsUnsettled start past)) limits refl
 
   -- blocks are claimed
   pub blocks_given : (mirror : ℕ) (run : Run) (victim : Option ℕ) (id : ℕ) (job : Job) (place bytes : ℕ)
@@ -184,7 +196,8 @@ module _ {D : Type 0} (worker : ℕ) (now : Moment) (old new : EngineState D) (g
           allow_is = omega (arith, bytes_is, credit);
           is = refl;
         },
-      )) later (fault_in (Claimed gid claim) f' tt) (ap (λ h. h.pieces) handed) gid bytes place limits refl first within
+      )) later (fault_in (Claimed gid claim) f' tt) (ap (λ h. h.pieces) handed) (All-nil (IsUnsettled start past)) gid bytes place
+      limits refl first within
 
 -- ---- nothing is given
 
@@ -196,7 +209,8 @@ pub gives_nothing : {D : Type 0} (op : Operation) (Row : TurnStart → RunStandi
     → ((from : ℕ) → from ≤ f → Row (turn_from old.run from) (standing_of old) [] said) → MakesRow op Row old f new f' said
 gives_nothing op Row old new f f' said later rates start now past handed limits none row =
     gives_unspent op Row old new f f' said [] (no_events [] refl) rates start now past row later (none_count f')
-    (handed ∙ ap (λ (hs : List Handed). hs ++ old.handed.pieces) (sym (nothing_handed said none))) limits
+    (handed ∙ ap (λ (hs : List Handed). hs ++ old.handed.pieces) (sym (nothing_handed said none)))
+    (none_out (IsUnsettled (start_of old) (past_of old)) said none) limits
     (nothing_spent (start_of old) (past_of old) op said none)
 
 -- ---- what was offered may be given
@@ -287,6 +301,9 @@ module _ {D : Type 0} (worker : ℕ) (old mid new : EngineState D) (f f1 f' : �
         later = omega (arith, below, given.later);
         counts = given.counts;
         handed = given.handed ∙ ap (λ (hs : List Handed). handed_by said ++ hs) handed;
+        out =
+            subst (λ (s : RunStart). All (IsUnsettled s (past_of old)) (handed_by said)) start
+            (subst (λ (p : List Event). All (IsUnsettled (start_of mid) p) (handed_by said)) past given.out);
         levels =
             subst (λ (l : RunLevels). LevelsGoOn (start_of old) (past_of old) (past_of new) (spent_by (start_of old) (past_of old) op said) new.run.now.0 l new.limits)
             limits

@@ -19,12 +19,13 @@ use Rattle.dl_kinds.specs.declared.runs.Moment.{Moment}
 use Rattle.stored_run.specs.Steps.{DoesRow, turn_from}
 use Rattle.stored_run.proofs.PlainEvents.{gid_added}
 use Rattle.engine_core.specs.Engines.{KeepsRates, past_of, standing_of, start_of}
+use Rattle.engine_core.specs.Handing.{IsUnsettled}
 use Rattle.engine_core.specs.Giving.{MakesRow, UnopenedRow}
 use Rattle.engine_core.specs.declared.state.EngineState.{EngineState}
 use Rattle.engine_core.proofs.Calm.{AreCalm, calm_ending, calm_none, calm_opening, calm_then, one_event}
 use Rattle.engine_core.proofs.CalmRows.{calm_only, unless_starved}
 use Rattle.engine_core.proofs.Given.{calm_unopened, gives_unspent}
-use Rattle.engine_core.proofs.Letting.{lets_go, nothing_handed, nothing_spent}
+use Rattle.engine_core.proofs.Letting.{lets_go, none_out, nothing_handed, nothing_spent}
 
 -- ---- no download is to be opened
 
@@ -43,6 +44,7 @@ rest_given op worker old f new f' said none gives = record {
   later = gives.later;
   counts = gives.counts;
   handed = gives.handed;
+  out = gives.out;
   levels = gives.levels;
 }
 
@@ -113,4 +115,4 @@ first_given op gid old new f f' said is row start now handed limits rates =
     gives_unspent op (FirstRow gid) old new f f' said row.events quiet.0 rates start now row.grown
     (λ from below. (is, row.is from (standing_of old) below refl)) row.later row.counts
     (ap (λ h. h.pieces) handed ∙ ap (λ (hs : List Handed). hs ++ old.handed.pieces) (sym (nothing_handed said quiet.1)))
-    limits (nothing_spent (start_of old) (past_of old) op said quiet.1)
+    (none_out (IsUnsettled (start_of old) (past_of old)) said quiet.1) limits (nothing_spent (start_of old) (past_of old) op said quiet.1)

@@ -19,8 +19,8 @@ use Rattle.stored_run.specs.declared.run.StoredView.{StoredView}
 use Rattle.engine_core.specs.Beginning.{Begins, IsBrokenOff}
 use Rattle.engine_core.specs.Buckets.{HasRates, LevelsGoOn}
 use Rattle.engine_core.specs.Engines.{KeepsRates, past_of, standing_of, start_of}
-use Rattle.engine_core.specs.Handing.{IsOut}
-use Rattle.engine_core.specs.Performing.{HandsOnlyOut, Performs, handed_after}
+use Rattle.engine_core.specs.Handing.{IsUnsettled}
+use Rattle.engine_core.specs.Performing.{HandsUnsettled, Performs, handed_after}
 use Rattle.engine_core.specs.declared.state.EngineState.{EngineState}
 use Rattle.engine_core.proofs.Calm.{AreCalm, StaysUncalled, no_events, stays_uncalled}
 use Rattle.engine_core.proofs.Handings.{filter_all}
@@ -36,8 +36,8 @@ handed_stay op said pieces unsealed none =
     ∙ filter_all (λ h. not (seals_handed h op && is_taken said)) pieces (λ h. let is = unsealed h in rw is refl))
 
 -- none more are out
-pub out_same : {D : Type 0} (old new : EngineState D) → new.handed.pieces ≡ old.handed.pieces → HandsOnlyOut old new
-out_same old new same out = subst (All (IsOut (start_of old) (past_of old))) (sym same) out
+pub out_same : {D : Type 0} (old new : EngineState D) → new.handed.pieces ≡ old.handed.pieces → HandsUnsettled old new
+out_same old new same out = subst (All (IsUnsettled (start_of old) (past_of old))) (sym same) out
 
 -- ---- an operation that no seal is, which is broken off or makes a row of the run
 

@@ -3,7 +3,7 @@ use Rattle.std.proofs.Common.{◌≡◌, ◌≤◌, ℕ, Bool, true, false, List
 use Rattle.std.specs.Prelude.{◌&&◌, ◌||◌, All, Contains, filter, max, not}
 use Rattle.std.specs.List.{list_any}
 use Rattle.std.proofs.lemmas.List.{length-reverse, reverse-append}
-use Rattle.std.proofs.lemmas.List.Elements.{filter_agree}
+use Rattle.std.proofs.lemmas.List.Elements.{All-weaker, filter_agree}
 use Rattle.machine_core.specs.Replays.{is_active_in}
 use Rattle.machine_core.specs.Starts.{Download, RunStart}
 use Rattle.machine_core.specs.declared.ends.End.TheVariants as end
@@ -22,7 +22,7 @@ use Rattle.engine_turns.specs.declared.operations.Operation.{Operation}
 use Rattle.engine_turns.specs.declared.operations.Said.{Said}
 use Rattle.engine_core.specs.Buckets.{HasRates, own_levels_on}
 use Rattle.engine_core.specs.Engines.{IsEngineState, KeepsRates, StandsAfter, TakesTurn, past_of, standing_of, stands_for, start_of}
-use Rattle.engine_core.specs.Handing.{IsOut, stays_handed}
+use Rattle.engine_core.specs.Handing.{IsOut, IsUnsettled, stays_handed}
 use Rattle.engine_core.specs.Performing.{Performs}
 use Rattle.engine_core.specs.declared.state.EngineState.{EngineState}
 use Rattle.engine_core.proofs.Downloads.{downloads_grow, each_found}
@@ -211,7 +211,7 @@ module _ {D : Type 0} (faults : D → ℕ) (op : Operation) (said : Said) (old i
 
   -- .. and each piece that is out then awaits its finding
   pub engine_since : ((before events : List Event) → past_of mid ≡ history_after before events → from ≡ length before
-      → All (IsOut (start_of mid) before) mid.handed.pieces → All (IsOut (start_of mid) (past_of mid)) new.handed.pieces)
+      → All (IsUnsettled (start_of mid) before) mid.handed.pieces → All (IsOut (start_of mid) (past_of mid)) new.handed.pieces)
       → All (IsOut (start_of old) (past_of old)) old.handed.pieces → IsEngineState new
   engine_since back out =
       let done = done_since in
@@ -221,5 +221,7 @@ module _ {D : Type 0} (faults : D → ℕ) (op : Operation) (said : Said) (old i
         rates = rates_since;
         out = subst (λ r. All (IsOut r.machine.start r.machine.past) new.handed.pieces) (sym run)
             (back (past_of old) done.answers.events done.answers.grown count
-            (subst (λ (s : RunStart). All (IsOut s (past_of old)) mid.handed.pieces) (sym done.answers.start) (done.out out)));
+            (subst (λ (s : RunStart). All (IsUnsettled s (past_of old)) mid.handed.pieces) (sym done.answers.start)
+            (done.out (All-weaker (IsOut (start_of old) (past_of old)) (IsUnsettled (start_of old) (past_of old))
+            (λ h is. is.unsettled) old.handed.pieces out))));
       }

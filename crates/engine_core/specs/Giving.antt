@@ -1,5 +1,5 @@
 -- What a worker is given.
-use Rattle.std.specs.Prelude.{◌≡◌, ◌≤◌, ◌⊎◌, ℕ, true, Contains, List, Some, ◌++◌}
+use Rattle.std.specs.Prelude.{◌≡◌, ◌≤◌, ◌⊎◌, ℕ, true, All, Contains, List, Some, ◌++◌}
 use Rattle.dl_kinds.specs.declared.gid.Gid.{Gid}
 use Rattle.engine_turns.specs.Levels.{spent_by}
 use Rattle.engine_turns.specs.NextRows.{IsHolding, IsIdling, IsOfferGiven, OfferRow}
@@ -22,6 +22,7 @@ use Rattle.machine_core.specs.declared.offers.Offered.TheVariants.{Next}
 use Rattle.stored_run.specs.Granting.{MayBeGiven}
 use Rattle.stored_run.specs.Steps.{turn_from}
 use Rattle.engine_core.specs.Buckets.{LevelsGoOn}
+use Rattle.engine_core.specs.Handing.{IsUnsettled}
 use Rattle.engine_core.specs.Engines.{KeepsRates, past_of, standing_of, start_of}
 use Rattle.engine_core.specs.declared.state.EngineState.{EngineState}
 
@@ -70,5 +71,6 @@ module _ {D : Type 0} where
     pub later : faults ≤ faults_after
     pub counts : (gid : Gid) (count : ℕ) → Contains events (Ended gid (end.Disk count)) → count ≤ faults_after
     pub handed : new.handed.pieces ≡ handed_by said ++ old.handed.pieces
+    pub out : All (IsUnsettled (start_of old) (past_of old)) (handed_by said)
     pub levels : LevelsGoOn (start_of old) (past_of old) (past_of new)
         (spent_by (start_of old) (past_of old) op said) new.run.now.0 old.limits new.limits

@@ -35,9 +35,9 @@ pub record IsOut (start : RunStart) (past : List Event) (h : Handed) : Type 0 wh
   pub unsettled : IsUnsettled start past h
   pub active : is_active_in start past h.gid ≡ true
 
--- a piece that is out is so after events that leave it out
+-- such a piece is out after events that neither settle it nor end its download
 abbrev pub OutPiecesStay : Type 0
 OutPiecesStay =
     (start : RunStart) (past events : List Event) (h : Handed)
-    → IsLegal start (history_after past events) → IsOut start past h
+    → IsLegal start (history_after past events) → IsUnsettled start past h
     → stays_handed start (history_after past events) events h ≡ true → IsOut start (history_after past events) h

@@ -1,6 +1,6 @@
 // The pieces that workers compare.
 ghost use Rattle.std.specs.Prelude.{◌≡◌, ◌≤◌, ◌∷◌, [], All, List, drop, filter, length, reverse};
-ghost use Rattle.engine_core.specs.Handing.{IsOut, OutPiecesStay, settle_none, stays_handed};
+ghost use Rattle.engine_core.specs.Handing.{IsOut, IsUnsettled, OutPiecesStay, settle_none, stays_handed};
 ghost use Rattle.engine_turns.specs.Told.{history_after};
 ghost use Rattle.machine_core.specs.declared.events.Event.{Event};
 ghost use Rattle.engine_core.specs.Engines.{past_of, start_of};
@@ -50,7 +50,7 @@ impl<D: Disk> EngineState<D> {
             (drop from (reverse (past_of self.old)))) self.old.handed.pieces }
         ensures out { (before events : List Event)
             → past_of self.old ≡ history_after before events → from ≡ length before
-            → All (IsOut (start_of self.old) before) self.old.handed.pieces
+            → All (IsUnsettled (start_of self.old) before) self.old.handed.pieces
             → All (IsOut (start_of self.old) (past_of self.old)) self.new.handed.pieces }
     {
         out_pieces_stay();

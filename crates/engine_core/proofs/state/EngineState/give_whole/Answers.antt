@@ -10,7 +10,7 @@ returns-in-Ok g c =
     let given = c.in-Ok.ensures in
     hash_given a.worker old.run.now old (record old { run = c.give_whole.new.self; handed = c.hand_out.new.self }) a.gid
     (g.D.Disk.faults old.run.disk) (g.D.Disk.faults c.give_whole.new.self.disk) given.later c.requires.rates c.requires.added
-    a.piece c.in-Ok.bytes given.listed given.len given.same given.on.now
+    a.piece c.in-Ok.bytes c.requires.may.1 given.listed given.len given.same given.on.now
     (ap (λ (h : HandedList). h.pieces) c.hand_out.ensures) refl
 
 pub returns-in-Err : goal.returns-in-Err
