@@ -97,7 +97,7 @@ fn two_pieces_are_one_request(rt: HostRuntime) -> Result<(), Fail> {
 }
 
 // Bytes that differ from their neighbours.
-fn payload(alloc: Global, total: u32) -> Result<Vec<u8>, Fail> {
+fn payload(alloc: Global, total: u64) -> Result<Vec<u8>, Fail> {
     let mut bytes = Vec::new(alloc);
     for place in 0..total {
         bytes.push((place % 251) as u8)?;
@@ -113,7 +113,7 @@ fn dials(
     cut: u32,
     closes: Closes,
 ) -> Result<Option<u32>, Fail> {
-    let bytes = payload(alloc, plan.total as u32)?;
+    let bytes = payload(alloc, plan.total)?;
     let mut link = link_to(alloc, manner, &bytes, cut, closes)?;
     let came = fetched(alloc, &mut link, plan, false, &[(0, 1), (1, 1), (2, 1)])?;
     Ok((came == bytes).then_some(link.dials))
