@@ -27,4 +27,5 @@ returns-in_err-room-clause-ends g c told =
 pub returns-in_err-room-clause-known : goal.returns-in_err-room-clause-known
 returns-in_err-room-clause-known g c =
     let p = err_from_is_err_and c.from_residual.result c.from_residual.ensures.1 in
-    rw (p.1, p.2) known_failure c.in_err-room.field-0.0 c.in_err-room.ensures.known
+    let known = known_failure c.in_err-room.field-0.0 c.in_err-room.ensures.known in
+    rw (p.1, p.2) known
