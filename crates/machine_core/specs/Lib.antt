@@ -22,3 +22,4 @@ pub mod TurnRooms
 pub mod KeptOffers
 pub mod Claiming
 pub mod Done
+pub mod RunSteps

@@ -1,6 +1,7 @@
 // What holds of every legal history of a run.
 ghost use Rattle.machine_core.specs.MachineViews.{NoneGoes, PlacesAreBehind, PlacesStay};
 ghost use Rattle.machine_core.specs.RunLegal.{DownloadsAreLegal, DownloadsStay, KnownAreIdle, LengthsStay};
+ghost use Rattle.machine_core.specs.RunSteps.{AccountsMatchRuns, OpenedHavePlans, StepsStayLegal};
 ghost use Rattle.machine_core.specs.WorkedAnswers.{WorkedAnswers};
 ghost use Rattle.machine_core.specs.WorkedRuns.{WorkedRuns};
 
@@ -11,6 +12,22 @@ use dl_kinds::plan_laws;
 /// may be granted.
 pub fn downloads_are_legal()
     ensures { DownloadsAreLegal }
+{
+    plan_laws();
+    histories_are_sound();
+    accounts_match_events();
+}
+
+/// Whatever list of steps follows on a legal history, each history on the way goes on from it and is legal.
+pub fn steps_stay_legal()
+    ensures { StepsStayLegal }
+{}
+
+/// In every legal history of a run, what is kept of each download is what its events say: its landed and verified blocks and
+/// pieces, the claims that stand, what a save lists. The lengths of one that is opened are those of a plan.
+pub fn accounts_match_runs()
+    ensures plans { OpenedHavePlans }
+    ensures accounts { AccountsMatchRuns }
 {
     plan_laws();
     histories_are_sound();

@@ -38,8 +38,8 @@ pub use gids::GID_STEP;
 pub use handed::{Handed, HandedPieces};
 pub use journal::{Journal, MAX_BEFORE_TURN, MAX_EVENTS, TURN_EVENTS};
 pub use laws::{
-    downloads_are_legal, downloads_stay, known_downloads_are_idle, worked_answers_are_told,
-    worked_runs_are_told,
+    accounts_match_runs, downloads_are_legal, downloads_stay, known_downloads_are_idle,
+    steps_stay_legal, worked_answers_are_told, worked_runs_are_told,
 };
 pub use machine::Machine;
 pub use offers::{Offer, Offered};
