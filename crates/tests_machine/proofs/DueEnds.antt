@@ -37,7 +37,7 @@ passes_found : {A : Type 0} (p : A → Bool) (xs : List A) (y : A) → find p xs
 passes_found p [] y e = absurd cc
 passes_found p (x ∷ xs) y e = found_head p x (find p xs) y (p x) refl (passes_found p xs y) e
 
-gid_found : (start : RunStart) (past : List Event) (gid : Gid) (download : Download)
+pub gid_found : (start : RunStart) (past : List Event) (gid : Gid) (download : Download)
     → download_in start past gid ≡ Some download → download.gid ≡ gid
 gid_found start past gid download is =
     let passes = passes_found (is_download gid) (replay_of start past).downloads download is in
@@ -45,14 +45,14 @@ gid_found start past gid download is =
 
 -- ---- ends
 
-no_checksum : (download : Download) → text_of_word download.options word.Checksum ≡ None
+no_checksum : (download : Download) → is_some (text_of_word download.options word.Checksum) ≡ false
     → has_checksum download ≡ false
 no_checksum download none =
-    and_right (not (is_listed download.subject)) (is_some (text_of_word download.options word.Checksum)) (ap is_some none)
+    and_right (not (is_listed download.subject)) (is_some (text_of_word download.options word.Checksum)) none
 
 pub may_complete : (m : MachineView) (gid : Gid) → MayOwn m.start m.past gid (Halts true) → IsDoneGid m gid
     → ((download : Download) → download_in m.start m.past gid ≡ Some download
-    → text_of_word download.options word.Checksum ≡ None) → MayFollow m.start m.past (Ended gid end.Complete)
+    → is_some (text_of_word download.options word.Checksum) ≡ false) → MayFollow m.start m.past (Ended gid end.Complete)
 may_complete m gid own done none =
     let download = own.download in
     let gid_is : download.gid ≡ gid = gid_found m.start m.past gid download own.added in

@@ -1,2 +1,4 @@
 pub mod Due
 pub mod DueEnds
+pub mod DueWrong
+pub mod DueChecks

@@ -1,12 +1,15 @@
 // Worked histories.
+use crate::end_histories::{
+    CLASHING, FAILED, LIMITED, PROBED, RIGHT_SUM, TOO_LARGE, TWINS, WRONG_SUM,
+};
 use crate::lines::{options, told};
 use crate::rig::Rig;
 use std::alloc::Global;
 use std::process::Abort;
 use std::test::Fail;
 
-// The lines and what is told after each, of runs with these options.
-type Case = (
+/// The lines and what is told after each, of runs with these options.
+pub type Case = (
     &'static [(&'static str, &'static str)],
     &'static [(&'static str, &'static str)],
 );
@@ -223,6 +226,27 @@ const SAVED: Case = (
     ],
 );
 
+// A piece that the last save lists is found wrong: another save comes, which lists nothing of it, and it is cleared. What comes of
+// it again isn't listed until it is found right.
+const LISTED_WRONG: Case = (
+    &[],
+    &[
+        ("torrent p 32768 32768", "done; a0"),
+        ("open 0", "true; a0"),
+        ("take 0", "claim 0: 0+2 at 0; a0"),
+        ("land 0 0 2", "2; a2"),
+        ("save 0", "true; a2"),
+        ("wrong 0", "piece 0 wrong; a0"),
+        ("unsaved 0", "false; a0"),
+        ("take 0", "claim 1: 0+2 at 1; a0"),
+        ("land 1 0 1", "1; a1"),
+        ("unsaved 0", "false; a1"),
+        ("land 1 1 1", "1; a2"),
+        ("take 0", "piece 0 right; a2"),
+        ("unsaved 0", "true; a2"),
+    ],
+);
+
 // A piece that was opened with its only block is full at once.
 const RESUMED: Case = (
     &[],
@@ -267,24 +291,6 @@ const SELECTED: Case = (
         ("take 0", "piece 1 right; a1"),
         ("take 0", "idle; a1"),
         ("complete 0", "true; c1"),
-    ],
-);
-
-// The length is asked first; each loss counts for its mirror.
-const PROBED: Case = (
-    &[("max-tries", "1"), ("piece-length", "1M")],
-    &[
-        ("uri http://m.test/a", "done; a0"),
-        ("open 0", "false; a0"),
-        ("take 0", "probe 0 at 0; a0"),
-        ("take 1", "idle; a0"),
-        ("size 0 32768", "true; a0"),
-        ("size 0 32768", "false; a0"),
-        ("open 0", "true; a0"),
-        ("take 1", "claim 1: 0+2 at 0; a0"),
-        ("lose 1", "true; a0"),
-        ("take 1", "idle; a0"),
-        ("die 0 0", "dead of 3; f0"),
     ],
 );
 
@@ -335,62 +341,6 @@ const SHARED: Case = (
     ],
 );
 
-// A download that fails stops, and the next one becomes active.
-const FAILED: Case = (
-    &[("max-concurrent-downloads", "1")],
-    &[
-        ("torrent p 16384 16384", "done; a0"),
-        ("torrent q 16384 16384", "done; a0 w0"),
-        ("open 0", "true; a0 w0"),
-        ("take 0", "claim 0: 0+1 at 0; a0 w0"),
-        ("fail 0", "true; f0 a0"),
-        ("fail 0", "false; f0 a0"),
-        ("stands 0", "false; f0 a0"),
-        ("land 0 0 1", "0; f0 a0"),
-        ("save 0", "false; f0 a0"),
-        ("pause 0", "WrongStatus(Failed); f0 a0"),
-        ("fail 9", "true; f0 f0"),
-        ("finished", "true; f0 f0"),
-    ],
-);
-
-// Of two that write the same, the one that is opened later ends.
-const TWINS: Case = (
-    &[],
-    &[
-        ("torrent a 16384 16384", "done; a0"),
-        ("torrent a 16384 16384", "done; a0 a0"),
-        ("end", "no clash; a0 a0"),
-        ("open 0", "true; a0 a0"),
-        ("end", "same hash as 1; a0 f0"),
-        ("end", "no clash; a0 f0"),
-        ("torrent a 32768 16384", "done; a0 f0 a0"),
-        ("end", "same file as 1; a0 f0 f0"),
-    ],
-);
-
-// What others that are opened and haven't stopped write isn't written by another: the payload, its control file and the
-// temporary one.
-const CLASHING: Case = (
-    &[],
-    &[
-        ("torrent a 16384 16384", "done; a0"),
-        ("clash 0", "no clash; a0"),
-        ("torrent a 16384 16384", "done; a0 a0"),
-        ("torrent a 32768 16384", "done; a0 a0 a0"),
-        ("torrent a.aria2__temp 5 16384", "done; a0 a0 a0 a0"),
-        ("clash 9", "no clash; a0 a0 a0 a0"),
-        ("open 0", "true; a0 a0 a0 a0"),
-        ("clash 0", "no clash; a0 a0 a0 a0"),
-        ("clash 9", "same hash as 1; a0 a0 a0 a0"),
-        ("clash 3", "same file as 1; a0 a0 a0 a0"),
-        ("clash d", "same file as 1; a0 a0 a0 a0"),
-        ("remove 0", "done; r0 a0 a0 a0"),
-        ("clash 9", "no clash; r0 a0 a0 a0"),
-        ("clash d", "no clash; r0 a0 a0 a0"),
-    ],
-);
-
 // Each line is answered so.
 fn tell_all<R: Abort>(
     rt: &R,
@@ -408,8 +358,30 @@ fn tell_all<R: Abort>(
 fn histories(rt: HostRuntime) -> Result<(), Fail> {
     let alloc = rt.alloc();
     for (values, lines) in [
-        QUEUED, IN_FRONT, WRONG, BLAMED, MIXED, SOLE, STOLEN, PAUSED, STOPPED, SAVED, RESUMED,
-        COMPARED, SELECTED, PROBED, THROTTLED, SHARED, FAILED, TWINS, CLASHING,
+        QUEUED,
+        IN_FRONT,
+        WRONG,
+        BLAMED,
+        MIXED,
+        SOLE,
+        STOLEN,
+        PAUSED,
+        STOPPED,
+        SAVED,
+        LISTED_WRONG,
+        RESUMED,
+        COMPARED,
+        SELECTED,
+        PROBED,
+        TOO_LARGE,
+        WRONG_SUM,
+        RIGHT_SUM,
+        THROTTLED,
+        SHARED,
+        FAILED,
+        LIMITED,
+        TWINS,
+        CLASHING,
     ] {
         let mut rig = Rig::new(alloc, options(alloc, values)?)?;
         tell_all(&rt, alloc, &mut rig, lines)?;

@@ -1,6 +1,8 @@
 //! Worked histories of a run through the machine, and random steps beside a plain program.
 #![tactic(auto)]
 
+#[cfg(test)]
+mod end_histories;
 mod ends;
 #[cfg(test)]
 mod histories;
@@ -8,6 +10,10 @@ mod histories;
 mod lines;
 #[cfg(test)]
 mod plain;
+#[cfg(test)]
+mod plain_choice;
+#[cfg(test)]
+mod plain_download;
 mod rates;
 mod rig;
 #[cfg(test)]

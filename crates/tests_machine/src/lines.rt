@@ -192,6 +192,11 @@ fn of_number(alloc: Global, rig: &mut Rig, name: &str, number: u32) -> Result<St
         "wrong" => Ok(shown_taken(alloc, rig.take(alloc, number, false)?)?),
         "lose" => Ok(format!(in alloc; "{}", rig.lose(number as u64)?)?),
         "stands" => Ok(format!(in alloc; "{}", rig.machine().stands(number as u64))?),
+        "global" => {
+            let limit = format!(in alloc; "{number}")?;
+            let setting = read(alloc, "max-concurrent-downloads", limit.as_str())?;
+            Ok(shown_call(alloc, rig.change_global(alloc, setting)?)?)
+        }
         _ => {
             rig.pass(number as u64);
             Ok(String::new(alloc))
@@ -286,7 +291,7 @@ fn of_pair(
 fn answer(alloc: Global, rig: &mut Rig, words: &[&str]) -> Result<String, Fail> {
     match words {
         [
-            name @ ("take" | "hand" | "wrong" | "lose" | "stands" | "pass"),
+            name @ ("take" | "hand" | "wrong" | "lose" | "stands" | "pass" | "global"),
             number,
         ] => { of_number(alloc, rig, name, number.parse::<u32>()?) }
         [name] => of_run(alloc, rig, name),
@@ -296,6 +301,11 @@ fn answer(alloc: Global, rig: &mut Rig, words: &[&str]) -> Result<String, Fail> 
             word,
             number,
         ] => { of_pair(alloc, rig, name, word, number.parse::<u32>()?) }
+        ["sum", word, is @ ("right" | "wrong")] => {
+            let gid = gid_of(rig, word)?;
+            let right = *is == "right";
+            Ok(format!(in alloc; "{}", rig.check(alloc, gid, right)?)?)
+        }
         ["size", claim, total] => {
             let sized = rig.size(claim.parse::<u64>()?, total.parse::<u64>()?)?;
             Ok(format!(in alloc; "{sized}")?)

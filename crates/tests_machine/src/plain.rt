@@ -1,189 +1,30 @@
 // A plain program that keeps the statuses, blocks, claims, marks and saves of a run by itself, as slowly as it likes. Each
 // download has three pieces of four blocks, and two mirrors at two hosts.
+use crate::plain_download::{PlainDownload, at, is_in, put};
 use dl_kinds::{Gid, Run, Status};
 use std::alloc::{AllocError, Global};
 
-// The values of options with which it is run.
-const CLAIMS: usize = 3;
-
-const CLAIMS_OF_HOST: usize = 2;
-
-// What is known of a block: whether it is there, and from which mirror.
-type Blocks = [Option<u16>; 12];
-
-#[derive(Drop)]
-struct PlainDownload {
-    gid: Gid,
-    status: Status,
-    // Of two that wait, the one of the lesser rank stands nearer to the front; of two that are active, it became so earlier.
-    rank: u64,
-    opened: bool,
-    blocks: Blocks,
-    verified: [bool; 3],
-    // Whether a piece was found wrong last.
-    wrong: [bool; 3],
-    sole: [bool; 3],
-    // Of each mirror, for each piece, up to so many.
-    marks: [[u8; 3]; 2],
-    max_tries: u8,
-    saved_blocks: [bool; 12],
-    saved_pieces: [bool; 3],
-}
-
 #[derive(Clone, Copy)]
-struct PlainClaim {
-    gid: Gid,
-    mirror: u16,
+pub(crate) struct PlainClaim {
+    pub(crate) gid: Gid,
+    pub(crate) mirror: u16,
     run: Run,
     // The blocks that no claim brought since it was made.
-    open: [bool; 12],
-    stands: bool,
+    pub(crate) open: [bool; 12],
+    pub(crate) stands: bool,
 }
 
 /// The downloads in the order of adding, and the claims by their numbers.
 #[derive(Drop)]
 pub struct Plain {
-    downloads: Vec<PlainDownload>,
-    claims: Vec<PlainClaim>,
+    pub(crate) downloads: Vec<PlainDownload>,
+    pub(crate) claims: Vec<PlainClaim>,
     limit: usize,
     max_tries: u8,
     front: u64,
     back: u64,
     activated: u64,
     stopped: bool,
-}
-
-fn is_in(block: usize, run: Run) -> bool {
-    let first = run.first as usize;
-    first <= block && block - first < run.count as usize
-}
-
-fn at(row: &[bool], place: usize) -> bool {
-    match row.get(place) {
-        Some(value) => *value,
-        None => false,
-    }
-}
-
-fn put(row: &mut [bool], place: usize, value: bool) {
-    if let Some(old) = row.get_mut(place) {
-        *old = value;
-    }
-}
-
-impl PlainDownload {
-    fn new(gid: Gid, rank: u64, max_tries: u8) -> PlainDownload {
-        PlainDownload {
-            gid,
-            status: Status::Waiting,
-            rank,
-            opened: false,
-            blocks: [None; 12],
-            verified: [false; 3],
-            wrong: [false; 3],
-            sole: [false; 3],
-            marks: [[0; 3]; 2],
-            max_tries,
-            saved_blocks: [false; 12],
-            saved_pieces: [false; 3],
-        }
-    }
-
-    fn goes_on(&self) -> bool {
-        match self.status {
-            Status::Active | Status::Waiting | Status::Paused => true,
-            _ => false,
-        }
-    }
-
-    fn is_full(&self, piece: usize) -> bool {
-        self.blocks
-            .iter()
-            .enumerate()
-            .all(|(block, from)| block / 4 != piece || from.is_some())
-    }
-
-    // The first full piece that isn't verified.
-    fn next_full(&self) -> Option<usize> {
-        (0..3).find(|piece| !at(&self.verified, *piece) && self.is_full(*piece))
-    }
-
-    // The blocks of a piece go.
-    fn clear(&mut self, piece: usize) {
-        for (block, from) in self.blocks.iter_mut().enumerate() {
-            if block / 4 == piece {
-                *from = None;
-            }
-        }
-    }
-
-    // The only mirror that gave blocks of a piece, where there is one.
-    fn giver(&self, piece: usize) -> Option<u16> {
-        let mut giver = None;
-        for (block, from) in self.blocks.iter().enumerate() {
-            if block / 4 == piece {
-                match (giver, *from) {
-                    (None, Some(mirror)) => giver = Some(mirror),
-                    (Some(mirror), Some(other)) if mirror == other => {}
-                    _ => return None,
-                }
-            }
-        }
-        giver
-    }
-
-    fn tries(&self, mirror: u16, piece: usize) -> u8 {
-        match self.marks.get(mirror as usize) {
-            Some(marks) => match marks.get(piece) {
-                Some(count) => *count,
-                None => self.max_tries,
-            },
-            None => self.max_tries,
-        }
-    }
-
-    fn mark(&mut self, mirror: u16, piece: usize) {
-        let most = self.max_tries;
-        if let Some(marks) = self.marks.get_mut(mirror as usize)
-            && let Some(count) = marks.get_mut(piece)
-        {
-            *count = count.saturating_add(1).min(most);
-        }
-    }
-
-    // Whether a mirror may be asked for all pieces of a run.
-    fn is_eligible(&self, mirror: u16, run: Run) -> bool {
-        (0..12).all(|block| !is_in(block, run) || self.tries(mirror, block / 4) < self.max_tries)
-    }
-
-    fn is_listed(&self, block: usize) -> bool {
-        let piece = block / 4;
-        match self.blocks.get(block) {
-            Some(Some(_)) => {
-                at(&self.verified, piece) || !at(&self.sole, piece) && !at(&self.wrong, piece)
-            }
-            _ => false,
-        }
-    }
-
-    fn is_unsaved(&self) -> bool {
-        self.opened
-            && ((0..12).any(|block| self.is_listed(block) != at(&self.saved_blocks, block))
-                || (0..3).any(|piece| at(&self.verified, piece) != at(&self.saved_pieces, piece)))
-    }
-
-    fn save(&mut self) {
-        for block in 0..12 {
-            let listed = self.is_listed(block);
-            put(&mut self.saved_blocks, block, listed);
-        }
-        self.saved_pieces = self.verified;
-    }
-
-    // Whether the last save lists a block of a piece.
-    fn lists(&self, piece: usize) -> bool {
-        (0..12).any(|block| block / 4 == piece && at(&self.saved_blocks, block))
-    }
 }
 
 impl PlainClaim {
@@ -211,7 +52,7 @@ impl Plain {
         }
     }
 
-    fn find(&self, gid: Gid) -> Option<&PlainDownload> {
+    pub(crate) fn find(&self, gid: Gid) -> Option<&PlainDownload> {
         self.downloads
             .iter()
             .find(|download| download.gid.0 == gid.0)
@@ -449,115 +290,6 @@ impl Plain {
         }
     }
 
-    // The claims of a download that stand, at one mirror or at any.
-    fn standing(&self, gid: Gid, mirror: Option<u16>) -> usize {
-        self.claims
-            .iter()
-            .filter(|claim| claim.stands
-                && claim.gid.0 == gid.0
-                && match mirror {
-                    Some(mirror) => claim.mirror == mirror,
-                    None => true,
-                })
-            .count()
-    }
-
-    // Whether a block of a download is open in a claim that stands.
-    fn is_claimed(&self, gid: Gid, block: usize) -> bool {
-        self.claims.iter().any(|claim| claim.stands
-            && claim.gid.0 == gid.0
-            && at(&claim.open, block))
-    }
-
-    fn is_free(&self, download: &PlainDownload, block: usize) -> bool {
-        match download.blocks.get(block) {
-            Some(None) => !self.is_claimed(download.gid, block),
-            _ => false,
-        }
-    }
-
-    // Whether a mirror may be asked for a run.
-    fn may_ask(&self, download: &PlainDownload, mirror: u16, run: Run) -> bool {
-        download.is_eligible(mirror, run)
-            && self.standing(download.gid, Some(mirror)) < CLAIMS_OF_HOST
-    }
-
-    // Whether a mirror may be asked for a free block. Those of a sole piece are free together.
-    fn is_askable(&self, download: &PlainDownload, first: u32) -> bool {
-        let run = Run { first, count: 1 };
-        let block = first as usize;
-        let piece = block / 4;
-        let free = if at(&download.sole, piece) {
-            (0..12).all(|other| other / 4 != piece || self.is_free(download, other))
-        } else {
-            self.is_free(download, block)
-        };
-        free && (0..2).any(|mirror| self.may_ask(download, mirror, run))
-    }
-
-    fn has_free(&self, download: &PlainDownload) -> bool {
-        self.standing(download.gid, None) < CLAIMS
-            && (0..12).any(|first| self.is_askable(download, first))
-    }
-
-    // Whether a worker of an active download may have something to do, thefts aside.
-    fn has_work(&self, download: &PlainDownload) -> bool {
-        download.status == Status::Active
-            && download.opened
-            && (download.next_full().is_some() || self.has_free(download))
-    }
-
-    /// Whether no download that became active earlier than this one has a full piece or free blocks to give: none at all.
-    pub fn may_be_next(&self, gid: Option<Gid>) -> bool {
-        let rank = match gid {
-            Some(gid) => match self.find(gid) {
-                Some(download) => download.rank,
-                None => 0,
-            },
-            None => u64::MAX,
-        };
-        self.downloads.iter().all(|download| download.rank >= rank || !self.has_work(download))
-    }
-
-    // Whether a claim of these blocks is of one sole piece as a whole, or of none.
-    fn is_of_one_kind(&self, download: &PlainDownload, run: Run) -> bool {
-        let piece = run.first as usize / 4;
-        if at(&download.sole, piece) {
-            return run.first % 4 == 0 && run.count == 4;
-        }
-        (0..12).all(|block| !is_in(block, run) || !at(&download.sole, block / 4))
-    }
-
-    // Whether each block of a run is one to be claimed: a free one, or with a victim one of its own.
-    fn are_due(&self, download: &PlainDownload, run: Run, victim: Option<u64>) -> bool {
-        match victim {
-            Some(id) => match self.claims.get(id as usize) {
-                Some(claim) => claim.stands
-                    && !self.has_free(download)
-                    && (0..12).all(|block| !is_in(block, run) || at(&claim.open, block)),
-                None => false,
-            },
-            None => (0..12).all(|block| !is_in(block, run) || self.is_free(download, block)),
-        }
-    }
-
-    /// Whether a worker may be given these blocks of a download at a mirror.
-    pub fn may_claim(&self, gid: Gid, mirror: u16, run: Run, victim: Option<u64>) -> bool {
-        let Some(download) = self.find(gid) else {
-            return false;
-        };
-        let within = run.count > 0 && run.first < 12 && run.count <= 12 - run.first;
-        within
-            && download.opened
-            && download.status == Status::Active
-            && download.next_full().is_none()
-            && self.standing(gid, None) < CLAIMS
-            && self.may_ask(download, mirror, run)
-            && self.is_of_one_kind(download, run)
-            && self.are_due(download, run, victim)
-            && self.may_be_next(Some(gid))
-    }
-
     pub fn claim(&mut self, gid: Gid, mirror: u16, run: Run) -> Result<u64, AllocError> {
         let id = self.claims.len() as u64;
         let mut open = [false; 12];
@@ -621,16 +353,9 @@ impl Plain {
         claim.stands
     }
 
-    /// Whether a save lists a block of a piece.
-    pub fn lists(&self, gid: Gid, piece: u32) -> bool {
-        match self.find(gid) {
-            Some(download) => download.lists(piece as usize),
-            None => false,
-        }
-    }
-
     /// A full piece is found right or wrong. Told is whether it may be: it is the first that isn't verified, of the first
-    /// download that has work. A wrong one goes, and marks the mirror that gave all of it.
+    /// download that has work. A wrong one goes, and marks the mirror that gave all of it; where the last save lists a block of
+    /// it, another comes before it goes.
     pub fn find_piece(&mut self, gid: Gid, piece: u32, right: bool) -> bool {
         if !self.may_be_next(Some(gid)) {
             return false;
@@ -648,6 +373,9 @@ impl Plain {
             match download.giver(piece) {
                 Some(mirror) => download.mark(mirror, piece),
                 None => put(&mut download.sole, piece, true),
+            }
+            if download.lists(piece) {
+                download.save();
             }
             download.clear(piece);
         }

@@ -29,6 +29,19 @@ fn change_call(alloc: Global, key: GidKey, setting: Setting) -> Result<Option<Ca
     Ok(Some(Call::ChangeOption { key, options }))
 }
 
+// A call that changes a global option, where it may be changed.
+fn global_call(alloc: Global, setting: Setting) -> Result<Option<Call>, AllocError>
+    ensures { IfOk result (λ call. IfSome call IsLawful) }
+{
+    match setting.option().row().change {
+        Change::Globally => {}
+        _ => return Ok(None),
+    }
+    let mut options = Settings::new(alloc);
+    options.push(setting)?;
+    Ok(Some(Call::ChangeGlobalOption { options }))
+}
+
 impl Rig {
     // The rate of a download by its options.
     pub(crate) fn rate(&self, gid: Gid) -> u64
@@ -62,6 +75,18 @@ impl Rig {
             self.limits.set_own(place, rate, self.now);
         }
         Ok(Some(applied))
+    }
+
+    /// A global option changes, where it changes globally alone.
+    pub fn change_global(
+        &mut self,
+        alloc: Global,
+        setting: Setting,
+    ) -> Result<Option<Applied>, AllocError> {
+        match global_call(alloc, setting)? {
+            Some(call) => Ok(Some(self.call(alloc, call)?)),
+            None => Ok(None),
+        }
     }
 
     /// The worker of a claim that stands may receive bytes, at most so many. None comes where it doesn't stand.

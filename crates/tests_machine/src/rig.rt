@@ -1,13 +1,17 @@
 // A run whose steps have no premises: what may not come is left out.
 ghost use Rattle.std.specs.Prelude.{◌≡◌, ◌+◌, ◌<◌, ◌≤◌, ◌^◌, false, true, IfOk, IfSome, OnOk, length};
+ghost use Rattle.std.specs.Option.{is_some};
+ghost use Rattle.dl_history.specs.OwnEvents.{Halts};
 ghost use Rattle.machine_core.specs.Claiming.{MayBeTaken};
 ghost use Rattle.machine_core.specs.LawfulCalls.{IsLawful};
-ghost use Rattle.machine_core.specs.MachineViews.{IsFindingOf, IsNext};
-ghost use Rattle.machine_core.specs.RunLegal.{IsLaterThan};
+ghost use Rattle.machine_core.specs.MachineViews.{IsFindingOf, IsNext, mark_spare_in};
+ghost use Rattle.machine_core.specs.OwnParts.{payload_lengths_of};
+ghost use Rattle.machine_core.specs.RunLegal.{IsLaterThan, MayOwn};
 ghost use Rattle.machine_core.specs.TurnRooms.{HasTurnMarkRoom};
 ghost use Rattle.machine_core.specs.declared.offers.Offered.TheVariants.{Next};
 ghost use Rattle.piece_table.specs.Progress.{IsStart};
 
+use crate::ends::{goes_on, is_too_long};
 use crate::rates::as_rate;
 use bit_rows::BitRow;
 use control_file::Opened;
@@ -188,11 +192,26 @@ impl Rig {
         Ok(true)
     }
 
-    // A full piece of a download with a metainfo file is found wrong and cleared, where no save lists a block of it. Told is
-    // whether it was.
+    // A piece that the last save lists is found wrong: another save comes before it is cleared.
+    fn clear_listed(&mut self, gid: Gid, piece: u32)
+        requires due { IsNext self.old.machine (IsFindingOf gid piece false) }
+        requires going { MayOwn self.old.machine.start self.old.machine.past gid (Halts true) }
+        requires sized { is_some
+            (payload_lengths_of self.old.machine.start self.old.machine.past gid) ≡ true }
+        requires room { 3 ≤ self.old.machine.spare }
+        requires mark_room { 1 ≤ mark_spare_in self.old.machine gid }
+    {
+        downloads_stay();
+        let _ = self.machine.journal().len();
+        self.machine.settled(gid, piece, false);
+        self.machine.saved(gid, self.now);
+        self.machine.cleared(gid, piece);
+    }
+
+    // A full piece of a download with a metainfo file is found wrong and cleared. Told is whether it was.
     fn find_wrong(&mut self, alloc: Global, gid: Gid, piece: u32) -> Result<bool, AllocError>
         requires due { IsNext self.old.machine (IsFindingOf gid piece true) }
-        requires room { 2 ≤ self.old.machine.spare }
+        requires room { 3 ≤ self.old.machine.spare }
         requires marks { HasTurnMarkRoom self.old.machine }
         ensures same { IfOk result (λ wrong. wrong ≡ false → self.new.machine ≡ self.old.machine) }
     {
@@ -202,8 +221,12 @@ impl Rig {
         if want.info_hash.is_none() || !self.machine.is_active(gid) {
             return Ok(false);
         }
-        if self.machine.lists(gid, piece) {
+        if !goes_on(&self.machine, gid) {
             return Ok(false);
+        }
+        if self.machine.lists(gid, piece) {
+            self.clear_listed(gid, piece);
+            return Ok(true);
         }
         downloads_stay();
         let _ = self.machine.journal().len();
@@ -222,7 +245,7 @@ impl Rig {
         offer: Offer,
     ) -> Result<Taken, AllocError>
         requires due { MayBeTaken self.old.machine self.old.now (Next gid offer) }
-        requires room { 2 ≤ self.old.machine.spare }
+        requires room { 3 ≤ self.old.machine.spare }
         requires marks { HasTurnMarkRoom self.old.machine }
     {
         match offer {
@@ -262,7 +285,7 @@ impl Rig {
     // What a worker is offered: nothing, where a download has no bucket.
     fn next(&mut self) -> Result<Offered, AllocError>
         ensures taken { IfOk result (MayBeTaken self.new.machine self.new.now) }
-        ensures room { OnOk result (2 ≤ self.new.machine.spare) }
+        ensures room { OnOk result (3 ≤ self.new.machine.spare) }
         ensures marks { OnOk result (HasTurnMarkRoom self.new.machine) }
         ensures now { self.new.now ≡ self.old.now }
         ensures handed { self.new.handed ≡ self.old.handed }
@@ -379,14 +402,21 @@ impl Rig {
         Ok(true)
     }
 
-    /// The probe that stands tells the length. Told is whether it did.
+    /// The probe that stands tells the length, and where no plan has so many bytes its download ends. Told is whether it did.
     pub fn size(&mut self, claim: u64, total: u64) -> Result<bool, AllocError> {
         self.machine.reserve_turn()?;
         let Some((gid, probe)) = self.machine.claim(claim) else {
             return Ok(false);
         };
-        if probe.run.count != 0 || self.machine.options(gid).is_none() {
+        if probe.run.count != 0 {
             return Ok(false);
+        }
+        if !goes_on(&self.machine, gid) {
+            return Ok(false);
+        }
+        if is_too_long(&self.machine, gid, total) {
+            self.outgrow(gid, claim, probe, total);
+            return Ok(true);
         }
         self.machine.sized(claim, total);
         Ok(true)

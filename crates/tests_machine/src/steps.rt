@@ -96,12 +96,8 @@ fn take(
             run,
             victim,
         } => Ok(plain.may_claim(gid, mirror, run, victim) && plain.claim(gid, mirror, run)? == id),
-        Taken::Right { gid, piece } => {
-            Ok((right || plain.lists(gid, piece)) && plain.find_piece(gid, piece, true))
-        }
-        Taken::Wrong { gid, piece } => {
-            Ok(!right && !plain.lists(gid, piece) && plain.find_piece(gid, piece, false))
-        }
+        Taken::Right { gid, piece } => Ok(right && plain.find_piece(gid, piece, true)),
+        Taken::Wrong { gid, piece } => Ok(!right && plain.find_piece(gid, piece, false)),
         Taken::Idle => Ok(plain.may_be_next(None)),
         _ => Ok(false),
     }
