@@ -265,7 +265,7 @@ out_stays laws start past events h legal out stays =
 
 -- ---- once pieces went back
 
-all_kept : (P Q : Handed → Type 0) (f : Handed → Bool) (hs : List Handed) → ((h : Handed) → P h → f h ≡ true → Q h)
+pub all_kept : (P Q : Handed → Type 0) (f : Handed → Bool) (hs : List Handed) → ((h : Handed) → P h → f h ≡ true → Q h)
     → All P hs → All Q (filter f hs)
 all_kept P Q f [] keep all = All-nil Q
 all_kept P Q f (h ∷ hs) keep all = by (f h) refl (All-head P h hs all) (all_kept P Q f hs keep (All-tail P h hs all))

@@ -15,3 +15,4 @@ pub mod Given
 pub mod Allowing
 pub mod Granted
 pub mod Nexts
+pub mod Sealed

@@ -3,7 +3,7 @@ use Rattle.std.proofs.Common.{◌≡◌, inl, inr, ⊎_elim, ◌⊎◌, ℕ, fal
 use Rattle.dl_kinds.specs.declared.gid.Gid.{Gid}
 use Rattle.machine_core.specs.Claiming.{next_to_open}
 use Rattle.machine_core.specs.RunLegal.{download_in}
-use Rattle.machine_core.specs.Starts.{Download}
+use Rattle.machine_core.specs.Starts.{Download, RunStart}
 use Rattle.machine_core.specs.declared.events.Event.{Event}
 use Rattle.machine_core.specs.declared.events.Event.TheVariants.{Ended}
 use Rattle.machine_core.specs.declared.handed.Handed.{Handed}
@@ -14,11 +14,15 @@ use Rattle.engine_turns.specs.Standings.{AnswersOnly, RunStanding}
 use Rattle.engine_turns.specs.declared.operations.Operation.{Operation}
 use Rattle.engine_turns.specs.declared.operations.Operation.TheVariants.{Next}
 use Rattle.engine_turns.specs.declared.operations.Said.{Said}
-use Rattle.engine_turns.specs.declared.operations.Said.TheVariants.{Done, NoMemory}
+use Rattle.engine_turns.specs.Levels.{spent_by}
+use Rattle.engine_turns.specs.declared.operations.Grant.TheVariants.{Fetch, Hash, Probe}
+use Rattle.engine_turns.specs.declared.operations.Said.TheVariants.{Allow, Done, Finished, Grant, Hold, Idle, JournalFull, Kept, NoMemory, Replied, Void}
 use Rattle.dl_kinds.specs.declared.runs.Moment.{Moment}
 use Rattle.stored_run.specs.Steps.{DoesRow, turn_from}
 use Rattle.stored_run.proofs.PlainEvents.{gid_added}
 use Rattle.engine_core.specs.Engines.{KeepsRates, past_of, standing_of, start_of}
+use Rattle.engine_core.specs.Beginning.{Begins}
+use Rattle.engine_core.specs.Buckets.{HasRates, LevelsGoOn}
 use Rattle.engine_core.specs.Handing.{IsUnsettled}
 use Rattle.engine_core.specs.Giving.{MakesRow, UnopenedRow}
 use Rattle.engine_core.specs.declared.state.EngineState.{EngineState}
@@ -116,3 +120,45 @@ first_given op gid old new f f' said is row start now handed limits rates =
     (λ from below. (is, row.is from (standing_of old) below refl)) row.later row.counts
     (ap (λ h. h.pieces) handed ∙ ap (λ (hs : List Handed). hs ++ old.handed.pieces) (sym (nothing_handed said quiet.1)))
     (none_out (IsUnsettled (start_of old) (past_of old)) said quiet.1) limits (nothing_spent (start_of old) (past_of old) op said quiet.1)
+
+-- ---- the moment that an operation brings isn't looked at by what is let go
+
+spent_next : (start : RunStart) (past : List Event) (worker : ℕ) (m n : Moment) (said : Said)
+    → spent_by start past (Next worker m) said ≡ spent_by start past (Next worker n) said
+spent_next start past worker m n (Grant (Fetch grant)) = refl
+spent_next start past worker m n (Grant (Hash gid piece bytes)) = refl
+spent_next start past worker m n (Grant (Probe claim gid url)) = refl
+spent_next start past worker m n (Allow bytes) = refl
+spent_next start past worker m n (Replied place applied starved) = refl
+spent_next start past worker m n (Kept counted repeated) = refl
+spent_next start past worker m n Void = refl
+spent_next start past worker m n (Hold ms) = refl
+spent_next start past worker m n Idle = refl
+spent_next start past worker m n Done = refl
+spent_next start past worker m n Finished = refl
+spent_next start past worker m n (JournalFull count) = refl
+spent_next start past worker m n NoMemory = refl
+
+pub next_at : {D : Type 0} (worker : ℕ) (m n : Moment) (Row : TurnStart → RunStanding → List Event → Said → Type 0)
+    (old : EngineState D) (f : ℕ) (new : EngineState D) (f' : ℕ) (said : Said)
+    → MakesRow (Next worker m) Row old f new f' said → MakesRow (Next worker n) Row old f new f' said
+next_at worker m n Row old f new f' said gives = record {
+  start = gives.start;
+  now = gives.now;
+  events = gives.events;
+  grown = gives.grown;
+  is = gives.is;
+  later = gives.later;
+  counts = gives.counts;
+  handed = gives.handed;
+  out = gives.out;
+  levels = subst (λ spent. LevelsGoOn (start_of old) (past_of old) (past_of new) spent new.run.now.0 old.limits new.limits)
+      (spent_next (start_of old) (past_of old) worker m n said) gives.levels;
+}
+
+-- what begins has the rates still
+pub rates_begun : {D : Type 0} (now : Moment) (old mid : EngineState D) → Begins now old mid → KeepsRates old → KeepsRates mid
+rates_begun now old mid begins rates =
+    subst (λ l. HasRates (start_of mid) (past_of mid) l) (sym begins.limits)
+    (subst (λ (s : RunStart). HasRates s (past_of mid) old.limits) (sym begins.machine.start_is)
+    (subst (λ (p : List Event). HasRates (start_of old) p old.limits) (sym begins.machine.past_is) rates))

@@ -1,8 +1,9 @@
 -- The pieces that workers compare.
-use Rattle.std.specs.Prelude.{◌≡◌, ◌&&◌, Bool, true, not, Some, List}
+use Rattle.std.specs.Prelude.{◌≡◌, ◌&&◌, ℕ, Bool, true, not, Some, List, filter}
 use Rattle.std.specs.List.{list_any}
 use Rattle.dl_history.specs.PayloadParts.{is_opened}
-use Rattle.machine_core.specs.Offers.{AwaitsFinding}
+use Rattle.dl_kinds.specs.declared.gid.Gid.{Gid}
+use Rattle.machine_core.specs.Offers.{AwaitsFinding, is_handed}
 use Rattle.machine_core.specs.OwnParts.{own_of}
 use Rattle.machine_core.specs.Replays.{is_active_in}
 use Rattle.machine_core.specs.RunLegal.{IsLegal, download_in, is_listed, known_lengths}
@@ -18,6 +19,10 @@ settle_none events h = not (list_any (settles_handed h) events)
 -- .. and its download is active behind them
 abbrev pub stays_handed : RunStart → List Event → List Event → Handed → Bool
 stays_handed start past events h = is_active_in start past h.gid && settle_none events h
+
+-- without a piece, where its seal was taken
+abbrev pub handed_but : Gid → ℕ → Bool → List Handed → List Handed
+handed_but gid piece taken handed = filter (λ h. not (is_handed gid piece h && taken)) handed
 
 -- ---- each is to be found right or wrong
 

@@ -6,7 +6,7 @@ ghost use Rattle.engine_core.specs.Engines.{IsNewEngine, TakesTurn, past_of};
 
 use crate::state::EngineState;
 use dl_disk::Disk;
-use dl_kinds::{Mark, Moment, Run};
+use dl_kinds::{Gid, Mark, Moment, Run};
 use engine_turns::Said;
 use machine_core::{Call, HandedPieces, Journal};
 use option_set::{Num, Options};
@@ -14,6 +14,7 @@ use rate_limits::RateLimits;
 use std::alloc::Global;
 use std::marker::Model;
 use stored_run::StoredRun;
+use verify_piece::Sealed;
 
 /// A run that is steered by turns. Each method but `new` and `into_parts` takes one turn; what it answers, and the events that
 /// come, are what the turns before it say.
@@ -76,6 +77,29 @@ impl<D: Disk> Engine<D> {
     {
         let from = self.state.run.machine().journal().len();
         let said = self.state.call(session, call, now);
+        self.state.take_back(from);
+        said
+    }
+
+    /// What a worker is to do next. A download is opened first, if one is to be; then the first offer that its download's
+    /// credit affords is given: a full piece to hash, blocks to fetch, or a length to ask for.
+    pub fn next(&mut self, worker: u32, now: Moment) -> Said
+        ensures { TakesTurn D.faults (operation.Next worker now) self.old self.new result }
+    {
+        let from = self.state.run.machine().journal().len();
+        let said = self.state.next(worker, now);
+        self.state.take_back(from);
+        said
+    }
+
+    /// A worker compared a full piece that it was given. Where the disk still reads the sealed bytes, the piece is found right or
+    /// wrong by their digest; the seal of a piece that isn't handed out is void, and so is one of other bytes.
+    pub fn seal(&mut self, gid: Gid, sealed: &Sealed, now: Moment) -> Said
+        ensures { TakesTurn D.faults (operation.Seal gid sealed.now now)
+            self.old self.new result }
+    {
+        let from = self.state.run.machine().journal().len();
+        let said = self.state.seal(gid, sealed, now);
         self.state.take_back(from);
         said
     }

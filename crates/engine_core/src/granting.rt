@@ -2,6 +2,7 @@
 ghost use Rattle.std.specs.Prelude.{◌≡◌, ◌≤◌, ◌<◌, length, min};
 ghost use Rattle.engine_core.specs.Engines.{KeepsRates};
 ghost use Rattle.engine_core.specs.Giving.{GivenRow, MakesRow, MayGive, UnopenedRow};
+ghost use Rattle.engine_core.specs.Performing.{Performs};
 ghost use Rattle.engine_turns.specs.declared.operations.Operation.TheVariants as operation;
 ghost use Rattle.engine_turns.specs.declared.limits.TheConstants.{MAX_ALLOWANCE};
 ghost use Rattle.machine_core.specs.declared.offers.Offer.TheVariants as offer;
@@ -10,7 +11,7 @@ ghost use Rattle.rate_tokens.specs.declared.bucket.Take.TheVariants.{Go};
 
 use crate::state::EngineState;
 use dl_disk::Disk;
-use dl_kinds::{Gid, Run};
+use dl_kinds::{Gid, Moment, Run};
 use engine_turns::{FetchGrant, Grant, MAX_ALLOWANCE, Said};
 use machine_core::{Offer, Offered};
 use rate_tokens::Take;
@@ -106,8 +107,23 @@ impl<D: Disk> EngineState<D> {
         }
     }
 
+    // A download is opened, or a worker is given what comes next.
+    pub(crate) fn next(&mut self, worker: u32, now: Moment) -> Said
+        requires { KeepsRates self.old }
+        ensures { Performs (operation.Next worker now) self.old (D.faults self.old.run.disk)
+            self.new (D.faults self.new.run.disk) result }
+    {
+        if let Err(said) = self.begin(true, now) {
+            return said;
+        }
+        match self.run.machine().next_to_open() {
+            Some(gid) => self.run.open_next(gid),
+            None => self.give_offer(worker),
+        }
+    }
+
     // A worker is given the first offer that its download's credit affords.
-    pub(crate) fn give_offer(&mut self, worker: u32) -> Said
+    fn give_offer(&mut self, worker: u32) -> Said
         requires rates { KeepsRates self.old }
         requires room { 6 ≤ self.old.run.machine.spare }
         ensures { MakesRow (operation.Next worker self.old.run.now) (UnopenedRow worker)

@@ -8,6 +8,7 @@ mod following;
 mod front;
 mod granting;
 mod handing;
+mod sealing;
 mod state;
 
 pub use engine::Engine;
