@@ -7,7 +7,7 @@ pub mod Called
 pub mod Turning
 pub mod Levels
 pub mod Handings
-pub mod Serving
+pub mod Taking
 pub mod Spendings
 pub mod Performed
 pub mod Awaiting

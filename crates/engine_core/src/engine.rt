@@ -20,6 +20,7 @@ use verify_piece::Sealed;
 /// come, are what the turns before it say.
 #[derive(Drop)]
 pub struct Engine<D: Disk> {
+    pub(crate) alloc: Global,
     state: EngineState<D>,
 }
 
@@ -46,6 +47,7 @@ impl<D: Disk> Engine<D> {
         let run = StoredRun::new(alloc, disk, gids, global, doors)?;
         let limits = RateLimits::new(alloc, rate, Moment(0));
         Ok(Engine {
+            alloc,
             state: EngineState {
                 run,
                 handed: HandedPieces::new(alloc),
@@ -60,6 +62,7 @@ impl<D: Disk> Engine<D> {
         ensures events { result.1.events.items ≡ reverse (past_of self) }
     {
         let Engine {
+            alloc: _,
             state: EngineState {
                 run,
                 handed: _,

@@ -9,7 +9,9 @@ mod front;
 mod granting;
 mod handing;
 mod sealing;
+mod serving;
 mod state;
 
 pub use engine::Engine;
+pub use serving::RunBeginning;
 pub use state::EngineState;

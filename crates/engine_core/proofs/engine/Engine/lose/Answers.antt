@@ -1,7 +1,7 @@
 use Rattle.std.proofs.Common.{length, refl, reverse, ap, ◌∙◌}
 use Rattle.machine_core.specs.MachineViews.{MachineView}
 use Rattle.engine_turns.specs.declared.operations.Operation.TheVariants as operation
-use Rattle.engine_core.proofs.Serving.{engine_since, takes_turn}
+use Rattle.engine_core.proofs.Taking.{engine_since, takes_turn}
 use Rattle.engine_core.proofs.engine.Engine.lose.Goals as goal
 
 pub invariant_of-self : goal.invariant_of-self
