@@ -1,5 +1,5 @@
 -- A full piece that awaits its finding does so until it is settled.
-use Rattle.std.proofs.Common.{◌≡◌, ◌≢◌, ◌⊎◌, inl, inr, ⊎_elim, ℕ, zero, suc, ◌+◌, ◌<◌, ◌≤◌, Bool, true, false, Option, Some, List, [], ◌∷◌, ◌++◌, refl, sym, ap, ◌∙◌, subst, arith}
+use Rattle.std.proofs.Common.{◌≡◌, ◌≢◌, ◌⊎◌, inl, inr, ⊎_elim, ℕ, zero, suc, ◌+◌, ◌<◌, ◌≤◌, Bool, true, false, Some, List, [], ◌∷◌, refl, sym, ap, ◌∙◌, subst, arith}
 use Rattle.std.specs.Prelude.{◌==◌, ◌&&◌, All, drop, filter, if◌then◌else◌, length, not, reverse}
 use Rattle.std.specs.List.{list_any, range_with_len}
 use Rattle.std.specs.Option.{option_and_then, unwrap_or}
@@ -14,7 +14,7 @@ use Rattle.dl_history.proofs.Table.{gone_by_loss, lost_block}
 use Rattle.dl_history.specs.HistoryLaws.{FullPiecesStay, IsFullIn}
 use Rattle.dl_history.specs.OwnEvents.{OwnEvent, Opens, Grants, Lands, Settles, Clears, Loses, Sizes, Saves, Checks, Halts}
 use Rattle.dl_history.specs.OwnLegal.{IsLossOf, IsWrongLast, LegalOwn, MayClear, MayHappen}
-use Rattle.dl_history.specs.PayloadParts.{is_opened, is_opening, is_run_on, is_settled_in, is_sole_in, is_verified_in, lands_on, settles_piece, verifies}
+use Rattle.dl_history.specs.PayloadParts.{is_opened, is_opening, is_run_on, is_settled_in, is_sole_in, lands_on, settles_piece, verifies}
 use Rattle.piece_table.specs.Changes.{is_in, is_present}
 use Rattle.machine_core.specs.Offers.{AwaitsFinding}
 use Rattle.machine_core.specs.OwnParts.{PayloadLengths, halted_where, halts_by, lengths_by, no_lengths, own_of, payload_lengths_of}

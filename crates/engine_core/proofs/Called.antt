@@ -164,7 +164,7 @@ module _ {D : Type 0} (session : ℕ) (call : Call) (now : Moment) (old mid : En
                 (levels_called (start_of old) (past_of old) (past_of new) new.run.now.0 old.limits new.limits grows rates follows);
           };
           handed = ap (λ h. h.pieces) (handed_is ∙ begins.handed) ∙ handed_stay op said old.handed.pieces (λ h. refl) none;
-        out = out_same old new (ap (λ h. h.pieces) (handed_is ∙ begins.handed));
+          out = out_same old new (ap (λ h. h.pieces) (handed_is ∙ begins.handed));
           rates = subst (λ (st : RunStart). HasRates st (past_of new) new.limits) (sym same_start)
               (rates_called (start_of old) (past_of old) (past_of new) new.run.now.0 old.limits new.limits grows rates follows);
         }

@@ -1,6 +1,6 @@
 -- The seal of a piece that was handed out.
-use Rattle.std.proofs.Common.{◌≡◌, ◌⊎◌, inl, inr, ⊎_elim, ◌≤◌, ℕ, Bool, true, false, Some, List, [], ◌∷◌, ◌++◌, refl, sym, ap, ◌∙◌, subst, arith}
-use Rattle.std.specs.Prelude.{◌==◌, ◌&&◌, ◌||◌, All, filter, not, slice_index_or}
+use Rattle.std.proofs.Common.{◌≡◌, inl, inr, ⊎_elim, ℕ, Bool, true, false, List, [], ◌∷◌, ◌++◌, refl, sym, ap, ◌∙◌, subst}
+use Rattle.std.specs.Prelude.{◌==◌, ◌&&◌, All, filter, not, slice_index_or}
 use Rattle.std.specs.List.{list_any}
 use Rattle.std.proofs.lemmas.Bool.{and_parts, eq-eqb, eqb-true, ne_eqb, or_parts}
 use Rattle.std.proofs.lemmas.List.Elements.{All-head, All-tail, filter_agree}
@@ -13,7 +13,7 @@ use Rattle.machine_core.specs.OwnParts.{own_of}
 use Rattle.machine_core.specs.Reads.{is_finished_in}
 use Rattle.machine_core.specs.RunLegal.{IsLegal, known_lengths}
 use Rattle.machine_core.specs.RunSteps.{AccountsMatchRuns}
-use Rattle.machine_core.specs.Starts.{Download, RunStart}
+use Rattle.machine_core.specs.Starts.{RunStart}
 use Rattle.machine_core.specs.declared.events.Event.{Event}
 use Rattle.machine_core.specs.declared.handed.Handed.{Handed}
 use Rattle.verify_piece.specs.Seals.{PieceBytes}
@@ -21,7 +21,7 @@ use Rattle.engine_turns.specs.Phases.{AfterDisk, AndThen, EndingOr, NoEvent, Set
 use Rattle.engine_turns.specs.RunTurns.{answer_to, is_nearly_full}
 use Rattle.engine_turns.specs.SealRows.{IsSettled, SealRow, has_listed_digest}
 use Rattle.engine_turns.specs.Standings.{AnswersOnly, RunStanding}
-use Rattle.engine_turns.specs.Told.{handed_by, is_taken, seals_handed}
+use Rattle.engine_turns.specs.Told.{is_taken, seals_handed}
 use Rattle.engine_turns.specs.declared.operations.Operation.TheVariants.{Seal}
 use Rattle.engine_turns.specs.declared.operations.Said.{Said}
 use Rattle.engine_turns.specs.declared.operations.Said.TheVariants.{Done, Void}
@@ -30,7 +30,7 @@ use Rattle.stored_run.specs.Views.{GoesOpened, IsGoing}
 use Rattle.stored_run.specs.declared.run.StoredView.{StoredView}
 use Rattle.stored_run.proofs.Claimed.{active_goes_on}
 use Rattle.engine_core.specs.Beginning.{IsBrokenOff}
-use Rattle.engine_core.specs.Handing.{IsOut, IsUnsettled, handed_but}
+use Rattle.engine_core.specs.Handing.{IsOut, handed_but}
 use Rattle.engine_core.specs.Performing.{handed_after}
 use Rattle.engine_core.proofs.Calm.{AreCalm, calm_disk, calm_ending, calm_none, calm_settling, calm_then, no_events}
 use Rattle.engine_core.proofs.CalmRows.{calm_only, unless_starved}

@@ -61,9 +61,18 @@ impl<D: Disk> Engine<D> {
                 said: self.deliver(claim, run, bytes.bytes(), now),
                 back: bytes,
             },
-            Operation::More { claim, want, now } => without_bytes(alloc, self.more(claim, want, now)),
-            Operation::Lose { claim, mark, now } => without_bytes(alloc, self.lose(claim, mark, now)),
-            Operation::Sized { claim, total, now } => without_bytes(alloc, self.size(claim, total, now)),
+            Operation::More { claim, want, now } => without_bytes(
+                alloc,
+                self.more(claim, want, now),
+            ),
+            Operation::Lose { claim, mark, now } => without_bytes(
+                alloc,
+                self.lose(claim, mark, now),
+            ),
+            Operation::Sized { claim, total, now } => without_bytes(
+                alloc,
+                self.size(claim, total, now),
+            ),
             Operation::Seal { gid, sealed, now } => Answer {
                 said: self.seal(gid, &sealed, now),
                 back: sealed.into_bytes(),

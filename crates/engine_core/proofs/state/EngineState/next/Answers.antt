@@ -1,4 +1,4 @@
-use Rattle.std.proofs.Common.{false, true, refl, sym, ap, ◌∙◌, subst, arith}
+use Rattle.std.proofs.Common.{true, refl, sym, ap, ◌∙◌, arith}
 use Rattle.machine_core.specs.Claiming.{next_to_open}
 use Rattle.machine_core.specs.MachineViews.{MachineView}
 use Rattle.engine_turns.specs.declared.operations.Operation.TheVariants as operation

@@ -1,7 +1,7 @@
 use Rattle.std.specs.Prelude.{All}
 use Rattle.machine_core.specs.Replays.{is_active_in}
 use Rattle.engine_turns.specs.Told.{is_taken}
-use Rattle.std.proofs.Common.{◌≡◌, ◌≤◌, true, false, inl, refl, sym, ap, ◌∙◌, subst, arith}
+use Rattle.std.proofs.Common.{◌≡◌, true, false, inl, refl, sym, ap, ◌∙◌, subst, arith}
 use Rattle.machine_core.specs.Offers.{is_handed_out}
 use Rattle.engine_turns.specs.Standings.{AnswersOnly}
 use Rattle.engine_turns.specs.declared.operations.Operation.TheVariants as operation
@@ -9,7 +9,7 @@ use Rattle.engine_turns.specs.declared.operations.Said.TheVariants.{Void}
 use Rattle.stored_run.specs.Settlings.{SealedRow}
 use Rattle.stored_run.proofs.Doing.{row_of_none}
 use Rattle.engine_core.specs.Engines.{past_of, standing_of, start_of}
-use Rattle.engine_core.specs.Handing.{IsOut, IsUnsettled, handed_but}
+use Rattle.engine_core.specs.Handing.{IsUnsettled, handed_but}
 use Rattle.engine_core.proofs.Awaiting.{all_kept}
 use Rattle.engine_core.proofs.CalmRows.{calm_only}
 use Rattle.engine_core.proofs.Letting.{front_lets_none}
