@@ -1,6 +1,6 @@
 -- What workers are given.
-use Rattle.std.proofs.Common.{Bor, reverse, ◌≡◌, ◌≤◌, ◌<◌, ◌+◌, ◌-◌, inl, inr, ⊎_elim, ℕ, zero, suc, Bool, true, false, Option, Some, None, List, [], ◌∷◌, ◌++◌, length, refl, sym, ap, ◌∙◌, subst, arith}
-use Rattle.std.specs.Prelude.{◌==◌, ◌||◌, Err, IfErr, IfNone, IfOk, IfSome, Ok, OnErr, OnOk, Result, map, option_copied, slice_get, slice_index_or}
+use Rattle.std.proofs.Common.{Bor, reverse, ◌≡◌, ◌≤◌, ◌<◌, ◌+◌, ◌-◌, ⊎_elim, ℕ, zero, suc, Bool, true, false, Option, Some, None, List, [], ◌∷◌, ◌++◌, length, refl, sym, ap, ◌∙◌, subst, arith}
+use Rattle.std.specs.Prelude.{◌||◌, Err, IfErr, IfNone, IfOk, IfSome, Ok, OnErr, OnOk, Result, map, option_copied, slice_get, slice_index_or}
 use Rattle.std.specs.Int.{div_ceil}
 use Rattle.std.specs.List.{list_any}
 use Rattle.std.specs.Option.{is_some, option_and_then}
@@ -13,7 +13,7 @@ use Rattle.dl_disk.specs.State.{DiskState}
 use Rattle.dl_history.specs.OwnEvents.{Grants}
 use Rattle.dl_history.specs.OwnLegal.{LegalOwn, MayClaim, MayHappen, MayProbe}
 use Rattle.dl_history.specs.PayloadParts.{is_opened}
-use Rattle.dl_kinds.specs.Plan.{IsPlan, blocks_of, piece_end, piece_start, pieces_of}
+use Rattle.dl_kinds.specs.Plan.{blocks_of, piece_end, piece_start, pieces_of}
 use Rattle.dl_kinds.specs.declared.claims.Claim.{Claim}
 use Rattle.dl_kinds.specs.declared.gid.Gid.{Gid}
 use Rattle.dl_kinds.specs.declared.plan.Plan.{Plan}
@@ -25,14 +25,14 @@ use Rattle.engine_turns.specs.NextRows.{IsJobOf, mirror_url}
 use Rattle.engine_turns.specs.Phases.{TurnStart}
 use Rattle.engine_turns.specs.Standings.{HasNoHome, IsHomeOf, RunStanding}
 use Rattle.engine_turns.specs.declared.operations.Said.{Said}
-use Rattle.machine_core.specs.Claiming.{IsClaimAt, IsClaimUnder, IsOfferedNow, MayBeTaken}
+use Rattle.machine_core.specs.Claiming.{IsClaimUnder, IsOfferedNow, MayBeTaken}
 use Rattle.machine_core.specs.DownloadWants.{HasWant, IsWantOf, files_of_subject}
-use Rattle.machine_core.specs.MachineViews.{Appends, IsNext, IsPlaceOf, MachineView, StandsUnder, place_in}
-use Rattle.machine_core.specs.Offers.{Credit, IsOffer, IsOfferBy, IsOpenedOffer, active_credits, gid_credit, offered_claim}
+use Rattle.machine_core.specs.MachineViews.{Appends, IsPlaceOf, MachineView, StandsUnder, place_in}
+use Rattle.machine_core.specs.Offers.{Credit, IsOfferBy, active_credits, gid_credit, offered_claim}
 use Rattle.machine_core.specs.Openings.{lengths_of_plan}
 use Rattle.machine_core.specs.OwnParts.{PayloadLengths, own_of, payload_lengths_of}
 use Rattle.machine_core.specs.MachineParts.{subject_of_event}
-use Rattle.machine_core.specs.Reads.{IsAdding, IsOpenedGid}
+use Rattle.machine_core.specs.Reads.{IsAdding}
 use Rattle.machine_core.specs.Replays.{is_active_in, is_download, is_same_gid, queue_in, replay_of}
 use Rattle.machine_core.specs.RunLegal.{IsLegal, MayFollow, download_in, info_hash_by, is_listed, known_lengths}
 use Rattle.machine_core.specs.Starts.{Download, RunStart, Subject, Listed, Unlisted}
@@ -40,7 +40,6 @@ use Rattle.machine_core.specs.TurnRooms.{IsRoomierRun}
 use Rattle.machine_core.specs.declared.events.Event.{Event}
 use Rattle.machine_core.specs.declared.events.Event.TheVariants.{Claimed, Settled}
 use Rattle.machine_core.specs.declared.handed.Handed.{Handed}
-use Rattle.machine_core.specs.declared.offers.Offer.{Offer}
 use Rattle.machine_core.specs.declared.offers.Offer.TheVariants.{Blocks, Probe, Whole}
 use Rattle.machine_core.specs.declared.offers.Offered.{Offered}
 use Rattle.machine_core.specs.declared.offers.Offered.TheVariants.{Held, Idle, Next}
@@ -49,8 +48,6 @@ use Rattle.rate_limits.specs.Shared.{RunLevels}
 use Rattle.resume_core.specs.Runs.{len_of_piece}
 use Rattle.span_map.specs.Jobs.{IsRun, run_end, run_start}
 use Rattle.span_map.specs.declared.jobs.Job.{Job}
-use Rattle.span_map.specs.declared.jobs.JobPart.{JobPart}
-use Rattle.stored_run.specs.Beginnings.{IsRoomier}
 use Rattle.stored_run.specs.Granting.{IsLongAsPiece, IsPlaceOfClaim, MakesClaim, MayBeGiven, UngivenRow, ungiven_row}
 use Rattle.stored_run.specs.RunFollows.{RunFollows}
 use Rattle.stored_run.specs.Settlings.{CountedRow, UnreadRow}

@@ -1,8 +1,7 @@
-use Rattle.std.proofs.Common.{◌≡◌, false, true, ap, sym, ◌∙◌, subst}
+use Rattle.std.proofs.Common.{◌≡◌, false, true, sym, ◌∙◌, subst}
 use Rattle.std.specs.Option.{is_some}
 use Rattle.control_file.specs.declared.want.Want.{Want}
 use Rattle.machine_core.proofs.Begun.{copied_is, copied_some}
-use Rattle.metainfo.specs.Jobs.{run_parts}
 use Rattle.span_map.specs.Jobs.{IsRun}
 use Rattle.span_map.specs.Layout.{total_of}
 use Rattle.stored_run.proofs.Failing.{opened_want}
