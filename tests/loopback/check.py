@@ -27,7 +27,7 @@ def can_unshare():
 
 def lacking():
     """What cases need, and isn't here."""
-    commands = ("nginx", "mktorrent", "transmission-create", "transmission-show", "aria2c", "unshare")
+    commands = ("nginx", "mktorrent", "transmission-create", "transmission-show", "aria2c", "unshare", "cc")
     gone = {it for it in commands if shutil.which(it) is None}
     if not has_ipv6():
         gone.add("ipv6")

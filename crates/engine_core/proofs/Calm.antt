@@ -10,7 +10,7 @@ use Rattle.machine_core.specs.declared.ends.End.TheVariants as end
 use Rattle.machine_core.specs.declared.events.Event.{Event}
 use Rattle.machine_core.specs.declared.events.Event.TheVariants.{Called, Opened, Sized, Claimed, Landed, Settled, Cleared, Lost, Checked, Saved, Ended, Left, Stopped}
 use Rattle.engine_turns.specs.Levels.{downloads_of, overall_rate, own_rate}
-use Rattle.engine_turns.specs.Phases.{AfterDisk, AndThen, BreaksOff, ByHistory, CheckedPhase, CompletionPhase, ContinuesWith, DeadPhase, EndAfterDisk, EndingOr, FindingPhase, IfElse, JustEnd, JustEvent, LandingsPhase, NoEvent, Phase, SavePhase, SettlingPhase, TurnStart, UnlistingPhase, WrongPhase, after_finding_phase}
+use Rattle.engine_turns.specs.Phases.{AfterDisk, AndThen, BreaksOff, ByHistory, CheckedPhase, CompletionPhase, ContinuesWith, DeadPhase, EndAfterDisk, EndingOr, FindingPhase, IfElse, JustEnd, JustEvent, LandingsPhase, NoEvent, OpeningPhase, Phase, SavePhase, SettlingPhase, TurnStart, UnlistingPhase, WrongPhase, after_finding_phase}
 use Rattle.engine_turns.specs.Told.{history_after}
 use Rattle.engine_turns.specs.declared.outcome.Outcome.{Outcome}
 use Rattle.engine_turns.specs.declared.outcome.Outcome.TheVariants.{Went, Over, Starved}
@@ -132,6 +132,11 @@ pub calm_ending : (at : TurnStart) (download : Download) (P : Phase) → IsCalm 
 calm_ending at download P calm =
     calm_by (λ past. IfElse _ (CompletionPhase at download.gid _) P)
     (λ past. calm_if _ (CompletionPhase at download.gid _) P (calm_completion at download.gid _) calm)
+
+pub calm_opening : (at : TurnStart) (gid : Gid) → IsCalm (OpeningPhase at gid)
+calm_opening at gid past events Went is = one_event (Opened gid is.0 is.1 at.now) events refl is.2
+calm_opening at gid past events Over is = one_event (Ended gid is.0) events refl is.2
+calm_opening at gid past events Starved is = no_events events is
 
 pub calm_landings : (at : TurnStart) (gid : Gid) (claim mirror : ℕ) (runs : List Run)
     → IsCalm (LandingsPhase at gid claim mirror runs)

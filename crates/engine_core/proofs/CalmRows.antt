@@ -32,7 +32,7 @@ IsCalmRow Row = (events : List Event) (said : Said) → Row events said → AreC
 pub calm_only : (usual : Said) → lets_go usual ≡ false → IsCalmRow (AnswersOnly usual)
 calm_only usual none events said is = (no_events events is.0, ap lets_go is.1 ∙ none)
 
-unless_starved : (usual : Said) (outcome : Outcome) (said : Said) → lets_go usual ≡ false
+pub unless_starved : (usual : Said) (outcome : Outcome) (said : Said) → lets_go usual ≡ false
     → AnswersUnlessStarved usual outcome said → lets_go said ≡ false
 unless_starved usual Went said none is = ap lets_go is ∙ none
 unless_starved usual Over said none is = ap lets_go is ∙ none
@@ -108,7 +108,7 @@ calm_deliver at s run bytes download claim events said is = ⊎_elim
 
 -- ---- saves, and doors
 
-saves_calm : (at : TurnStart) (gids : List Gid) (past events : List Event) (o : Outcome) → SavesPhase at gids past events o
+pub saves_calm : (at : TurnStart) (gids : List Gid) (past events : List Event) (o : Outcome) → SavesPhase at gids past events o
     → AreCalm events
 saves_calm at [] past events o is = no_events events is.0
 saves_calm at (gid ∷ gids) past events o is = ⊎_elim

@@ -3,7 +3,7 @@ use Rattle.std.proofs.Common.{◌≡◌, ◌⊎◌, inl, inr, ℕ, Bool, true, f
 use Rattle.std.specs.Prelude.{◌==◌, All, box_value, not}
 use Rattle.std.specs.List.{list_any}
 use Rattle.std.specs.Option.{is_some}
-use Rattle.std.proofs.lemmas.Bool.{eq-eqb}
+use Rattle.std.proofs.lemmas.Bool.{eq-eqb, ne_eqb}
 use Rattle.std.proofs.lemmas.List.{append-nil, append_assoc}
 use Rattle.std.proofs.lemmas.List.Elements.{All-cons, All-nil, All-weaker}
 use Rattle.dl_kinds.specs.declared.gid.Gid.{Gid}
@@ -106,7 +106,12 @@ event_adds start past (Ended gid how) = inl refl
 event_adds start past Left = inl refl
 event_adds start past Stopped = inl refl
 
--- ---- over the events of a turn
+-- ---- all of them
+
+-- none has the gid of one behind it
+abbrev pub AreApart : List Download → Type 0
+AreApart [] = Unit {0}
+AreApart (d ∷ ds) = (download_of ds d.gid ≡ None) × AreApart ds
 
 found_more : (gid : Gid) (old : List Download) (d x : Download) → download_of old gid ≡ Some x
     → download_of (old ++ d ∷ []) gid ≡ Some x
@@ -127,6 +132,45 @@ none_before gid old d none = by (download_of old gid) refl
     by : (o : Option Download) → download_of old gid ≡ o → download_of old gid ≡ None
     by None is = is
     by (Some x) is = absurd (let some : Some x ≡ None = sym (found_more gid old d x is) ∙ none in cc)
+
+none_behind_first : (gid : Gid) (x : Download) (ds : List Download) → download_of (x ∷ ds) gid ≡ None
+    → (is_download gid x ≡ false) × (download_of ds gid ≡ None)
+none_behind_first gid x ds none = by (is_download gid x) refl
+  where
+    by : (b : Bool) → is_download gid x ≡ b → (is_download gid x ≡ false) × (download_of ds gid ≡ None)
+    by true is = absurd (let some : Some x ≡ None = (rw is at none) in cc)
+    by false is = (is, (rw is at none))
+
+turned : (a b : ℕ) → (a == b) ≡ false → (b == a) ≡ false
+turned a b is = ne_eqb b a (λ same. let yes : true ≡ false = sym (eq-eqb a b (sym same)) ∙ is in absurd cc)
+
+found_last : (gid : Gid) (ds : List Download) (d : Download) → is_download gid d ≡ false → download_of ds gid ≡ None
+    → download_of (ds ++ d ∷ []) gid ≡ None
+found_last gid [] d other none = rw other refl
+found_last gid (x ∷ ds) d other none =
+    let both = none_behind_first gid x ds none in
+    let first = both.0 in
+    rw first (found_last gid ds d other both.1)
+
+apart_more : (ds : List Download) (d : Download) → AreApart ds → download_of ds d.gid ≡ None → AreApart (ds ++ d ∷ [])
+apart_more [] d apart none = (refl, tt)
+apart_more (x ∷ ds) d apart none =
+    let both = none_behind_first d.gid x ds none in (
+      found_last x.gid ds d (turned x.gid.0 d.gid.0 both.0) apart.0,
+      apart_more ds d apart.1 both.1,
+    )
+
+apart_then : (old new : List Download) → AddsNew old new → AreApart old → AreApart new
+apart_then old new (inl same) apart = subst AreApart (sym same) apart
+apart_then old new (inr more) apart = subst AreApart (sym more.1) (apart_more old more.0 apart more.2)
+
+pub downloads_apart : (start : RunStart) (past : List Event) → AreApart (downloads_of start past)
+downloads_apart start [] = tt
+downloads_apart start (e ∷ past) =
+    apart_then (downloads_of start past) (downloads_of start (e ∷ past)) (event_adds start past e)
+    (downloads_apart start past)
+
+-- ---- over the events of a turn
 
 -- those that were there, and new ones behind them
 pub record GrowsByNew (old new : List Download) : Type 0 where

@@ -1,9 +1,11 @@
 -- Answers that let nothing go: no piece is handed out, and no bytes are let through.
-use Rattle.std.proofs.Common.{◌≡◌, Bool, true, false, None, List, [], refl, ap}
-use Rattle.std.specs.Prelude.{◌&&◌}
+use Rattle.std.proofs.Common.{◌≡◌, Bool, true, false, None, List, [], refl, sym, ap, subst}
+use Rattle.std.specs.Prelude.{◌&&◌, All}
+use Rattle.std.proofs.lemmas.List.Elements.{All-nil}
 use Rattle.machine_core.specs.Reads.{is_finished_in}
 use Rattle.machine_core.specs.Starts.{RunStart}
 use Rattle.machine_core.specs.declared.events.Event.{Event}
+use Rattle.machine_core.specs.declared.handed.Handed.{Handed}
 use Rattle.engine_turns.specs.Levels.{spent_by}
 use Rattle.engine_turns.specs.RunTurns.{answer_to, is_nearly_full}
 use Rattle.engine_turns.specs.Told.{handed_by}
@@ -55,3 +57,7 @@ front_lets_none asks needs start past said is =
     by true b finished full = let said_is = (rw finished at is) in ap lets_go said_is
     by false true finished full = let said_is = (rw full at (rw finished at is)) in ap lets_go said_is
     by false false finished full = let said_is = (rw full at (rw finished at is)) in ap lets_go said_is
+
+-- .. and what it hands out, of which there is nothing, meets any condition
+pub none_out : (P : Handed → Type 0) (said : Said) → lets_go said ≡ false → All P (handed_by said)
+none_out P said none = subst (All P) (sym (nothing_handed said none)) (All-nil P)

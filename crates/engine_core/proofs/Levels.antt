@@ -16,7 +16,7 @@ use Rattle.engine_core.proofs.Calm.{StaysUncalled}
 
 -- ---- nothing is spent and no rate changes
 
-level_still : (old new now : ℕ) (level : Level) → new ≡ old → level_on None old new now level ≡ level
+pub level_still : (old new now : ℕ) (level : Level) → new ≡ old → level_on None old new now level ≡ level
 level_still old new now level same = let eq = eq-eqb old new (sym same) in rw eq refl
 
 module _ (start : RunStart) (past after : List Event) (stays : StaysUncalled start past after) where

@@ -1,6 +1,6 @@
 -- Operations that let nothing go: they grant nothing, and let no bytes through.
 use Rattle.std.proofs.Common.{◌≡◌, inl, inr, ◌≤◌, ℕ, Bool, true, false, Option, Some, None, List, [], ◌++◌, refl, sym, ap, ◌∙◌, subst, arith}
-use Rattle.std.specs.Prelude.{◌&&◌, filter, max, not}
+use Rattle.std.specs.Prelude.{◌&&◌, All, filter, max, not}
 use Rattle.dl_kinds.specs.declared.runs.Moment.{Moment}
 use Rattle.machine_core.specs.MachineViews.{MachineView}
 use Rattle.machine_core.specs.TurnRooms.{IsRoomierRun}
@@ -19,7 +19,8 @@ use Rattle.stored_run.specs.declared.run.StoredView.{StoredView}
 use Rattle.engine_core.specs.Beginning.{Begins, IsBrokenOff}
 use Rattle.engine_core.specs.Buckets.{HasRates, LevelsGoOn}
 use Rattle.engine_core.specs.Engines.{KeepsRates, past_of, standing_of, start_of}
-use Rattle.engine_core.specs.Performing.{Performs, handed_after}
+use Rattle.engine_core.specs.Handing.{IsUnsettled}
+use Rattle.engine_core.specs.Performing.{HandsUnsettled, Performs, handed_after}
 use Rattle.engine_core.specs.declared.state.EngineState.{EngineState}
 use Rattle.engine_core.proofs.Calm.{AreCalm, StaysUncalled, no_events, stays_uncalled}
 use Rattle.engine_core.proofs.Handings.{filter_all}
@@ -34,10 +35,14 @@ handed_stay op said pieces unsealed none =
     sym (ap (λ (new : List Handed). filter (λ h. not (seals_handed h op && is_taken said)) (new ++ pieces)) (nothing_handed said none)
     ∙ filter_all (λ h. not (seals_handed h op && is_taken said)) pieces (λ h. let is = unsealed h in rw is refl))
 
--- ---- an operation that no seal is, which is broken off or makes a row of the run
+-- none more are out
+pub out_same : {D : Type 0} (old new : EngineState D) → new.handed.pieces ≡ old.handed.pieces → HandsUnsettled old new
+out_same old new same out = subst (All (IsUnsettled (start_of old) (past_of old))) (sym same) out
 
-module _ {D : Type 0} (op : Operation) (unsealed : (h : Handed) → seals_handed h op ≡ false) (now : Moment)
-    (brings : moment_of_operation op ≡ now.0) (old mid : EngineState D) (begins : Begins now old mid) where
+-- ---- an operation that is broken off, or makes a row of the run
+
+module _ {D : Type 0} (op : Operation) (now : Moment) (brings : moment_of_operation op ≡ now.0) (old mid : EngineState D)
+    (begins : Begins now old mid) where
   rates_then : (new : EngineState D) (events : List Event) → AreCalm events → new.limits ≡ old.limits
       → start_of new ≡ start_of old → past_of new ≡ history_after (past_of old) events
       → HasRates (start_of old) (past_of old) old.limits → KeepsRates new
@@ -48,16 +53,13 @@ module _ {D : Type 0} (op : Operation) (unsealed : (h : Handed) → seals_handed
       (rates_stay (start_of old) (past_of old) (history_after (past_of old) events)
       (stays_uncalled (start_of old) (past_of old) events calm) old.limits rates)))
 
-  rates_after : mid.limits ≡ old.limits → start_of mid ≡ start_of old → past_of mid ≡ past_of old
-      → HasRates (start_of old) (past_of old) old.limits → KeepsRates mid
-  rates_after limits start past rates = rates_then mid [] (no_events [] refl) limits start past rates
-
   -- nothing came
-  pub broken_off : (f f' : ℕ) (asks needs : Bool) (said : Said) → f ≤ f' → HasRates (start_of old) (past_of old) old.limits
+  pub nothing_came : (f f' : ℕ) (asks needs : Bool) (said : Said) → f ≤ f' → HasRates (start_of old) (past_of old) old.limits
       → (answer_to asks needs (start_of old) (past_of old) ≡ None → takes_memory op ≡ true)
       → answer_before (start_of old) (past_of old) op ≡ answer_to asks needs (start_of old) (past_of old)
-      → IsBrokenOff (answer_to asks needs (start_of old) (past_of old)) said → Performs op old f mid f' said
-  broken_off f f' asks needs said more rates takes front is =
+      → IsBrokenOff (answer_to asks needs (start_of old) (past_of old)) said
+      → old.handed.pieces ≡ handed_after op said old.handed.pieces → Performs op old f mid f' said
+  nothing_came f f' asks needs said more rates takes front is stay =
       let none = front_lets_none asks needs (start_of old) (past_of old) said is in
       record {
         answers = record {
@@ -79,8 +81,9 @@ module _ {D : Type 0} (op : Operation) (unsealed : (h : Handed) → seals_handed
               (subst (StaysUncalled (start_of old) (past_of old)) (sym begins.machine.past_is)
               (stays_uncalled (start_of old) (past_of old) [] (no_events [] refl))) mid.run.now.0 old.limits rates));
         };
-        handed = ap (λ h. h.pieces) begins.handed ∙ handed_stay op said old.handed.pieces unsealed none;
-        rates = rates_after begins.limits begins.machine.start_is begins.machine.past_is rates;
+        handed = ap (λ h. h.pieces) begins.handed ∙ stay;
+        out = out_same old mid (ap (λ h. h.pieces) begins.handed);
+        rates = rates_then mid [] (no_events [] refl) begins.limits begins.machine.start_is begins.machine.past_is rates;
       }
     where
       by : (at : TurnStart) (o : Option Said) → answer_to asks needs (start_of old) (past_of old) ≡ o
@@ -89,15 +92,17 @@ module _ {D : Type 0} (op : Operation) (unsealed : (h : Handed) → seals_handed
       by at None front_is said_is = inl (takes front_is, (refl, said_is))
 
   -- a row of the run, with no call and nothing that is let go
-  pub row_performed : (Row : TurnStart → RunStanding → List Event → Said → Type 0) (run : StoredView D) (before f f' : ℕ)
+  pub row_came : (Row : TurnStart → RunStanding → List Event → Said → Type 0) (run : StoredView D) (before f f' : ℕ)
       (new : EngineState D) (said : Said) → before ≤ f → HasRates (start_of old) (past_of old) old.limits
       → answer_before (start_of old) (past_of old) op ≡ None → DoesRow Row mid.run f run f' said
       → run.machine.start ≡ mid.run.machine.start → run.now ≡ mid.run.now
-      → new.run ≡ run → new.handed ≡ mid.handed → new.limits ≡ mid.limits
-      → ((at : TurnStart) (s : RunStanding) (events : List Event) → Row at s events said → OperationRow at s op events said)
+      → new.run ≡ run → new.limits ≡ mid.limits
+      → ((events : List Event) → Row (turn_from mid.run before) (standing_of old) events said
+      → OperationRow (turn_from mid.run before) (standing_of old) op events said)
       → ((at : TurnStart) (s : RunStanding) (events : List Event) → Row at s events said → AreCalm events × (lets_go said ≡ false))
+      → new.handed.pieces ≡ handed_after op said old.handed.pieces → HandsUnsettled old new
       → Performs op old before new f' said
-  row_performed Row run before f f' new said more rates front row start_is now_is run_is handed_is limits_is gives calm =
+  row_came Row run before f f' new said more rates front row start_is now_is run_is limits_is gives calm handed out =
       let at : TurnStart = turn_from mid.run before in
       let s = standing_of old in
       let here = row.is before s more (sym begins.machine.past_is) in
@@ -113,7 +118,7 @@ module _ {D : Type 0} (op : Operation) (unsealed : (h : Handed) → seals_handed
           events = row.events;
           grown = past_is;
           answered = subst (IsAnswered (record { start = start_of old; now = new.run.now; faults = before }) s op row.events said)
-              (sym front) (inr (subst (λ (a : TurnStart). OperationRow a s op row.events said) turn_is (gives at s row.events here)));
+              (sym front) (inr (subst (λ (a : TurnStart). OperationRow a s op row.events said) turn_is (gives row.events here)));
           later = omega (arith, more, row.later);
           counts = row.counts;
           levels = subst (λ l. LevelsGoOn (start_of old) (past_of old) (past_of new) (spent_by (start_of old) (past_of old) op said) new.run.now.0 old.limits l)
@@ -124,10 +129,39 @@ module _ {D : Type 0} (op : Operation) (unsealed : (h : Handed) → seals_handed
               (subst (StaysUncalled (start_of old) (past_of old)) (sym past_is)
               (stays_uncalled (start_of old) (past_of old) row.events quiet.0)) new.run.now.0 old.limits rates));
         };
-        handed = ap (λ h. h.pieces) (handed_is ∙ begins.handed) ∙ handed_stay op said old.handed.pieces unsealed quiet.1;
+        handed = handed;
+        out = out;
         rates = rates_then new row.events quiet.0 (limits_is ∙ begins.limits)
             (ap (λ r. r.machine.start) run_is ∙ (start_is ∙ begins.machine.start_is)) past_is rates;
       }
+
+-- ---- .. that no seal is
+
+module _ {D : Type 0} (op : Operation) (unsealed : (h : Handed) → seals_handed h op ≡ false) (now : Moment)
+    (brings : moment_of_operation op ≡ now.0) (old mid : EngineState D) (begins : Begins now old mid) where
+  pub broken_off : (f f' : ℕ) (asks needs : Bool) (said : Said) → f ≤ f' → HasRates (start_of old) (past_of old) old.limits
+      → (answer_to asks needs (start_of old) (past_of old) ≡ None → takes_memory op ≡ true)
+      → answer_before (start_of old) (past_of old) op ≡ answer_to asks needs (start_of old) (past_of old)
+      → IsBrokenOff (answer_to asks needs (start_of old) (past_of old)) said → Performs op old f mid f' said
+  broken_off f f' asks needs said more rates takes front is =
+      nothing_came op now brings old mid begins f f' asks needs said more rates takes front is
+      (handed_stay op said old.handed.pieces unsealed (front_lets_none asks needs (start_of old) (past_of old) said is))
+
+  pub row_performed : (Row : TurnStart → RunStanding → List Event → Said → Type 0) (run : StoredView D) (before f f' : ℕ)
+      (new : EngineState D) (said : Said) → before ≤ f → HasRates (start_of old) (past_of old) old.limits
+      → answer_before (start_of old) (past_of old) op ≡ None → DoesRow Row mid.run f run f' said
+      → run.machine.start ≡ mid.run.machine.start → run.now ≡ mid.run.now
+      → new.run ≡ run → new.handed ≡ mid.handed → new.limits ≡ mid.limits
+      → ((at : TurnStart) (s : RunStanding) (events : List Event) → Row at s events said → OperationRow at s op events said)
+      → ((at : TurnStart) (s : RunStanding) (events : List Event) → Row at s events said → AreCalm events × (lets_go said ≡ false))
+      → Performs op old before new f' said
+  row_performed Row run before f f' new said more rates front row start_is now_is run_is handed_is limits_is gives calm =
+      let same = ap (λ h. h.pieces) (handed_is ∙ begins.handed) in
+      let here = row.is before (standing_of old) more (sym begins.machine.past_is) in
+      row_came op now brings old mid begins Row run before f f' new said more rates front row start_is now_is run_is limits_is
+      (λ events is. gives (turn_from mid.run before) (standing_of old) events is) calm
+      (same ∙ handed_stay op said old.handed.pieces unsealed (calm (turn_from mid.run before) (standing_of old) row.events here).1)
+      (out_same old new same)
 
 -- ---- beginnings
 

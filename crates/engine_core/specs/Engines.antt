@@ -1,5 +1,5 @@
 -- What an engine keeps of a run, and which turns it stands for.
-use Rattle.std.specs.Prelude.{◌≡◌, ◌≤◌, ℕ, List, [], reverse}
+use Rattle.std.specs.Prelude.{◌≡◌, ◌≤◌, ℕ, All, List, [], reverse}
 use Rattle.machine_core.specs.Starts.{RunStart}
 use Rattle.machine_core.specs.declared.events.Event.{Event}
 use Rattle.turn_desk.specs.Turns.{ServesTurn, StartsWith}
@@ -11,6 +11,7 @@ use Rattle.engine_turns.specs.declared.operations.Operation.{Operation}
 use Rattle.engine_turns.specs.declared.operations.Said.{Said}
 use Rattle.option_set.specs.Values.{OptionValues}
 use Rattle.engine_core.specs.Buckets.{HasRates}
+use Rattle.engine_core.specs.Handing.{IsOut}
 use Rattle.engine_core.specs.declared.state.EngineState.{EngineState}
 
 module _ {D : Type 0} where
@@ -36,6 +37,11 @@ module _ {D : Type 0} where
   -- the buckets have the rates of the options
   abbrev pub KeepsRates : EngineState D → Type 0
   KeepsRates e = HasRates (start_of e) (past_of e) e.limits
+
+  -- .. and each piece that is handed out awaits its finding
+  pub record IsEngineState (e : EngineState D) : Type 0 where
+    pub rates : KeepsRates e
+    pub out : All (IsOut (start_of e) (past_of e)) e.handed.pieces
 
   -- all that it goes by is what these turns tell, of which the newest is the first
   pub record StandsAfter (e : EngineState D) (told : List RunTurn) : Type 0 where

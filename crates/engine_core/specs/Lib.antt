@@ -3,3 +3,4 @@ pub mod Buckets
 pub mod Beginning
 pub mod Performing
 pub mod Handing
+pub mod Giving

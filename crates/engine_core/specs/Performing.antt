@@ -1,5 +1,5 @@
 -- What an operation does to a run, and what is answered.
-use Rattle.std.specs.Prelude.{◌≡◌, ◌≤◌, ◌&&◌, ℕ, max, not, Contains, List, ◌++◌, filter}
+use Rattle.std.specs.Prelude.{◌≡◌, ◌≤◌, ◌&&◌, ℕ, max, not, All, Contains, List, ◌++◌, filter}
 use Rattle.dl_kinds.specs.declared.gid.Gid.{Gid}
 use Rattle.machine_core.specs.declared.ends.End.TheVariants as end
 use Rattle.machine_core.specs.declared.events.Event.{Event}
@@ -11,6 +11,7 @@ use Rattle.engine_turns.specs.Told.{handed_by, history_after, is_taken, moment_o
 use Rattle.engine_turns.specs.declared.operations.Operation.{Operation}
 use Rattle.engine_turns.specs.declared.operations.Said.{Said}
 use Rattle.engine_core.specs.Buckets.{LevelsGoOn}
+use Rattle.engine_core.specs.Handing.{IsUnsettled}
 use Rattle.engine_core.specs.Engines.{KeepsRates, past_of, standing_of, start_of}
 use Rattle.engine_core.specs.declared.state.EngineState.{EngineState}
 
@@ -33,9 +34,16 @@ module _ {D : Type 0} where
     pub levels : LevelsGoOn (start_of old) (past_of old) (past_of new)
         (spent_by (start_of old) (past_of old) op said) new.run.now.0 old.limits new.limits
 
+  -- where each piece that was handed out awaits its finding, so does each then, by the history before
+  abbrev pub HandsUnsettled : (old new : EngineState D) → Type 0
+  HandsUnsettled old new =
+      All (IsUnsettled (start_of old) (past_of old)) old.handed.pieces
+      → All (IsUnsettled (start_of old) (past_of old)) new.handed.pieces
+
   -- .. and the pieces that are out before those go that its events settle; the buckets have their rates
   pub record Performs (op : Operation) (old : EngineState D) (faults : ℕ) (new : EngineState D) (faults_after : ℕ)
       (said : Said) : Type 0 where
     pub answers : Answers op old faults new faults_after said
     pub handed : new.handed.pieces ≡ handed_after op said old.handed.pieces
+    pub out : HandsUnsettled old new
     pub rates : KeepsRates new

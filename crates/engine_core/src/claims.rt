@@ -7,7 +7,8 @@ ghost use Rattle.engine_core.specs.Performing.{Performs};
 use crate::state::EngineState;
 use dl_disk::Disk;
 use dl_kinds::{Mark, Moment, Run};
-use engine_turns::Said;
+use engine_turns::{MAX_ALLOWANCE, Said};
+use rate_tokens::Take;
 
 impl<D: Disk> EngineState<D> {
     // Blocks of a claim came.
@@ -19,6 +20,31 @@ impl<D: Disk> EngineState<D> {
         match self.begin(false, now) {
             Ok(()) => self.run.deliver(claim, run, bytes),
             Err(said) => said,
+        }
+    }
+
+    // How many more bytes of a claim may be fetched.
+    pub(crate) fn more(&mut self, claim: u64, want: u32, now: Moment) -> Said
+        requires { KeepsRates self.old }
+        ensures { Performs (operation.More claim want now) self.old (D.faults self.old.run.disk)
+            self.new (D.faults self.new.run.disk) result }
+    {
+        self.run.come_to(now);
+        if let Some(said) = self.front(false, true) {
+            return said;
+        }
+        let Some(place) = self.run.place_of_claim(claim) else {
+            return Said::Void;
+        };
+        if want == 0 {
+            return Said::Void;
+        }
+        match self
+            .limits
+            .take(place, want.min(MAX_ALLOWANCE), self.run.moment())
+        {
+            Take::Go(bytes) => Said::Allow { bytes },
+            Take::Hold(ms) => Said::Hold { ms },
         }
     }
 

@@ -1,35 +1,38 @@
 // A run that is steered by turns.
 ghost use Rattle.std.specs.Prelude.{◌≡◌, [], IfErr, IfOk, reverse};
 ghost use Rattle.engine_turns.specs.declared.operations.Operation.TheVariants as operation;
+ghost use Rattle.machine_core.specs.LawfulCalls.{IsLawful};
 ghost use Rattle.engine_core.specs.Engines.{IsNewEngine, TakesTurn, past_of};
 
 use crate::state::EngineState;
 use dl_disk::Disk;
-use dl_kinds::{Mark, Moment, Run};
+use dl_kinds::{Gid, Mark, Moment, Run};
 use engine_turns::Said;
-use machine_core::{HandedPieces, Journal};
+use machine_core::{Call, HandedPieces, Journal};
 use option_set::{Num, Options};
 use rate_limits::RateLimits;
 use std::alloc::Global;
 use std::marker::Model;
 use stored_run::StoredRun;
+use verify_piece::Sealed;
 
 /// A run that is steered by turns. Each method but `new` and `into_parts` takes one turn; what it answers, and the events that
 /// come, are what the turns before it say.
 #[derive(Drop)]
 pub struct Engine<D: Disk> {
+    pub(crate) alloc: Global,
     state: EngineState<D>,
 }
 
 impl<D: Disk> Model for Engine<D> {
-    ghost use Rattle.engine_core.specs.Engines.{KeepsRates};
+    ghost use Rattle.engine_core.specs.Engines.{IsEngineState};
     ghost use Rattle.engine_core.specs.declared.state.EngineState.{EngineState};
 
     ghost Value = { EngineState D };
 
     ghost view = { λ e. e.state };
 
-    ghost invariant = { λ e. KeepsRates e.state };
+    ghost invariant = { λ e. IsEngineState e.state };
 }
 
 impl<D: Disk> Engine<D> {
@@ -44,6 +47,7 @@ impl<D: Disk> Engine<D> {
         let run = StoredRun::new(alloc, disk, gids, global, doors)?;
         let limits = RateLimits::new(alloc, rate, Moment(0));
         Ok(Engine {
+            alloc,
             state: EngineState {
                 run,
                 handed: HandedPieces::new(alloc),
@@ -58,6 +62,7 @@ impl<D: Disk> Engine<D> {
         ensures events { result.1.events.items ≡ reverse (past_of self) }
     {
         let Engine {
+            alloc: _,
             state: EngineState {
                 run,
                 handed: _,
@@ -65,6 +70,41 @@ impl<D: Disk> Engine<D> {
             },
         } = self;
         run.into_parts()
+    }
+
+    /// A call of a console session, or of the command line; of a console's the number is from 1 on. The progress of the
+    /// downloads that it takes off is saved, and the buckets take the rates of the options as they are then.
+    pub fn call(&mut self, session: u32, call: Call, now: Moment) -> Said
+        requires { IsLawful call }
+        ensures { TakesTurn D.faults (operation.Call session call now) self.old self.new result }
+    {
+        let from = self.state.run.machine().journal().len();
+        let said = self.state.call(session, call, now);
+        self.state.take_back(from);
+        said
+    }
+
+    /// What a worker is to do next. A download is opened first, if one is to be; then the first offer that its download's
+    /// credit affords is given: a full piece to hash, blocks to fetch, or a length to ask for.
+    pub fn next(&mut self, worker: u32, now: Moment) -> Said
+        ensures { TakesTurn D.faults (operation.Next worker now) self.old self.new result }
+    {
+        let from = self.state.run.machine().journal().len();
+        let said = self.state.next(worker, now);
+        self.state.take_back(from);
+        said
+    }
+
+    /// A worker compared a full piece that it was given. Where the disk still reads the sealed bytes, the piece is found right or
+    /// wrong by their digest; the seal of a piece that isn't handed out is void, and so is one of other bytes.
+    pub fn seal(&mut self, gid: Gid, sealed: &Sealed, now: Moment) -> Said
+        ensures { TakesTurn D.faults (operation.Seal gid sealed.now now)
+            self.old self.new result }
+    {
+        let from = self.state.run.machine().journal().len();
+        let said = self.state.seal(gid, sealed, now);
+        self.state.take_back(from);
+        said
     }
 
     /// Blocks of a claim came, with their bytes. Those that are open in the claim are written and counted; the pieces that
@@ -75,6 +115,17 @@ impl<D: Disk> Engine<D> {
     {
         let from = self.state.run.machine().journal().len();
         let said = self.state.deliver(claim, run, bytes, now);
+        self.state.take_back(from);
+        said
+    }
+
+    /// How many more bytes of a claim may be fetched, of at most `want`: as many as both buckets of its download let go, and
+    /// never more than `MAX_ALLOWANCE`. Where they let none go, the answer is in how many milliseconds they do.
+    pub fn more(&mut self, claim: u64, want: u32, now: Moment) -> Said
+        ensures { TakesTurn D.faults (operation.More claim want now) self.old self.new result }
+    {
+        let from = self.state.run.machine().journal().len();
+        let said = self.state.more(claim, want, now);
         self.state.take_back(from);
         said
     }

@@ -1,6 +1,5 @@
 mod Counting
 mod Cuts
-mod KnownLosses
 mod Lengths
 mod Ready
 mod Stepping

@@ -1,4 +1,3 @@
 pub mod Blocks
 pub mod Fetches
-pub mod Known
 pub mod Lengths

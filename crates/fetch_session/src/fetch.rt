@@ -7,7 +7,6 @@ ghost use Rattle.fetch_session.specs.Blocks.{AreReady};
 ghost use Rattle.link_source.specs.Link.{LinkState};
 ghost use Rattle.link_source.specs.Exchanges.{Exchange};
 ghost use Rattle.request_chain.specs.Rests.{RestsOn, RestsWhole};
-ghost use Rattle.fetch_session.specs.Known.{is_known};
 
 use crate::blocks::{cut, missing, take_front, whole_from};
 use crate::laws::fetched_bytes_fit_their_parts;
@@ -47,7 +46,7 @@ pub struct Fetch {
     ghost spare_fits: { ForSome spare (λ buffer. 1048576 ≤ vec_capacity buffer) },
     // Where blocks are ready, so is the buffer for what is behind them.
     ghost spare_is_in: { ForNone spare (ready.count ≡ 0) },
-    ghost known: { ForSome lost (λ loss. IsTrue (is_known loss)) },
+    ghost known: { ForSome lost IsKnown },
 }
 
 impl Fetch {

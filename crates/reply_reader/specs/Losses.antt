@@ -1,5 +1,5 @@
 -- What a loss is held against a mirror as: the exit statuses are those of the aria2 manual, section EXIT STATUS.
-use Rattle.std.specs.Prelude.{◌≡◌, ◌⊎◌, ℕ, Option, Some, None}
+use Rattle.std.specs.Prelude.{◌≡◌, ◌==◌, ◌||◌, ℕ, Bool, true, Option, Some, None, IsTrue}
 use Rattle.dl_kinds.specs.declared.marks.Mark.{Mark}
 use Rattle.reply_reader.specs.declared.loss.Loss.{Loss}
 use Rattle.reply_reader.specs.declared.loss.Loss.TheVariants.{Link, NotFound, Refused, BadReply, Length, Short, Redirects, NoMemory}
@@ -18,7 +18,15 @@ mark_of (Short got) = marked 6
 mark_of Redirects = marked 23
 mark_of NoMemory = None
 
--- a refusal has one of the exit statuses for that
+-- The exit statuses of a refusal: a reply that isn't expected, one that wants to know who asks, and an overloaded mirror.
+-- What another protocol refuses with is added here.
+abbrev pub is_refusal_status : ℕ → Bool
+is_refusal_status status = (status == 22) || (status == 24) || (status == 29)
+
+-- a refusal has one of them, as a test
+abbrev pub is_known : Loss → Bool
+is_known (Refused status code) = is_refusal_status code.0
+is_known loss = true
+
 abbrev pub IsKnown : Loss → Type 0
-IsKnown (Refused status code) = (code.0 ≡ 22) ⊎ (code.0 ≡ 24) ⊎ (code.0 ≡ 29)
-IsKnown loss = Unit {0}
+IsKnown loss = IsTrue (is_known loss)

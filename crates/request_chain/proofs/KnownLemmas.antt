@@ -1,5 +1,5 @@
 -- A verdict refuses with one of the exit statuses for that.
-use Rattle.std.proofs.Common.{◌≡◌, ℕ, ◌==◌, Bool, true, false, refl, inl, inr, subst}
+use Rattle.std.proofs.Common.{◌≡◌, ℕ, ◌==◌, Bool, true, false, refl, subst}
 use Rattle.std.specs.Prelude.{◌||◌, if◌then◌else◌, Option, Some, None, ⊤}
 use Rattle.dl_kinds.specs.declared.marks.Code.{Code}
 use Rattle.range_http.specs.declared.asked.Asked.{Asked}
@@ -27,7 +27,7 @@ either true x y first second = first
 either false x y first second = second
 
 not_expected : RefusesKnown unexpected
-not_expected = λ status. inl refl
+not_expected = λ status. refl
 
 module _ (asked : Asked) where
   sized_known : (known told : Option ℕ) (verdict : Verdict) → RefusesKnown verdict → RefusesKnown (sized known told verdict)
@@ -75,9 +75,9 @@ verdict_known head asked =
     let content = either (is_encoded head) unexpected (framed_verdict head asked (framing_of head)) not_expected framed in
     let ranged = either (head.status == 200 || head.status == 206) (content_verdict head asked) unexpected content not_expected in
     let moved = either (is_moved head) Moved (by_empty head asked) tt (either (is_empty head asked) Empty (by_content head asked) tt ranged) in
-    let served = either (head.status == 503) overloaded (by_moved head asked) (λ status. inr (inr refl)) moved in
+    let served = either (head.status == 503) overloaded (by_moved head asked) (λ status. refl) moved in
     either (head.status == 404) NotFound (by_unauthorized head asked) tt
-    (either (head.status == 401) unauthorized (by_overloaded head asked) (λ status. inr (inl refl)) served)
+    (either (head.status == 401) unauthorized (by_overloaded head asked) (λ status. refl) served)
 
 -- a refusal by a verdict
 pub refused_known : (head : Head) (asked : Asked) (code : Code) (status : ℕ) → verdict_of head asked ≡ Refused code → IsKnown (losses.Refused status code)

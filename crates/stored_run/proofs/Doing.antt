@@ -1,6 +1,6 @@
 -- Parts of turns put together: one after the other, and broken off.
 use Rattle.std.proofs.Common.{◌≡◌, ◌≢◌, inl, inr, ⊎_elim, ◌≤◌, ◌<◌, ◌+◌, ◌-◌, ◌^◌, ℕ, zero, suc, get_or, Bool, true, false, cond, List, [], ◌∷◌, ◌++◌, refl, sym, ap, ◌∙◌, subst, arith}
-use Rattle.std.specs.Prelude.{Contains, IfSome}
+use Rattle.std.specs.Prelude.{◌||◌, Contains, IfSome}
 use Rattle.std.proofs.lemmas.Bool.{cases_lt}
 use Rattle.std.proofs.lemmas.List.{append_assoc}
 use Rattle.std.proofs.lemmas.List.Elements.{Contains-append_cases}
@@ -9,6 +9,7 @@ use Rattle.dl_disk.specs.Files.{Files}
 use Rattle.dl_disk.specs.Passes.{present, since_split}
 use Rattle.dl_disk.specs.State.{DiskState, LeftSince}
 use Rattle.dl_history.specs.OwnEvents.{OwnEvent}
+use Rattle.dl_history.specs.PayloadParts.{is_opened, is_opening}
 use Rattle.dl_kinds.specs.declared.gid.Gid.{Gid}
 use Rattle.control_file.specs.Wants.{IsWant}
 use Rattle.control_file.specs.declared.want.Want.{Want}
@@ -267,6 +268,19 @@ own_grows_on start [] past gid = ([], refl)
 own_grows_on start (e ∷ events) past gid =
     grown_on (own_of start past gid) (own_of start (e ∷ past) gid) (own_of start (history_after (e ∷ past) events) gid)
     (own_grows start e past gid) (own_grows_on start events (e ∷ past) gid)
+
+opened_more : (b c : Bool) → c ≡ true → (b || c) ≡ true
+opened_more true c is = refl
+opened_more false c is = is
+
+opened_behind : (more was : List OwnEvent) → is_opened was ≡ true → is_opened (more ++ was) ≡ true
+opened_behind [] was is = is
+opened_behind (x ∷ more) was is = opened_more (is_opening x) (is_opened (more ++ was)) (opened_behind more was is)
+
+-- what is opened stays so
+pub opened_grown : (was own : List OwnEvent) → IsGrown was own → is_opened was ≡ true → is_opened own ≡ true
+opened_grown was own grown is =
+    subst (λ (xs : List OwnEvent). is_opened xs ≡ true) (sym grown.1) (opened_behind grown.0 was is)
 
 -- ---- between two histories
 

@@ -35,6 +35,7 @@ use Rattle.resume_core.specs.Wants.{files_in}
 use Rattle.stored_run.specs.RunFollows.{RunFollows}
 use Rattle.stored_run.specs.Stored.{AreFaultsWithin, AreWantsKept, IsStored, IsStoredWith, saved_listing}
 use Rattle.stored_run.specs.Views.{GoesOpened, kept_want}
+use Rattle.stored_run.proofs.Doing.{opened_grown, own_grows}
 
 -- ---- wants
 
@@ -99,6 +100,9 @@ wants_after laws start past e wants legal none kept =
       opened = λ gid is.
           let some = some_of (kept_want wants start past gid) (kept.opened gid (none gid is)) in
           ap is_some (kept_then laws start past e wants gid some.0 (kept.has gid some.0 some.1) some.1);
+      only = λ gid want is. opened_grown (own_of start past gid) (own_of start (e ∷ past) gid)
+          (own_grows start e past gid)
+          (kept.only gid want (kept_before laws start past e wants gid want kept.few is));
     }
 
 going_where : (b c : Bool) → (b ≡ false → c ≡ false) → c ≡ true → b ≡ true

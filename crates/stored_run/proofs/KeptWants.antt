@@ -14,7 +14,7 @@ use Rattle.machine_core.specs.Starts.{Download, RunStart}
 use Rattle.machine_core.specs.declared.events.Event.{Event}
 use Rattle.stored_run.specs.Views.{kept_want}
 
-none_some : {P : Type 0} {A : Type 0} (x : A) → None ≡ Some x → P
+pub none_some : {P : Type 0} {A : Type 0} (x : A) → None ≡ Some x → P
 none_some x is = absurd cc
 
 -- none of a download that wasn't added

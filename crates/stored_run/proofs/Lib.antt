@@ -38,3 +38,10 @@ pub mod EachSaved
 pub mod SavedRows
 pub mod CallSaves
 pub mod AfterTelling
+pub mod Openings
+pub mod OpenedKept
+pub mod OpenNext
+pub mod OpenParts
+pub mod Grants
+pub mod Between
+pub mod SealedPieces

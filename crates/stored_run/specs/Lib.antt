@@ -8,3 +8,5 @@ pub mod Settlings
 pub mod Deliveries
 pub mod Saves
 pub mod Beginnings
+pub mod Opening
+pub mod Granting

@@ -43,12 +43,14 @@ pub record IsStored (want : Want) (own : List OwnEvent) (disk : DiskState) : Typ
 
 -- ---- wants
 
--- a want for each download that is opened
+-- a want for each download that is opened, and for no other
 pub record AreWantsKept (start : RunStart) (past : List Event) (wants : List (Option Want)) : Type 0 where
   pub few : length wants ≤ length (replay_of start past).downloads
   pub has : (gid : Gid) (want : Want) → kept_want wants start past gid ≡ Some want → HasWant start past gid want
   pub sound : (gid : Gid) (want : Want) → kept_want wants start past gid ≡ Some want → IsWant want
   pub opened : (gid : Gid) → is_opened (own_of start past gid) ≡ true → is_some (kept_want wants start past gid) ≡ true
+  pub only : (gid : Gid) (want : Want) → kept_want wants start past gid ≡ Some want
+      → is_opened (own_of start past gid) ≡ true
 
 -- of the downloads that go on no two share a name
 abbrev pub NoneShareNames : RunStart → List Event → List (Option Want) → Type 0

@@ -49,8 +49,8 @@ fn status_then(statuses: &[Option<Status>], place: usize) -> Option<Status>
 }
 
 impl<D: Disk> StoredRun<D> {
-    // How many downloads were added.
-    fn count(&self) -> u32
+    /// How many downloads were added.
+    pub fn count(&self) -> u32
         ensures { result ≡ length (gids_of self.entry.now) }
     {
         for n in 0..MAX_DOWNLOADS as u32 {

@@ -137,7 +137,7 @@ impl<D: Disk> StoredRun<D> {
     }
 
     // Whether the pieces of a download have digests.
-    fn has_digests(&self, gid: Gid) -> bool
+    pub(crate) fn has_digests(&self, gid: Gid) -> bool
         requires { IsOpenedGid self.now.machine gid }
         ensures listed { result ≡ true → OfDownload self.entry.now gid
             (λ download. is_listed download.subject ≡ true) }

@@ -1,6 +1,7 @@
 """The cases of connections that take several requests, and of those that don't (RFC 9112 section 9.3)."""
 import os
 
+from lib.buffers import LARGE, with_buffers
 from lib.mirrors import Nginx, Site, head, reply, sends
 from lib.payloads import PIECE, THREE, all_asked
 from lib.recording import Recording
@@ -79,3 +80,14 @@ def _(room):
                 room.fetches(THREE)
                 os.remove(room.path("a"))
             want_connections(mirror, count)
+
+
+@case("buffers that are made once, for all pieces", "cc")
+def _(room):
+    payload = bytes(range(256)) * (5 * LARGE // 256)
+    with Site({"/a.bin": payload}) as site:
+        room.torrent(site.url(), payload, piece_length=LARGE)
+        # two of a fetch, and one for the piece
+        room.fetches(payload, shell=f"export LD_PRELOAD={with_buffers(room.folder, 3)}")
+        ended, _ = room.run("t.torrent", shell=f"export LD_PRELOAD={with_buffers(room.folder, 2)}")
+        want(ended == 40, f"it ended with {ended} for want of a third buffer")

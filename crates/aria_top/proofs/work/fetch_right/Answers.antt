@@ -3,6 +3,7 @@ use Rattle.std.proofs.lemmas.Result.{err_from_is_err_and}
 use Rattle.std.proofs.lemmas.Slice.Eq.{bytes_eq-Decides}
 use Rattle.sha1.specs.Sha1.{sha1}
 use Rattle.metainfo.specs.Info.{info_of}
+use Rattle.aria_top.proofs.Statuses.{known_failure}
 use Rattle.aria_top.proofs.Working.{piece_lost}
 use Rattle.aria_top.proofs.work.fetch_right.Goals as goal
 
@@ -22,3 +23,9 @@ returns-in_err-room-clause-ends g c told =
       gains = ends.gains;
       ends = piece_lost (info_of c.args.meta.now) c.args.piece ends.gained c.in_err-room.field-0.0 ends.ends;
     }
+
+pub returns-in_err-room-clause-known : goal.returns-in_err-room-clause-known
+returns-in_err-room-clause-known g c =
+    let p = err_from_is_err_and c.from_residual.result c.from_residual.ensures.1 in
+    let known = known_failure c.in_err-room.field-0.0 c.in_err-room.ensures.known in
+    rw (p.1, p.2) known

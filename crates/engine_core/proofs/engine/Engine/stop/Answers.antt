@@ -1,7 +1,7 @@
 use Rattle.std.proofs.Common.{length, refl, reverse, ap, ◌∙◌}
 use Rattle.machine_core.specs.MachineViews.{MachineView}
 use Rattle.engine_turns.specs.declared.operations.Operation.TheVariants as operation
-use Rattle.engine_core.proofs.Serving.{rates_since, takes_turn}
+use Rattle.engine_core.proofs.Taking.{engine_since, takes_turn}
 use Rattle.engine_core.proofs.engine.Engine.stop.Goals as goal
 
 pub invariant_of-self : goal.invariant_of-self
@@ -9,8 +9,8 @@ invariant_of-self g c =
     let a = c.args in
     let back = c.take_back.ensures in
     let from_is = c.len-from.ensures ∙ ap length (c.journal.ensures.events ∙ ap (λ (m : MachineView). reverse m.past) c.machine.ensures) in
-    rates_since g.D.Disk.faults (operation.Stop a.now) c.stop-said.result c.self.inside.state c.self.inside.state c.stop-said.new.self
-    c.take_back.new.self c.len-from.result refl c.stop-said.ensures from_is back.run back.limits back.pieces
+    engine_since g.D.Disk.faults (operation.Stop a.now) c.stop-said.result c.self.inside.state c.self.inside.state c.stop-said.new.self
+    c.take_back.new.self c.len-from.result refl c.stop-said.ensures from_is back.run back.limits back.pieces back.out c.self.invariant.out
 
 pub returns : goal.returns
 returns g c =

@@ -1,6 +1,5 @@
 use Rattle.std.proofs.Common.{◌≡◌, [], ◌<◌, ◌∙◌, refl, ap, arith}
 use Rattle.dl_kinds.specs.declared.runs.Run.{Run}
-use Rattle.fetch_session.proofs.KnownLosses.{test_known}
 use Rattle.fetch_session.proofs.Stepping.{fails_held, steps_over, fails_memory, same_fetch}
 use Rattle.fetch_session.proofs.fetch.Fetch.step.Goals as goal
 
@@ -32,7 +31,7 @@ returns-clause-reads g c = λ tells job before used handed is gains.
     (c.refill.ensures.fetch job used handed (same_fetch job used handed c.args.self.now _ (record { plan = refl; end_is = refl; ready = refl; chain = refl; held = refl; lost = refl }) is)) gains
 
 pub returns-in-Some-clause-known : goal.returns-in-Some-clause-known
-returns-in-Some-clause-known g c = test_known c.in-Some.loss (c.args.self.now.known c.in-Some.loss c.in-Some.is)
+returns-in-Some-clause-known g c = c.args.self.now.known c.in-Some.loss c.in-Some.is
 
 pub returns-clause-answered : goal.returns-clause-answered
 returns-clause-answered g c = λ tells job before used handed is gains.

@@ -8,11 +8,15 @@ use Rattle.machine_core.specs.declared.events.Event.{Event}
 use Rattle.machine_core.specs.declared.events.Event.TheVariants.{Ended}
 use Rattle.control_file.specs.Wants.{IsWant}
 use Rattle.control_file.specs.declared.want.Want.{Want}
+use Rattle.dl_disk.specs.Files.{IsSame}
 use Rattle.dl_words.specs.Counts.{Rose}
 use Rattle.machine_core.specs.OwnParts.{own_of}
 use Rattle.std.proofs.lemmas.Option.{same_Some}
-use Rattle.machine_core.specs.Reads.{IsPieceOfGid}
-use Rattle.resume_core.specs.Runs.{ReadsPiece}
+use Rattle.machine_core.specs.Reads.{IsPieceOfGid, lengths_of_gid}
+use Rattle.resume_core.specs.Runs.{ReadsPiece, len_of_piece}
+use Rattle.std.specs.Vec.{vec_len}
+use Rattle.stored_run.specs.Granting.{IsLongAsPiece}
+use Rattle.stored_run.proofs.Grants.{long_as_piece}
 use Rattle.stored_run.specs.Steps.{turn_from}
 use Rattle.stored_run.specs.Views.{IsGoing, kept_want_of}
 use Rattle.stored_run.specs.declared.run.StoredView.{StoredView}
@@ -186,3 +190,27 @@ returns-in-Ok-clause-read g c went told =
     → ReadsPiece want c.args.piece (d.state v.disk).seen items) c.self.view_is
     (λ want is. subst (λ (w : Want). ReadsPiece w c.args.piece (d.state c.self.inside.disk).seen items)
     (want_eq ∙ same_Some facts.want want (sym facts.kept ∙ is)) (c.in-Ok.ensures.read told))
+
+pub returns-in-Ok-clause-len : goal.returns-in-Ok-clause-len
+returns-in-Ok-clause-len g c went =
+    let m = c.self.inside.machine in
+    let going = subst (λ (v : StoredView _). IsGoing v c.args.gid) (sym c.self.view_is) c.requires.going in
+    let facts = going_facts m.start m.past c.self.inside.wants.items c.args.gid c.self.invariant.wants_are going in
+    let want_eq = want_is m.start m.past c.self.inside.wants.items c.args.gid facts c.place.result c.unwrap-place.result
+    c.unwrap-place.ensures c.place.ensures.first c.index.result.now c.as_ref.result c.unwrap-want.result c.index.ensures
+    c.as_ref.ensures.value c.unwrap-want.ensures in
+    let sound = c.self.invariant.wants_are.sound c.args.gid facts.want facts.kept in
+    let piece = subst (λ (v : StoredView _). IsPieceOfGid v.machine c.args.gid c.args.piece) (sym c.self.view_is)
+    c.requires.piece in
+    let items = c.read_piece.new.into.items in
+    subst (λ (v : StoredView _). IsLongAsPiece (lengths_of_gid v.machine c.args.gid) c.args.piece items) c.self.view_is
+    (long_as_piece m.start m.past c.args.gid facts.want c.args.piece (vec_len c.read_piece.new.into) items facts.has sound
+    (piece_of_want m.start m.past c.args.gid facts.want c.args.piece facts.has sound piece)
+    (c.in-Ok.ensures.len ∙ ap (λ (w : Want). len_of_piece w.plan c.args.piece) want_eq)
+    (let ok = c.read_piece.new.into.ok.0 in omega (arith, ok)))
+
+pub returns-in-Ok-clause-still : goal.returns-in-Ok-clause-still
+returns-in-Ok-clause-still g c went told =
+    let d = g.D.Disk in
+    subst (λ (v : StoredView _). IsSame (d.state v.disk).seen (d.state c.read_piece.new.disk).seen) c.self.view_is
+    (c.read_piece.ensures.looks told).stays.seen

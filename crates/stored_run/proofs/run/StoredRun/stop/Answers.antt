@@ -8,7 +8,7 @@ use Rattle.engine_turns.specs.declared.outcome.Outcome.TheVariants.{Starved}
 use Rattle.machine_core.specs.RunLegal.{is_stop}
 use Rattle.stored_run.specs.Saves.{AreSavable, AreStoredApart, SavesKeep}
 use Rattle.stored_run.specs.Steps.{DoesPart}
-use Rattle.stored_run.proofs.AfterTelling.{may_all, none_each, row_here, saved_each, stored_all}
+use Rattle.stored_run.proofs.AfterTelling.{goes_after, may_all, none_each, row_here, saved_each, stored_all}
 use Rattle.stored_run.proofs.CallSaves.{last_are, last_once, last_some, last_went_on}
 use Rattle.stored_run.proofs.EachSaved.{between_stop}
 use Rattle.stored_run.proofs.SavedRows.{saves_starved, stop_row}
@@ -108,3 +108,21 @@ returns-in-Err-clause-disk g c told =
     let came = c.tell_stop.ensures in
     none_each laws d.tells d.faults d.state v mid run (stop_events (list_any is_stop v.machine.past)) came
     (between_stop laws (list_any is_stop v.machine.past) v mid run.wants_are came) told
+
+pub returns-in-Ok-clause-on : goal.returns-in-Ok-clause-on
+returns-in-Ok-clause-on g c =
+    let d = g.D.Disk in
+    let v = c.args.self.now in
+    let mid = c.tell_stop.new.self in
+    let laws = c.runs_follow.ensures in
+    let run = c.tells_kept.ensures in
+    let came = c.tell_stop.ensures in
+    let between = between_stop laws (list_any is_stop v.machine.past) v mid run.wants_are came in
+    goes_after laws d.tells d.faults d.state v mid run (stop_events (list_any is_stop v.machine.past)) came between
+    c.save_all.new.self c.save_all.ensures.on
+
+pub returns-in-Err-clause-on : goal.returns-in-Err-clause-on
+returns-in-Err-clause-on g c =
+    let v = c.args.self.now in
+    (between_stop c.runs_follow.ensures (list_any is_stop v.machine.past) v c.tell_stop.new.self
+    c.tells_kept.ensures.wants_are c.tell_stop.ensures).on

@@ -1,9 +1,9 @@
 -- An operation that is performed is the next turn, and what is kept stands for all turns with it.
-use Rattle.std.proofs.Common.{◌≡◌, ◌≤◌, ℕ, Bool, true, false, Option, Some, None, List, [], ◌∷◌, ◌++◌, drop, length, map, reverse, refl, sym, ap, ◌∙◌, subst}
-use Rattle.std.specs.Prelude.{◌&&◌, ◌||◌, Contains, filter, max, not}
+use Rattle.std.proofs.Common.{◌≡◌, ◌≤◌, ℕ, Bool, true, false, List, [], ◌∷◌, ◌++◌, drop, length, map, reverse, refl, sym, ap, ◌∙◌, subst}
+use Rattle.std.specs.Prelude.{◌&&◌, ◌||◌, All, Contains, filter, max, not}
 use Rattle.std.specs.List.{list_any}
-use Rattle.std.proofs.lemmas.List.{reverse-append}
-use Rattle.std.proofs.lemmas.List.Elements.{filter_agree}
+use Rattle.std.proofs.lemmas.List.{length-reverse, reverse-append}
+use Rattle.std.proofs.lemmas.List.Elements.{All-weaker, filter_agree}
 use Rattle.machine_core.specs.Replays.{is_active_in}
 use Rattle.machine_core.specs.Starts.{Download, RunStart}
 use Rattle.machine_core.specs.declared.ends.End.TheVariants as end
@@ -21,8 +21,8 @@ use Rattle.engine_turns.specs.Told.{RunTurn, handed_by, handed_in, history_after
 use Rattle.engine_turns.specs.declared.operations.Operation.{Operation}
 use Rattle.engine_turns.specs.declared.operations.Said.{Said}
 use Rattle.engine_core.specs.Buckets.{HasRates, own_levels_on}
-use Rattle.engine_core.specs.Engines.{KeepsRates, StandsAfter, TakesTurn, past_of, standing_of, stands_for, start_of}
-use Rattle.engine_core.specs.Handing.{stays_handed}
+use Rattle.engine_core.specs.Engines.{IsEngineState, KeepsRates, StandsAfter, TakesTurn, past_of, standing_of, stands_for, start_of}
+use Rattle.engine_core.specs.Handing.{IsOut, IsUnsettled, stays_handed}
 use Rattle.engine_core.specs.Performing.{Performs}
 use Rattle.engine_core.specs.declared.state.EngineState.{EngineState}
 use Rattle.engine_core.proofs.Downloads.{downloads_grow, each_found}
@@ -208,3 +208,20 @@ module _ {D : Type 0} (faults : D → ℕ) (op : Operation) (said : Said) (old i
   rates_since =
       subst (λ r. HasRates r.machine.start r.machine.past new.limits) (sym run)
       (subst (λ l. HasRates (start_of mid) (past_of mid) l) (sym limits) done_since.rates)
+
+  -- .. and each piece that is out then awaits its finding
+  pub engine_since : ((before events : List Event) → past_of mid ≡ history_after before events → from ≡ length before
+      → All (IsUnsettled (start_of mid) before) mid.handed.pieces → All (IsOut (start_of mid) (past_of mid)) new.handed.pieces)
+      → All (IsOut (start_of old) (past_of old)) old.handed.pieces → IsEngineState new
+  engine_since back out =
+      let done = done_since in
+      let count : from ≡ length (past_of old) =
+      from_is ∙ (length-reverse (past_of inside) ∙ ap (λ (e : EngineState D). length (past_of e)) seen) in
+      record {
+        rates = rates_since;
+        out = subst (λ r. All (IsOut r.machine.start r.machine.past) new.handed.pieces) (sym run)
+            (back (past_of old) done.answers.events done.answers.grown count
+            (subst (λ (s : RunStart). All (IsUnsettled s (past_of old)) mid.handed.pieces) (sym done.answers.start)
+            (done.out (All-weaker (IsOut (start_of old) (past_of old)) (IsUnsettled (start_of old) (past_of old))
+            (λ h is. is.unsettled) old.handed.pieces out))));
+      }

@@ -1,0 +1,33 @@
+// Calls of the console.
+ghost use Rattle.engine_core.specs.Engines.{KeepsRates};
+ghost use Rattle.engine_core.specs.Performing.{Performs};
+ghost use Rattle.engine_turns.specs.declared.operations.Operation.TheVariants as operation;
+ghost use Rattle.machine_core.specs.LawfulCalls.{IsLawful};
+
+use crate::state::EngineState;
+use dl_disk::Disk;
+use dl_kinds::Moment;
+use engine_turns::Said;
+use machine_core::Call;
+
+impl<D: Disk> EngineState<D> {
+    // A call of a console session, or of the command line. It brings one download at most.
+    pub(crate) fn call(&mut self, session: u32, call: Call, now: Moment) -> Said
+        requires lawful { IsLawful call }
+        requires rates { KeepsRates self.old }
+        ensures { Performs (operation.Call session call now) self.old (D.faults self.old.run.disk)
+            self.new (D.faults self.new.run.disk) result }
+    {
+        if let Err(said) = self.begin(false, now) {
+            return said;
+        }
+        match self.limits.reserve(1) {
+            Ok(()) => {
+                let said = self.run.call(session, call);
+                self.follow_options();
+                said
+            }
+            Err(_) => Said::NoMemory,
+        }
+    }
+}

@@ -1,0 +1,8 @@
+use Rattle.stored_run.proofs.Grants.{claimed_kept}
+use Rattle.stored_run.proofs.run.StoredRun.claim.Goals as goal
+
+pub invariant_of-self : goal.invariant_of-self
+invariant_of-self g c =
+    let a = c.args in
+    claimed_kept c.runs_follow.ensures _ _ _ c.self.inside.machine c.claimed.new.self _ _ a.gid a.worker a.mirror a.run a.victim
+    c.claimed.result c.claimed.ensures.event c.claimed.ensures.same c.self.invariant

@@ -1,0 +1,82 @@
+use Rattle.std.proofs.Common.{⊎_elim, arith, refl, subst, sym}
+use Rattle.std.specs.Prelude.{IfSome}
+use Rattle.machine_core.specs.RunLegal.{MayFollow}
+use Rattle.machine_core.specs.declared.events.Event.TheVariants.{Ended}
+use Rattle.stored_run.specs.Opening.{IsRefusedSince, IsToResume, OpensOn, is_checked_of}
+use Rattle.stored_run.specs.declared.run.StoredView.{StoredView}
+use Rattle.stored_run.proofs.OpenNext.{refusal_count, refusal_may, refusal_since, rose_open}
+use Rattle.stored_run.proofs.Openings.{apart_opening, resumed_kept}
+use Rattle.stored_run.proofs.run.StoredRun.resume_want.Goals as goal
+
+pub invariant_of-self : goal.invariant_of-self
+invariant_of-self g c =
+    let d = g.D.Disk in
+    let u = c.self.inside in
+    let m = u.machine in
+    let a = c.args in
+    let is = subst (λ (v : StoredView _). IsToResume v.machine a.gid a.want.now) (sym c.self.view_is) c.requires in
+    resumed_kept c.runs_follow.ensures d.tells (d.faults u.disk) (d.faults c.resume.new.disk) (d.state u.disk)
+    (d.state c.resume.new.disk) m.start m.past u.wants.items u.now a.want.now c.resume.ensures.cause.later
+    (λ told. apart_opening m.start m.past u.wants.items m a.gid a.want.now refl refl c.self.invariant.wants_are is.has
+    is.before.opening.unopened is.apart)
+    (λ told. c.resume.ensures.besides told) c.self.invariant
+
+pub returns-clause-disk : goal.returns-clause-disk
+returns-clause-disk g c told =
+    let d = g.D.Disk in
+    let u = c.self.inside in
+    let a = c.args in
+    let new = d.state c.resume.new.disk in
+    subst (λ (v : StoredView _). OpensOn a.want.now (is_checked_of c.args.self.now a.gid) (d.state v.disk) new) c.self.view_is
+    (subst (λ b. OpensOn a.want.now b (d.state u.disk) new) c.is_checked-check.ensures
+    (record {
+      besides = c.resume.ensures.besides told;
+      sound = c.resume.ensures.sound told;
+      gives = c.resume.ensures.gives told;
+      pieces = c.resume.ensures.pieces told;
+      whole = c.resume.ensures.whole told;
+    }))
+
+pub returns-clause-listed : goal.returns-clause-listed
+returns-clause-listed g c =
+    ⊎_elim (λ ok. rw ok.result-is ok.in-Ok.ensures.listed) (λ bad. rw bad.result-is tt) c.match-resume.branch-raw
+
+pub returns-clause-may : goal.returns-clause-may
+returns-clause-may g c =
+    let d = g.D.Disk in
+    let u = c.self.inside in
+    let a = c.args in
+    let is = subst (λ (v : StoredView _). IsToResume v.machine a.gid a.want.now) (sym c.self.view_is) c.requires in
+    ⊎_elim (λ ok. rw ok.result-is tt)
+    (λ bad. rw bad.result-is
+    (subst
+    (λ (v : StoredView _). IfSome bad.end_of.result (λ how. MayFollow v.machine.start v.machine.past (Ended a.gid how)))
+    c.self.view_is
+    (refusal_may u.machine a.gid a.want.now is (d.faults u.disk) bad.faults-faults.result bad.in-Err.err bad.end_of.result
+    bad.end_of.ensures bad.in-Err.ensures.told
+    (rose_open (d.faults u.disk) (d.faults c.resume.new.disk) bad.faults-faults.result c.resume.result bad.in-Err.err
+    c.resume.ensures.cause bad.in-Err.is bad.faults-faults.ensures)
+    bad.faults-faults.type_inv c.self.invariant.counted)))
+    c.match-resume.branch-raw
+
+pub returns-clause-refused : goal.returns-clause-refused
+returns-clause-refused g c =
+    let d = g.D.Disk in
+    let u = c.self.inside in
+    ⊎_elim (λ ok. rw ok.result-is tt)
+    (λ bad. rw bad.result-is
+    (subst (λ (v : StoredView _). IfSome bad.end_of.result (IsRefusedSince (d.faults v.disk))) c.self.view_is
+    (refusal_since (d.faults u.disk) bad.faults-faults.result bad.in-Err.err bad.end_of.result bad.end_of.ensures
+    (rose_open (d.faults u.disk) (d.faults c.resume.new.disk) bad.faults-faults.result c.resume.result bad.in-Err.err
+    c.resume.ensures.cause bad.in-Err.is bad.faults-faults.ensures)
+    bad.faults-faults.type_inv)))
+    c.match-resume.branch-raw
+
+pub returns-clause-fault : goal.returns-clause-fault
+returns-clause-fault g c =
+    let d = g.D.Disk in
+    ⊎_elim (λ ok. rw ok.result-is tt)
+    (λ bad. rw bad.result-is
+    (refusal_count c.args.gid (d.faults c.resume.new.disk) bad.faults-faults.result bad.in-Err.err bad.end_of.result
+    bad.end_of.ensures (omega (arith, bad.faults-faults.ensures))))
+    c.match-resume.branch-raw

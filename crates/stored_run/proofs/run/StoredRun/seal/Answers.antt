@@ -1,0 +1,160 @@
+use Rattle.std.proofs.Common.{◌≤◌, ◌∙◌, List, [], ℕ, ap, arith, subst, sym}
+use Rattle.engine_turns.specs.Phases.{AfterDisk}
+use Rattle.engine_turns.specs.Standings.{AnswersUnlessStarved}
+use Rattle.engine_turns.specs.declared.operations.Said.{Said}
+use Rattle.engine_turns.specs.declared.operations.Said.TheVariants.{Done}
+use Rattle.engine_turns.specs.declared.outcome.Outcome.{Outcome}
+use Rattle.engine_turns.specs.declared.outcome.Outcome.TheVariants.{Went}
+use Rattle.machine_core.specs.MachineViews.{MachineView, mark_spare_in}
+use Rattle.stored_run.specs.Settlings.{ReadsPieceOf}
+use Rattle.stored_run.specs.Steps.{DoesPart}
+use Rattle.stored_run.proofs.Doing.{continues_on, continues_wider}
+use Rattle.stored_run.proofs.Endings.{going_facts}
+use Rattle.stored_run.proofs.Parts.{added_still, ends_part, ends_stored_part, grown_by}
+use Rattle.stored_run.proofs.SealedPieces.{going_still, not_void, reads_one, reads_still, same_settled, seal_grown, seal_row, settled_still, unread_seal, unread_unsettled, void_other}
+use Rattle.stored_run.proofs.run.StoredRun.seal.Goals as goal
+
+pub settle_if_same-requires-clause-going : goal.settle_if_same-requires-clause-going
+settle_if_same-requires-clause-going g c =
+    going_still c.args.self.now c.read_into.new.self (c.read_into.ensures.same c.in-Went.is) c.args.gid c.args.sealed.now.piece
+    c.requires.going
+
+pub settle_if_same-requires-clause-piece : goal.settle_if_same-requires-clause-piece
+settle_if_same-requires-clause-piece g c =
+    settled_still c.args.self.now c.read_into.new.self (c.read_into.ensures.same c.in-Went.is) c.args.gid
+    c.args.sealed.now.piece c.requires.piece
+
+pub settle_if_same-requires-clause-mark_room : goal.settle_if_same-requires-clause-mark_room
+settle_if_same-requires-clause-mark_room g c =
+    subst (λ (m : MachineView). 1 ≤ mark_spare_in m c.args.gid) (sym (c.read_into.ensures.same c.in-Went.is))
+    c.requires.mark_room
+
+pub settle_if_same-requires-clause-room : goal.settle_if_same-requires-clause-room
+settle_if_same-requires-clause-room g c =
+    let same = ap (λ (m : MachineView). m.spare) (c.read_into.ensures.same c.in-Went.is) in
+    omega (arith, same, c.requires.room)
+
+pub settle_if_same-requires-clause-read : goal.settle_if_same-requires-clause-read
+settle_if_same-requires-clause-read g c told =
+    let d = g.D.Disk in
+    let v = c.args.self.now in
+    let a = c.read_into.new.self in
+    let gid = c.args.gid in
+    let facts = going_facts v.machine.start v.machine.past v.wants.items gid c.tells_kept.ensures.wants_are c.requires.going in
+    let reads = subst
+    (λ (n : ℕ). ReadsPieceOf v gid n (d.state v.disk).seen c.read_into.new.into.items) c.piece.ensures
+    (c.read_into.ensures.read c.in-Went.is told) in
+    subst (λ (bytes : List ℕ). ReadsPieceOf a gid c.args.sealed.now.piece (d.state a.disk).seen bytes)
+    (sym c.deref.ensures.value)
+    (reads_still v a (c.read_into.ensures.same c.in-Went.is) gid c.args.sealed.now.piece 1 c.read_into.ensures.on
+    (d.state v.disk).seen (d.state a.disk).seen (c.read_into.ensures.still c.in-Went.is told) c.read_into.new.into.items
+    facts.want facts.kept reads)
+
+pub returns-in-Went-clause-row : goal.returns-in-Went-clause-row
+returns-in-Went-clause-row g c =
+    let d = g.D.Disk in
+    let v = c.args.self.now in
+    let a = c.read_into.new.self in
+    let p = c.requires.piece in
+    let first = subst (λ (o : Outcome). DoesPart (λ at. AfterDisk at c.args.gid []) v (d.faults v.disk) a (d.faults a.disk) o)
+    c.in-Went.is c.read_into.ensures.did in
+    let there = added_still (λ at. AfterDisk at c.args.gid []) v a 1 (d.faults v.disk) (d.faults a.disk) Went
+    c.read_into.ensures.on first c.runs_follow.ensures c.args.gid p.download p.added in
+    seal_row d.faults v a c.settle_if_same.new.self c.args.gid c.args.sealed.now c.deref.result.now p.download
+    c.settle_if_same.result p.added c.read_into.ensures.on first (c.settle_if_same.ensures.came p.download there)
+
+pub returns-in-Went-clause-on : goal.returns-in-Went-clause-on
+returns-in-Went-clause-on g c = continues_on 1 6 _ _ _ c.read_into.ensures.on c.settle_if_same.ensures.on
+
+pub returns-in-Went-clause-disk : goal.returns-in-Went-clause-disk
+returns-in-Went-clause-disk g c told =
+    let d = g.D.Disk in
+    let v = c.args.self.now in
+    let a = c.read_into.new.self in
+    let n = c.settle_if_same.new.self in
+    let gid = c.args.gid in
+    let p = c.requires.piece in
+    let first = subst (λ (o : Outcome). DoesPart (λ at. AfterDisk at gid []) v (d.faults v.disk) a (d.faults a.disk) o)
+    c.in-Went.is c.read_into.ensures.did in
+    let there = added_still (λ at. AfterDisk at gid []) v a 1 (d.faults v.disk) (d.faults a.disk) Went
+    c.read_into.ensures.on first c.runs_follow.ensures gid p.download p.added in
+    let second = seal_grown d.faults v a n gid c.args.sealed.now c.deref.result.now p.download c.settle_if_same.result p.added
+    c.read_into.ensures.on first (c.settle_if_same.ensures.came p.download there) 6 c.settle_if_same.ensures.on gid in
+    ends_part d.tells (d.faults a.disk) v a n gid 1 (d.state v.disk) (d.state a.disk) (d.state n.disk) c.read_into.ensures.on
+    (grown_by (λ at. AfterDisk at gid []) v a 1 (d.faults v.disk) (d.faults a.disk) Went c.read_into.ensures.on first gid)
+    second c.tells_kept-in-Went.ensures
+    (going_still v a (c.read_into.ensures.same c.in-Went.is) gid c.args.sealed.now.piece c.requires.going) told
+    (c.read_into.ensures.disk told) (c.settle_if_same.ensures.disk told)
+
+pub returns-in-Went-clause-settled : goal.returns-in-Went-clause-settled
+returns-in-Went-clause-settled g c told between =
+    let d = g.D.Disk in
+    let v = c.args.self.now in
+    let a = c.read_into.new.self in
+    let gid = c.args.gid in
+    let p = c.requires.piece in
+    let first = subst (λ (o : Outcome). DoesPart (λ at. AfterDisk at gid []) v (d.faults v.disk) a (d.faults a.disk) o)
+    c.in-Went.is c.read_into.ensures.did in
+    let there = added_still (λ at. AfterDisk at gid []) v a 1 (d.faults v.disk) (d.faults a.disk) Went
+    c.read_into.ensures.on first c.runs_follow.ensures gid p.download p.added in
+    let same = same_settled d.faults v a c.settle_if_same.new.self gid c.args.sealed.now c.deref.result.now p.download
+    c.settle_if_same.result p.added c.read_into.ensures.on first (c.settle_if_same.ensures.came p.download there) between in
+    let reads = subst
+    (λ (n : ℕ). ReadsPieceOf v gid n (d.state v.disk).seen c.read_into.new.into.items) c.piece.ensures
+    (c.read_into.ensures.read c.in-Went.is told) in
+    subst (λ (bytes : List ℕ). ReadsPieceOf v gid c.args.sealed.now.piece (d.state v.disk).seen bytes)
+    (sym c.deref.ensures.value ∙ same) reads
+
+pub returns-in-Went-clause-void : goal.returns-in-Went-clause-void
+returns-in-Went-clause-void g c told void other =
+    let d = g.D.Disk in
+    let v = c.args.self.now in
+    let a = c.read_into.new.self in
+    let gid = c.args.gid in
+    let p = c.requires.piece in
+    let facts = going_facts v.machine.start v.machine.past v.wants.items gid c.tells_kept.ensures.wants_are c.requires.going in
+    let first = subst (λ (o : Outcome). DoesPart (λ at. AfterDisk at gid []) v (d.faults v.disk) a (d.faults a.disk) o)
+    c.in-Went.is c.read_into.ensures.did in
+    let there = added_still (λ at. AfterDisk at gid []) v a 1 (d.faults v.disk) (d.faults a.disk) Went
+    c.read_into.ensures.on first c.runs_follow.ensures gid p.download p.added in
+    let reads = subst
+    (λ (n : ℕ). ReadsPieceOf v gid n (d.state v.disk).seen c.read_into.new.into.items) c.piece.ensures
+    (c.read_into.ensures.read c.in-Went.is told) in
+    void_other d.faults v a c.settle_if_same.new.self gid c.args.sealed.now c.deref.result.now p.download
+    c.settle_if_same.result p.added c.read_into.ensures.on first (c.settle_if_same.ensures.came p.download there) void
+    (c.deref.ensures.value
+    ∙ reads_one facts.want c.args.sealed.now.piece (d.state v.disk).seen c.read_into.new.into.items c.args.sealed.now.bytes
+    (reads facts.want facts.kept) (other facts.want facts.kept))
+
+pub returns-clause-row : goal.returns-clause-row
+returns-clause-row g c =
+    let d = g.D.Disk in
+    let v = c.args.self.now in
+    let a = c.read_into.new.self in
+    let p = c.requires.piece in
+    unread_seal v a c.args.gid c.args.sealed.now (d.faults v.disk) (d.faults a.disk) p.download c.read_into.result
+    c.done_unless_starved.result p.added c.in_default.not-Went c.done_unless_starved.ensures c.read_into.ensures.did
+
+pub returns-clause-on : goal.returns-clause-on
+returns-clause-on g c =
+    continues_wider 1 7 c.args.self.now c.read_into.new.self (omega arith) c.read_into.ensures.on
+
+pub returns-clause-disk : goal.returns-clause-disk
+returns-clause-disk g c told =
+    let d = g.D.Disk in
+    let v = c.args.self.now in
+    let a = c.read_into.new.self in
+    ends_stored_part v a c.args.gid (d.state v.disk) (d.state a.disk) (c.read_into.ensures.disk told)
+
+pub returns-clause-settled : goal.returns-clause-settled
+returns-clause-settled g c told between =
+    let d = g.D.Disk in
+    let v = c.args.self.now in
+    let a = c.read_into.new.self in
+    unread_unsettled v a c.args.gid (d.faults v.disk) (d.faults a.disk) c.args.sealed.now.piece c.read_into.result
+    c.in_default.not-Went c.read_into.ensures.did between
+
+pub returns-clause-void : goal.returns-clause-void
+returns-clause-void g c told void reads =
+    not_void c.read_into.result
+    (subst (λ (x : Said). AnswersUnlessStarved Done c.read_into.result x) void c.done_unless_starved.ensures)
