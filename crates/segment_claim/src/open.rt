@@ -79,6 +79,21 @@ pub fn open_runs(plan: &Plan, landed: &BitRow, closed: &[u128], claim: &Claim, r
     runs
 }
 
+// Whether a block is open in a claim.
+fn is_underway(plan: &Plan, landed: &BitRow, closed: &[u128], claim: &Claim) -> bool
+    requires row { length landed.now ≡ blocks_of plan.now.total plan.now.piece_len }
+    requires pieces { length closed.now ≡ pieces_of plan.now.total plan.now.piece_len }
+    requires claim { IsWithinBlocks (blocks_of plan.now.total plan.now.piece_len) claim.now }
+    ensures { result ≡ is_underway plan.now.piece_len landed.now closed.now claim.now }
+{
+    // Claims land in order, so the last block mostly is. Else one is looked for among those before it.
+    let last = claim.run.first + claim.run.count - 1;
+    if is_open(plan, landed, closed, claim, last) {
+        return true;
+    }
+    first_open(plan, landed, closed, claim).is_some()
+}
+
 /// Takes out the claims in which no block is open.
 pub fn sweep(plan: &Plan, landed: &BitRow, closed: &[u128], standing: &mut Vec<Claim>)
     requires row { length landed.now ≡ blocks_of plan.now.total plan.now.piece_len }
@@ -92,7 +107,7 @@ pub fn sweep(plan: &Plan, landed: &BitRow, closed: &[u128], standing: &mut Vec<C
     let mut kept = 0;
     for at in 0..standing.len() {
         let claim = standing[at];
-        if first_open(plan, landed, closed, &claim).is_some() {
+        if is_underway(plan, landed, closed, &claim) {
             standing[kept] = claim;
             kept += 1;
         }

@@ -1,4 +1,4 @@
-use Rattle.std.proofs.Common.{◌≡◌, ◌<◌, ◌≤◌, ◌+◌, ◌-◌, length, refl, sym, ◌∙◌, arith}
+use Rattle.std.proofs.Common.{◌≡◌, ◌<◌, ◌≤◌, ◌+◌, length, refl, sym, ◌∙◌, arith}
 use Rattle.segment_claim.specs.Open.{is_open_in}
 use Rattle.segment_claim.proofs.Finding.{find_here, find_later, find_none}
 use Rattle.segment_claim.proofs.Shut.{skip_landed}
