@@ -1,0 +1,49 @@
+-- A head has a field for every three bytes at most.
+use Rattle.std.proofs.Common.{◌≡◌, ℕ, suc, ◌≤◌, ◌+◌, ◌*◌, ◌/◌, List, [], ◌∷◌, ◌++◌, length, arith, ap}
+use Rattle.std.specs.List.{flat_map}
+use Rattle.std.specs.Prelude.{All}
+use Rattle.std.proofs.lemmas.List.{length-append}
+use Rattle.std.proofs.lemmas.List.Elements.{All-head, All-tail}
+use Rattle.httparse.specs.Ascii.{colon}
+use Rattle.httparse.specs.Grammar.{Field, IsField, LineEnd, lf, crlf, print_field, print_end, print_section, RequestHead, print_request, print_blank, print_version}
+use Rattle.httparse.specs.Spans.{RequestExceeds}
+
+pub end_len : (e : LineEnd) → 1 ≤ length (print_end e)
+end_len crlf = omega arith
+end_len lf = omega arith
+
+-- a name, the colon and the line's end
+field_len : (f : Field) → IsField f → 3 ≤ length (print_field f)
+field_len f is =
+    let whole = length-append (f.name ++ colon ∷ f.raw) (print_end f.end) in
+    let front = length-append f.name (colon ∷ f.raw) in
+    let end = end_len f.end in
+    let goal : 3 ≤ length (f.name ++ colon ∷ f.raw ++ print_end f.end) = omega (arith, whole, front, is.name.0, end) in
+    goal
+
+fields_len : (fs : List Field) → All IsField fs → 3 * length fs ≤ length (flat_map print_field fs)
+fields_len [] are = omega arith
+fields_len (f ∷ fs) are =
+    let whole : length (flat_map print_field (f ∷ fs)) ≡ length (print_field f) + length (flat_map print_field fs) = length-append (print_field f) (flat_map print_field fs) in
+    let others = fields_len fs (All-tail IsField f fs are) in
+    let one = field_len f (All-head IsField f fs are) in
+    let goal : 3 * suc (length fs) ≤ length (flat_map print_field (f ∷ fs)) = omega (arith, whole, others, one) in
+    goal
+
+-- beside the fields there are the ends of the first line and of the last
+head_len : (h : RequestHead) → All IsField h.fields → 3 * length h.fields + 2 ≤ length (print_request h)
+unfolding print_request
+head_len h are =
+    let line = print_blank h.blank ++ h.method ++ 32 ∷ h.target ++ 32 ∷ print_version h.minor in
+    let whole = length-append (line ++ print_end h.line_end) (print_section h.fields h.last) in
+    let first = length-append line (print_end h.line_end) in
+    let section = length-append (flat_map print_field h.fields) (print_end h.last) in
+    let goal : 3 * length h.fields + 2 ≤ length (line ++ print_end h.line_end ++ print_section h.fields h.last) =
+    omega (arith, whole, first, section, fields_len h.fields are, end_len h.line_end, end_len h.last) in
+    goal
+
+-- with a third as many places as bytes there is always room
+pub enough : (buf : List ℕ) (room : ℕ) → length buf / 3 ≤ room → RequestExceeds room buf → ⊥
+enough buf room large (front, rest, is, h, reads, over) =
+    let whole : length (front ++ print_end lf) ≡ length (print_request h ++ []) = ap length reads.1 in
+    absurd (omega (arith, large, over, whole, head_len h reads.0.fields, length-append front (print_end lf), length-append (print_request h) [], ap length is, length-append front rest))
