@@ -1,0 +1,3 @@
+mod Giving
+mod Lists
+mod Newest

@@ -1,0 +1,3 @@
+pub mod DoorLaws
+pub mod Doors
+pub mod MemDoors
