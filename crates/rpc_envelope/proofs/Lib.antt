@@ -1,0 +1,4 @@
+mod Lists
+mod Plain
+mod Reading
+mod Walks

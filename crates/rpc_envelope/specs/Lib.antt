@@ -1,0 +1,5 @@
+pub mod Answers
+pub mod Asks
+pub mod Faults
+pub mod Outcomes
+pub mod Turns
