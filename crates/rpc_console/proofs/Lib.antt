@@ -1,0 +1,4 @@
+mod Comparing
+mod GidKeys
+mod OptionLemmas
+mod Values

@@ -1,0 +1,9 @@
+pub mod Admissions
+pub mod Askings
+pub mod Changes
+pub mod Laws
+pub mod Methods
+pub mod Names
+pub mod Options
+pub mod Params
+pub mod Tokens
