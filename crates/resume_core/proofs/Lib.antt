@@ -8,6 +8,7 @@ pub mod Moved
 pub mod OpenedRows
 pub mod Openings
 pub mod Opens
+pub mod OverWhole
 pub mod Partial
 pub mod Past
 pub mod PieceBytes

@@ -329,7 +329,7 @@ module _ (want : Want) where
     pub saved_payload : SamePayload want a b
     saved_payload = ⊎_elim (λ same. same.files) (λ saved. saved.files) performs.seen.files
 
-    gives_opened : (image : Files) → IsSaved want (control_bytes Big control) a.seen image
+    pub gives_opened : (image : Files) → IsSaved want (control_bytes Big control) a.seen image
         → GivesOpened want opened image
     gives_opened image saved =
         let just = gives_just back want control a.seen image is lists.listing has saved in record {

@@ -15,15 +15,16 @@ use Rattle.resume_core.specs.Found.{Found, Absent, found}
 use Rattle.resume_core.specs.Openings.{KeepsBesides, KeepsSound, KeepsGiven, KeepsPieces, GivesMoreOrOpened, HasControl, LacksControl, MatchesOpened, MatchesPiece, OpensJust, LooksPast, is_compared}
 use Rattle.resume_core.specs.Resume.{Sound, ResumesPiece, ResumesBlock, PieceResumed, BlockResumed}
 use Rattle.resume_core.specs.Rows.{IsSurvey, IsOurControl, StoodOrWhole, hashes}
+use Rattle.resume_core.specs.States.{KeepsFor}
 use Rattle.resume_core.specs.Steps.{SameBesides}
 use Rattle.control_file.specs.Wants.{IsWant, IsListedWant}
 use Rattle.resume_core.specs.Wants.{control_name, files_in}
+use Rattle.resume_core.specs.declared.refusing.OpenErr.{OpenErr}
 use Rattle.resume_core.specs.declared.surveying.Survey.{Survey}
-use Rattle.resume_core.proofs.Filed.{files_kept}
 use Rattle.resume_core.proofs.Fitted.{files_whole}
 use Rattle.resume_core.proofs.Openings.{besides_same, besides_on, sound_same_step, sound_on, given_same_step, matches_same, given_after}
+use Rattle.resume_core.proofs.OverWhole.{for_same, opens_for, same_for}
 use Rattle.resume_core.proofs.Past.{past_on, past_fewer}
-use Rattle.resume_core.proofs.Same.{give_same}
 
 -- ---- what was looked up
 
@@ -47,28 +48,21 @@ module _ (want : Want) (a b : DiskState) (looks : LooksPast NoFile a b) where
   pub looked_given : KeepsGiven want a b
   looked_given = given_same_step want a b looks.stays.seen looks.passes
 
+  pub looked_for : KeepsFor want a b
+  looked_for = for_same want a b looks.stays.seen looks.passes
+
+-- nothing is opened that is refused
+pub no_reason : {P : Type 0} (reason : Option OpenErr) → IsSome reason → reason ≡ None → P
+no_reason None some none = absurd (false≢true some)
+no_reason (Some err) some none = absurd cc
+
 pub given_pieces : (want : Want) (a b : DiskState) → KeepsGiven want a b → KeepsPieces want a b
 given_pieces want a b given image left =
     let most = given image left in record { before = most.before; left = most.left; pieces = most.pieces }
 
 pub opens_same : (want : Want) (compared : Bool) (x y : Files) (opened : Opened) → IsSame x y
     → OpensJust compared want x opened → OpensJust compared want y opened
-opens_same want true x y opened same opens = record {
-  pieces = λ piece. rw (files_kept want x y same) (opens.pieces piece);
-  blocks = λ block. rw (files_kept want x y same) (opens.blocks block);
-}
-opens_same want false x y opened same opens =
-    let give = give_same want x y (record { control = same (control_name want); files = files_kept want x y same })
-    in record {
-      pieces = λ piece. (
-        λ set. (give.pieces piece).1 ((opens.pieces piece).0 set),
-        λ gives. (opens.pieces piece).1 ((give.pieces piece).0 gives),
-      );
-      blocks = λ block. (
-        λ set. (give.blocks block).1 ((opens.blocks block).0 set),
-        λ gives. (opens.blocks block).1 ((give.blocks block).0 gives),
-      );
-    }
+opens_same want compared x y opened same = opens_for want x y (same_for want x y same) compared opened
 
 -- ---- the control file that stood
 

@@ -16,8 +16,8 @@ use Rattle.control_file.specs.declared.want.Want.{Want}
 use Rattle.control_file.specs.declared.want.Opened.{Opened}
 use Rattle.resume_core.specs.Resume.{ResumesPiece, ResumesBlock, ReachesPiece, HasDigest, Agrees, GivesAtLeast, piece_payload}
 use Rattle.resume_core.specs.Runs.{GiveAtLeast}
-use Rattle.resume_core.specs.States.{StaysSound}
-use Rattle.resume_core.specs.Steps.{SameBesides, IsSaved}
+use Rattle.resume_core.specs.States.{SamePayload, StaysSound}
+use Rattle.resume_core.specs.Steps.{SameBesides, SameFor, IsSaved}
 use Rattle.resume_core.specs.Tables.{ListsJust}
 use Rattle.control_file.specs.Wants.{IsListedWant}
 use Rattle.resume_core.specs.Wants.{control_name, files_in}
@@ -129,6 +129,30 @@ LacksControl want image = image (control_name want) ≡ None
 
 abbrev pub HaveControl : Want → (Files → Type 0) → Type 0
 HaveControl want images = (image : Files) → images image → HasControl want image
+
+-- an image from before the calls has the want's files as this one has them
+pub record ComesOfBefore (want : Want) (old : DiskState) (image : Files) : Type 0 where
+  pub before : Files
+  pub left : old.may_leave before
+  pub same : SameFor want before image
+
+-- a control file stands beside the payload that the disk read, and gives each piece that the disk's own files gave
+pub record GivesSeen (compared : Bool) (want : Want) (seen image : Files) : Type 0 where
+  pub control : HasControl want image
+  pub files : files_in want image ≡ files_in want seen
+  pub pieces : (piece : ℕ) → OpensPiece compared want seen piece → ResumesPiece want image piece
+
+-- What an opening leaves of whole files: the payload reads as it did, and each image since has the want's files as one
+-- before had them, or a control file that gives what was opened.
+pub record OpensWhole (compared : Bool) (want : Want) (old new : DiskState) : Type 0 where
+  pub payload : SamePayload want old new
+  pub images : (image : Files) → LeftSince new old.moment image
+      → ComesOfBefore want old image ⊎ GivesSeen compared want old.seen image
+
+-- .. where just what those files give is opened
+abbrev pub OpensWholeJust : Want → Opened → DiskState → DiskState → Type 0
+OpensWholeJust want opened old new =
+    (compared : Bool) → OpensJust compared want old.seen opened → OpensWhole compared want old new
 
 -- the calls from old to new changed nothing, and read none of these files
 pub record LooksPast (passed : List ℕ → Type 0) (old new : DiskState) : Type 0 where

@@ -1,18 +1,23 @@
 -- What the calls of the store do to a disk, from the state before a call to the state after it.
 use Rattle.std.specs.Prelude.{◌≡◌}
 use Rattle.dl_disk.specs.Files.{Follows}
-use Rattle.dl_disk.specs.Passes.{Performs}
+use Rattle.dl_disk.specs.Passes.{Passes, Performs}
 use Rattle.dl_disk.specs.State.{DiskState, LeftSince}
 use Rattle.control_file.specs.declared.want.Want.{Want}
 use Rattle.piece_table.specs.Progress.{Progress}
 use Rattle.resume_core.specs.Resume.{AreSound}
-use Rattle.resume_core.specs.Steps.{SameBut, Finishes}
+use Rattle.resume_core.specs.Steps.{SameBut, SameFor, Finishes}
 use Rattle.resume_core.specs.Tables.{SavesTable, GiveOldOrTable}
 use Rattle.resume_core.specs.Wants.{temporary_name, files_in}
 
 -- the payload reads as before
 abbrev pub SamePayload : Want → DiskState → DiskState → Type 0
 SamePayload want old new = files_in want new.seen ≡ files_in want old.seen
+
+-- the want's files are the same, in what is read and at each moment in what a crash may leave
+pub record KeepsFor (want : Want) (old new : DiskState) : Type 0 where
+  pub seen : SameFor want old.seen new.seen
+  pub passes : Passes (SameFor want) old new
 
 -- where each image was sound and agreed with what the disk read, each image since is and does
 abbrev pub StaysSound : Want → DiskState → DiskState → Type 0

@@ -5,9 +5,9 @@ ghost use Rattle.dl_disk.specs.Calls.{ReadsNothing};
 ghost use Rattle.payload_files.specs.Changes.{Stretches};
 ghost use Rattle.payload_files.specs.Names.{HasFolders, KeepsFolders};
 ghost use Rattle.payload_files.specs.Payload.{AreResized, HasFiles};
-ghost use Rattle.resume_core.specs.Openings.{AreOpenedIn, AreOpenedRows, FitsPayload, GivesMoreOrOpened, HasControl, HaveControl, KeepsBesides, KeepsGiven, KeepsSound, MatchesOpened};
+ghost use Rattle.resume_core.specs.Openings.{AreOpenedIn, AreOpenedRows, FitsPayload, GivesMoreOrOpened, HasControl, HaveControl, KeepsBesides, KeepsGiven, KeepsSound, MatchesOpened, OpensWholeJust};
 ghost use Rattle.resume_core.specs.Resume.{AreSound};
-ghost use Rattle.resume_core.specs.States.{SamePayload};
+ghost use Rattle.resume_core.specs.States.{KeepsFor, SamePayload};
 ghost use Rattle.resume_core.specs.Rows.{IsSurvey, StoodOrWhole};
 ghost use Rattle.control_file.specs.Wants.{IsWant};
 
@@ -90,6 +90,9 @@ fn fit_payload<D: Disk>(
     ensures sound { IsTrue D.tells → KeepsSound want.now (D.state disk.old) (D.state disk.new) }
     ensures gives { IsTrue D.tells → StoodOrWhole want.now survey.now
         → KeepsGiven want.now (D.state disk.old) (D.state disk.new) }
+    ensures over_whole { IsTrue D.tells
+        → HasFiles want.now.dir want.now.layout (D.state disk.old).seen
+        → KeepsFor want.now (D.state disk.old) (D.state disk.new) }
     ensures reads { IsTrue D.tells → ReadsNothing (D.state disk.old) (D.state disk.new) }
     ensures folders { IsTrue D.tells → (D.state disk.new).folders ≡ (D.state disk.old).folders }
     ensures cause { HasCause (D.faults disk.old) (D.faults disk.new) result }
@@ -124,6 +127,8 @@ fn put_opened<D: Disk>(
         → AreSound want.now (D.state disk.new).seen (D.state disk.new).may_leave) }
     ensures gives { IsTrue D.tells
         → GivesMoreOrOpened want.now opened.now (D.state disk.old) (D.state disk.new) }
+    ensures over_whole { IsTrue D.tells
+        → OpensWholeJust want.now opened.now (D.state disk.old) (D.state disk.new) }
     ensures reads { IsTrue D.tells → ReadsNothing (D.state disk.old) (D.state disk.new) }
     ensures folders { IsTrue D.tells → (D.state disk.new).folders ≡ (D.state disk.old).folders }
     ensures cause { HasCause (D.faults disk.old) (D.faults disk.new) result }
@@ -158,6 +163,9 @@ fn fit_and_put<D: Disk>(
         → AreSound want.now (D.state disk.new).seen (D.state disk.new).may_leave) }
     ensures gives { IsTrue D.tells → StoodOrWhole want.now survey.now
         → GivesMoreOrOpened want.now opened.now (D.state disk.old) (D.state disk.new) }
+    ensures over_whole { IsTrue D.tells
+        → HasFiles want.now.dir want.now.layout (D.state disk.old).seen
+        → OpensWholeJust want.now opened.now (D.state disk.old) (D.state disk.new) }
     ensures reads { IsTrue D.tells → ReadsNothing (D.state disk.old) (D.state disk.new) }
     ensures folders { IsTrue D.tells → (D.state disk.new).folders ≡ (D.state disk.old).folders }
     ensures cause { HasCause (D.faults disk.old) (D.faults disk.new) result }
@@ -191,6 +199,9 @@ pub(crate) fn write_opened<D: Disk>(
         → AreSound want.now (D.state disk.new).seen (D.state disk.new).may_leave) }
     ensures gives { IsTrue D.tells → StoodOrWhole want.now survey.now
         → GivesMoreOrOpened want.now opened.now (D.state disk.old) (D.state disk.new) }
+    ensures over_whole { IsTrue D.tells
+        → HasFiles want.now.dir want.now.layout (D.state disk.old).seen
+        → OpensWholeJust want.now opened.now (D.state disk.old) (D.state disk.new) }
     ensures reads { IsTrue D.tells → ReadsNothing (D.state disk.old) (D.state disk.new) }
     ensures folders { OnOk result (IsTrue D.tells
         → HasFolders want.now.dir want.now.layout (D.state disk.new).folders) }

@@ -1,12 +1,12 @@
 // A download is opened: what is durable of it is found again.
-ghost use Rattle.std.specs.Prelude.{◌≡◌, false, IsTrue, IfErr, IfOk, OnOk};
+ghost use Rattle.std.specs.Prelude.{◌≡◌, false, IsSome, IsTrue, IfErr, IfOk, OnOk};
 ghost use Rattle.dl_disk.specs.Calls.{Stays};
 ghost use Rattle.payload_files.specs.Names.{HasFolders, KeepsFolders};
 ghost use Rattle.payload_files.specs.Payload.{HasFiles};
-ghost use Rattle.resume_core.specs.Openings.{AreOpenedIn, AreOpenedRows, FitsPayload, HasControl, HasOpenCause, IsNoControl, KeepsBesides, KeepsGiven, KeepsPieces, LacksControl, OpensJust, ReadsNoPayload, ReadsOnlyOwn, is_compared};
-ghost use Rattle.resume_core.specs.Refusals.{IsRefusal, RefusesJust, TellsWant};
+ghost use Rattle.resume_core.specs.Openings.{AreOpenedIn, AreOpenedRows, FitsPayload, HasControl, HasOpenCause, IsNoControl, KeepsBesides, KeepsGiven, KeepsPieces, LacksControl, OpensJust, OpensWhole, ReadsNoPayload, ReadsOnlyOwn, is_compared};
+ghost use Rattle.resume_core.specs.Refusals.{IsRefusal, RefusesJust, TellsWant, open_refusal};
 ghost use Rattle.resume_core.specs.Resume.{AreSound};
-ghost use Rattle.resume_core.specs.States.{StaysSound};
+ghost use Rattle.resume_core.specs.States.{KeepsFor, StaysSound};
 ghost use Rattle.control_file.specs.Wants.{IsWant};
 
 use crate::opened::opened_of;
@@ -32,6 +32,9 @@ pub fn resume<D: Disk>(
     ensures refused { IfErr result (λ err. IsTrue D.tells → IsRefusal err
         → Stays (D.state disk.old) (D.state disk.new)) }
     ensures told { IfErr result (TellsWant want.now) }
+    // Where there is a reason, the files of each want stay, also where the disk fails or memory runs out.
+    ensures refusable { IsTrue D.tells → IsSome (open_refusal want.now (D.state disk.old).seen)
+        → (each : Want) → KeepsFor each (D.state disk.old) (D.state disk.new) }
 
     // It is opened with what the disk's own files give, or with the pieces that match.
     ensures rows { IfOk result (AreOpenedRows want.now) }
@@ -57,6 +60,11 @@ pub fn resume<D: Disk>(
     ensures whole { IsTrue D.tells → LacksControl want.now (D.state disk.old).seen
         → HasFiles want.now.dir want.now.layout (D.state disk.old).seen
         → KeepsGiven want.now (D.state disk.old) (D.state disk.new) }
+
+    // Over whole files an image has the want's files as one had them before, or a control file that gives what was found.
+    ensures over_whole { IsTrue D.tells
+        → HasFiles want.now.dir want.now.layout (D.state disk.old).seen → OpensWhole
+        (is_compared want.now check) want.now (D.state disk.old) (D.state disk.new) }
 
     // Where a control file stands and no piece is compared, no file of the payload is read.
     ensures unread { IsTrue D.tells → HasControl want.now (D.state disk.old).seen

@@ -1,6 +1,7 @@
 use Rattle.std.proofs.lemmas.Result.{on_ok_weaker}
 use Rattle.resume_core.proofs.Fitted.{fits_to}
 use Rattle.resume_core.proofs.Openings.{besides_on, sound_on, given_or, given_or_on, matches_on}
+use Rattle.resume_core.proofs.OverWhole.{just_kept, just_on}
 use Rattle.resume_core.proofs.opening.fit_and_put.Goals as goal
 
 pub returns-in_err-fit_payload-clause-gives : goal.returns-in_err-fit_payload-clause-gives
@@ -49,3 +50,16 @@ returns-clause-gives g c told either =
     given_or_on c.args.want.now c.args.opened.now (d.state c.args.disk.now) (d.state c.fit_payload.new.disk)
     (d.state c.put_opened.new.disk) (c.fit_payload.ensures.besides told) (c.put_opened.ensures.besides told)
     (c.fit_payload.ensures.gives told either) (c.put_opened.ensures.gives told)
+
+pub returns-in_err-fit_payload-clause-over_whole : goal.returns-in_err-fit_payload-clause-over_whole
+returns-in_err-fit_payload-clause-over_whole g c told has =
+    let d = g.D.Disk in
+    just_kept c.args.want.now c.args.opened.now (d.state c.args.disk.now) (d.state c.fit_payload.new.disk)
+    (c.fit_payload.ensures.over_whole told has)
+
+pub returns-clause-over_whole : goal.returns-clause-over_whole
+returns-clause-over_whole g c told has =
+    let d = g.D.Disk in
+    just_on c.args.want.now c.args.opened.now (d.state c.args.disk.now) (d.state c.fit_payload.new.disk)
+    (d.state c.put_opened.new.disk) (c.fit_payload.ensures.over_whole told has) (c.put_opened.ensures.besides told)
+    (c.put_opened.ensures.over_whole told)

@@ -1,7 +1,8 @@
 use Rattle.std.proofs.Common.{◌∙◌, ⊎_elim, sym}
 use Rattle.std.proofs.lemmas.Bool.{false≢true}
-use Rattle.resume_core.proofs.Fitted.{whole_files, fits_as_is}
+use Rattle.resume_core.proofs.Fitted.{files_whole, whole_files, fits_as_is}
 use Rattle.resume_core.proofs.Openings.{sound_none, given_none}
+use Rattle.resume_core.proofs.OverWhole.{for_none}
 use Rattle.resume_core.proofs.opening.fit_payload.Goals as goal
 
 pub returns-then-are_whole-clause-files : goal.returns-then-are_whole-clause-files
@@ -26,3 +27,12 @@ returns-clause-gives g c told either = ⊎_elim
     (λ stood. c.hold_and_fit.ensures.gives told (c.is_some.ensures ∙ stood))
     (λ whole. absurd (false≢true (sym c.if-are_whole.false ∙ c.are_whole.ensures.1 (c.deref.ensures.value ∙ whole))))
     either
+
+pub returns-then-are_whole-clause-over_whole : goal.returns-then-are_whole-clause-over_whole
+returns-then-are_whole-clause-over_whole g c told has = for_none c.args.want.now (g.D.Disk.state c.args.disk.now)
+
+pub returns-clause-over_whole : goal.returns-clause-over_whole
+returns-clause-over_whole g c told has =
+    let seen = (g.D.Disk.state c.args.disk.now).seen in
+    absurd (false≢true (sym c.if-are_whole.false ∙ c.are_whole.ensures.1
+    (c.deref.ensures.value ∙ ((c.requires.survey told).lens ∙ files_whole c.args.want.now seen has))))

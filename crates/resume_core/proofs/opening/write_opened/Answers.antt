@@ -1,8 +1,9 @@
 use Rattle.std.proofs.Common.{sym}
 use Rattle.std.proofs.lemmas.Result.{on_ok_weaker}
 use Rattle.resume_core.proofs.Filed.{files_kept}
-use Rattle.resume_core.proofs.Fitted.{fits_from}
+use Rattle.resume_core.proofs.Fitted.{fits_from, has_same}
 use Rattle.resume_core.proofs.Openings.{besides_same, besides_on, sound_same_step, sound_on, given_same_step, given_or, given_or_on, matches_same}
+use Rattle.resume_core.proofs.OverWhole.{for_same, just_kept, just_on}
 use Rattle.resume_core.proofs.Surveys.{survey_same}
 use Rattle.resume_core.proofs.opening.write_opened.Goals as goal
 
@@ -88,3 +89,21 @@ returns-clause-folders g c =
 pub returns-clause-stay : goal.returns-clause-stay
 returns-clause-stay g c told folder has =
     rw (c.fit_and_put.ensures.folders told) (c.make_folders.ensures.stay told folder has)
+
+pub returns-in_err-make_folders-clause-over_whole : goal.returns-in_err-make_folders-clause-over_whole
+returns-in_err-make_folders-clause-over_whole g c told has =
+    let d = g.D.Disk in
+    let made = c.make_folders.ensures.performs told in
+    just_kept c.args.want.now c.args.opened.now (d.state c.args.disk.now) (d.state c.make_folders.new.disk)
+    (for_same c.args.want.now (d.state c.args.disk.now) (d.state c.make_folders.new.disk) made.seen made.passes)
+
+pub returns-clause-over_whole : goal.returns-clause-over_whole
+returns-clause-over_whole g c told has =
+    let d = g.D.Disk in
+    let made = c.make_folders.ensures.performs told in
+    let keeps = for_same c.args.want.now (d.state c.args.disk.now) (d.state c.make_folders.new.disk) made.seen
+    made.passes in
+    just_on c.args.want.now c.args.opened.now (d.state c.args.disk.now) (d.state c.make_folders.new.disk)
+    (d.state c.fit_and_put.new.disk) keeps (c.fit_and_put.ensures.besides told)
+    (c.fit_and_put.ensures.over_whole told
+    (has_same c.args.want.now (d.state c.args.disk.now).seen (d.state c.make_folders.new.disk).seen keeps.seen.files has))

@@ -3,11 +3,13 @@ use Rattle.std.specs.Prelude.{Contains}
 use Rattle.dl_disk.specs.Calls.{Stays}
 use Rattle.payload_files.specs.Names.{IsOther}
 use Rattle.resume_core.specs.Openings.{IsNoControl, is_compared}
+use Rattle.resume_core.specs.Refusals.{open_refusal}
 use Rattle.resume_core.proofs.Filed.{files_kept}
-use Rattle.resume_core.proofs.Fitted.{fits_from}
+use Rattle.resume_core.proofs.Fitted.{fits_from, has_same}
 use Rattle.resume_core.proofs.Moved.{disk_cause_moved, refuses_disk, refuses_store, plain_disk, plain_store, told_plain}
 use Rattle.resume_core.proofs.Openings.{matches_same}
-use Rattle.resume_core.proofs.Opens.{compared_listed, compared_matches, covers, covers_absent, covers_pieces, given_pieces, hashes_none, looked, looked_besides, looked_both, looked_given, looked_sound, opens_same, sound_matches, survey_stood, survey_whole, whole_besides, whole_given, whole_pieces, whole_sound}
+use Rattle.resume_core.proofs.Opens.{compared_listed, compared_matches, covers, covers_absent, covers_pieces, given_pieces, hashes_none, looked, looked_besides, looked_both, looked_for, looked_given, looked_sound, no_reason, opens_same, sound_matches, survey_stood, survey_whole, whole_besides, whole_given, whole_pieces, whole_sound}
+use Rattle.resume_core.proofs.OverWhole.{whole_kept, whole_on}
 use Rattle.resume_core.proofs.Surveys.{survey_same}
 use Rattle.resume_core.proofs.resuming.resume.Goals as goal
 
@@ -424,3 +426,88 @@ returns-clause-compared g c told is =
     c.in_ok-write_opened.ensures.verified told
     (matches_same want opened s0.seen s2.seen looks.stays.seen
     (compared_matches want s0.seen opened (is_compared want c.args.check) is opens))
+
+pub returns-in_err-survey-clause-refusable : goal.returns-in_err-survey-clause-refusable
+returns-in_err-survey-clause-refusable g c told reason each =
+    let d = g.D.Disk in
+    let want = c.args.want.now in
+    let s0 = d.state c.args.disk.now in
+    let s1 = d.state c.look_up.new.disk in
+    looked_for each s0 s1 (looked (IsNoControl want) s0 s1 (c.look_up.ensures.looks told))
+
+pub returns-in_err-survey-clause-over_whole : goal.returns-in_err-survey-clause-over_whole
+returns-in_err-survey-clause-over_whole g c told has =
+    let d = g.D.Disk in
+    let want = c.args.want.now in
+    let s0 = d.state c.args.disk.now in
+    let s1 = d.state c.look_up.new.disk in
+    whole_kept want (is_compared want c.args.check) s0 s1
+    (looked_for want s0 s1 (looked (IsNoControl want) s0 s1 (c.look_up.ensures.looks told)))
+
+pub returns-in_err-opened-clause-refusable : goal.returns-in_err-opened-clause-refusable
+returns-in_err-opened-clause-refusable g c told reason each =
+    let d = g.D.Disk in
+    let want = c.args.want.now in
+    let s0 = d.state c.args.disk.now in
+    let s1 = d.state c.look_up.new.disk in
+    let s2 = d.state c.opened_of.new.disk in
+    let looks = looked_both (IsNoControl want) (IsOther want.dir want.layout) s0 s1 s2 (c.look_up.ensures.looks told)
+    (c.opened_of.ensures.looks told) in
+    looked_for each s0 s2 looks
+
+pub returns-in_err-opened-clause-over_whole : goal.returns-in_err-opened-clause-over_whole
+returns-in_err-opened-clause-over_whole g c told has =
+    let d = g.D.Disk in
+    let want = c.args.want.now in
+    let s0 = d.state c.args.disk.now in
+    let s1 = d.state c.look_up.new.disk in
+    let s2 = d.state c.opened_of.new.disk in
+    let looks = looked_both (IsNoControl want) (IsOther want.dir want.layout) s0 s1 s2 (c.look_up.ensures.looks told)
+    (c.opened_of.ensures.looks told) in
+    whole_kept want (is_compared want c.args.check) s0 s2 (looked_for want s0 s2 looks)
+
+pub returns-in_err-write_opened-clause-refusable : goal.returns-in_err-write_opened-clause-refusable
+returns-in_err-write_opened-clause-refusable g c told reason each =
+    no_reason (open_refusal c.args.want.now (g.D.Disk.state c.args.disk.now).seen) reason
+    (c.in_ok-survey.ensures.refuses told).opened
+
+pub returns-in_err-write_opened-clause-over_whole : goal.returns-in_err-write_opened-clause-over_whole
+returns-in_err-write_opened-clause-over_whole g c told has =
+    let d = g.D.Disk in
+    let want = c.args.want.now in
+    let s0 = d.state c.args.disk.now in
+    let s1 = d.state c.look_up.new.disk in
+    let s2 = d.state c.opened_of.new.disk in
+    let looks = looked_both (IsNoControl want) (IsOther want.dir want.layout) s0 s1 s2 (c.look_up.ensures.looks told)
+    (c.opened_of.ensures.looks told) in
+    let s3 = d.state c.write_opened.new.disk in
+    let opened = c.in_ok-opened.opened in
+    let keeps = looked_for want s0 s2 looks in
+    let just = opens_same want (is_compared want c.args.check) s1.seen s2.seen opened
+    (c.opened_of.ensures.looks told).stays.seen (c.in_ok-opened.ensures.opened told) in
+    whole_on want (is_compared want c.args.check) s0 s2 s3 keeps (c.write_opened.ensures.besides told)
+    (c.write_opened.ensures.over_whole told (has_same want s0.seen s2.seen keeps.seen.files has)
+    (is_compared want c.args.check) just)
+
+pub returns-clause-refusable : goal.returns-clause-refusable
+returns-clause-refusable g c told reason each =
+    no_reason (open_refusal c.args.want.now (g.D.Disk.state c.args.disk.now).seen) reason
+    (c.in_ok-survey.ensures.refuses told).opened
+
+pub returns-clause-over_whole : goal.returns-clause-over_whole
+returns-clause-over_whole g c told has =
+    let d = g.D.Disk in
+    let want = c.args.want.now in
+    let s0 = d.state c.args.disk.now in
+    let s1 = d.state c.look_up.new.disk in
+    let s2 = d.state c.opened_of.new.disk in
+    let looks = looked_both (IsNoControl want) (IsOther want.dir want.layout) s0 s1 s2 (c.look_up.ensures.looks told)
+    (c.opened_of.ensures.looks told) in
+    let s3 = d.state c.write_opened.new.disk in
+    let opened = c.in_ok-opened.opened in
+    let keeps = looked_for want s0 s2 looks in
+    let just = opens_same want (is_compared want c.args.check) s1.seen s2.seen opened
+    (c.opened_of.ensures.looks told).stays.seen (c.in_ok-opened.ensures.opened told) in
+    whole_on want (is_compared want c.args.check) s0 s2 s3 keeps (c.write_opened.ensures.besides told)
+    (c.write_opened.ensures.over_whole told (has_same want s0.seen s2.seen keeps.seen.files has)
+    (is_compared want c.args.check) just)
