@@ -1,6 +1,6 @@
 -- What is held of an opened download keeps the promises of its saves.
 use Rattle.std.proofs.Common.{◌≡◌, inl, inr, ⊎_elim, ℕ, ◌<◌, Bool, true, false, cond, eqb, List, [], ◌∷◌, length, get_or, slice_get, Some, refl, sym, ◌∙◌, subst, arith}
-use Rattle.std.specs.Prelude.{◌&&◌, ◌||◌, ◌++◌, not}
+use Rattle.std.specs.Prelude.{◌&&◌, ◌||◌, ◌++◌, ◌⊎◌, not}
 use Rattle.std.specs.List.{list_any}
 use Rattle.std.proofs.lemmas.Bool.{cases_lt, eq-eqb, eqb-true}
 use Rattle.std.proofs.lemmas.Option.{get_or_from_slice_get}
@@ -23,8 +23,8 @@ use Rattle.resume_core.specs.Resume.{HasDigest}
 use Rattle.resume_core.specs.Steps.{SameFor, IsFinished}
 use Rattle.resume_core.specs.Wants.{files_in}
 use Rattle.resume_core.proofs.Same.{give_same}
-use Rattle.durable_progress.specs.Held.{IsHeld}
-use Rattle.durable_progress.specs.Promises.{GivesPromised, HoldsPromised, StandsWhole, finds_wrong, is_block_promised, is_block_saved, is_piece_saved}
+use Rattle.durable_progress.specs.Held.{GivesListing, IsHeld}
+use Rattle.durable_progress.specs.Promises.{GivesPromised, HoldsPromised, StandsWhole, finds_wrong, is_block_promised, is_block_saved, is_piece_promised, is_piece_saved}
 use Rattle.durable_progress.specs.PromiseLaws.{IsOpenedOwn}
 use Rattle.durable_progress.proofs.Holding.{held_gives}
 use Rattle.durable_progress.proofs.Listings.{row_true, true_row}
@@ -54,14 +54,14 @@ verified_on total len p (Checks right) before legal rest is = absurd cc
 verified_on total len p (Halts ends) before legal rest is = absurd cc
 
 -- a verified piece is one of the plan, of a download that is opened
-verified : (total len p : ℕ) (own : List OwnEvent) → LegalOwn total len own → is_verified_in own p ≡ true
+pub verified : (total len p : ℕ) (own : List OwnEvent) → LegalOwn total len own → is_verified_in own p ≡ true
     → p < pieces_of total len × (is_opened own ≡ true)
 verified total len p [] legal is = absurd cc
 verified total len p (e ∷ before) legal is = or_cases (verifies p e) (is_verified_in before p) is
     (λ now. verified_on total len p e before legal (verified total len p before legal.0) now)
     (λ was. let rest = verified total len p before legal.0 was in (rest.0, or_right (is_opening e) (is_opened before) rest.1))
 
-saved_verified : (p : ℕ) (own : List OwnEvent) → is_piece_saved own p ≡ true → is_verified_in own p ≡ true
+pub saved_verified : (p : ℕ) (own : List OwnEvent) → is_piece_saved own p ≡ true → is_verified_in own p ≡ true
 saved_verified p [] is = absurd cc
 saved_verified p (Saves now ∷ before) is = or_cases (is_verified_in before p) (is_piece_saved before p) is
     (λ was. was) (λ saved. saved_verified p before saved)
@@ -77,12 +77,12 @@ saved_verified p (Checks right ∷ before) is = saved_verified p before is
 saved_verified p (Halts ends ∷ before) is = saved_verified p before is
 
 -- what is verified stays so
-verified_later : (p : ℕ) (later own : List OwnEvent) → is_verified_in own p ≡ true → is_verified_in (later ++ own) p ≡ true
+pub verified_later : (p : ℕ) (later own : List OwnEvent) → is_verified_in own p ≡ true → is_verified_in (later ++ own) p ≡ true
 verified_later p [] own is = is
 verified_later p (e ∷ later) own is = or_right (verifies p e) _ (verified_later p later own is)
 
 -- a listed piece is verified
-listed_verified : (total len p : ℕ) (own : List OwnEvent) → slice_get (last_listing total len own).pieces p ≡ Some true
+pub listed_verified : (total len p : ℕ) (own : List OwnEvent) → slice_get (last_listing total len own).pieces p ≡ Some true
     → is_verified_in own p ≡ true
 listed_verified total len p [] is = absurd cc
 listed_verified total len p (Opens rows blocks now ∷ before) is =
@@ -99,7 +99,7 @@ listed_verified total len p (Checks right ∷ before) is = listed_verified total
 listed_verified total len p (Halts ends ∷ before) is = listed_verified total len p before is
 
 -- each verified piece is listed by a save
-verified_listed : (total len p : ℕ) (own : List OwnEvent) → LegalOwn total len own → is_verified_in own p ≡ true
+pub verified_listed : (total len p : ℕ) (own : List OwnEvent) → LegalOwn total len own → is_verified_in own p ≡ true
     → slice_get (listing_in total len own).pieces p ≡ Some true
 verified_listed total len p own legal is =
     true_row (is_verified_in own) (pieces_of total len) p (verified total len p own legal is).0 is
@@ -141,7 +141,7 @@ pieces_stay total len p (Sizes id told ∷ later) own legal is = pieces_stay tot
 pieces_stay total len p (Checks right ∷ later) own legal is = pieces_stay total len p later own legal.0 is
 pieces_stay total len p (Halts ends ∷ later) own legal is = pieces_stay total len p later own legal.0 is
 
-legal_before : (total len : ℕ) (later own : List OwnEvent) → LegalOwn total len (later ++ own) → LegalOwn total len own
+pub legal_before : (total len : ℕ) (later own : List OwnEvent) → LegalOwn total len (later ++ own) → LegalOwn total len own
 legal_before total len [] own legal = legal
 legal_before total len (e ∷ later) own legal = legal_before total len later own legal.0
 
@@ -254,6 +254,22 @@ not_wrong p (Saves now) none is = is
 not_wrong p (Checks right) none is = is
 not_wrong p (Halts ends) none is = is
 
+pub both_true : (a b : Bool) → a ≡ true → b ≡ true → (a && b) ≡ true
+both_true true b first second = second
+both_true false b first second = absurd cc
+
+pub any_front : (f : OwnEvent → Bool) (xs ys : List OwnEvent) → list_any f (xs ++ ys) ≡ false → list_any f xs ≡ false
+any_front f [] ys none = refl
+any_front f (x ∷ xs) ys none = by (f x) (or_first (f x) _ none) (any_front f xs ys (or_later (f x) _ none))
+  where
+    by : (b : Bool) → b ≡ false → list_any f xs ≡ false → (b || list_any f xs) ≡ false
+    by true here rest = absurd cc
+    by false here rest = rest
+
+pub any_back : (f : OwnEvent → Bool) (xs ys : List OwnEvent) → list_any f (xs ++ ys) ≡ false → list_any f ys ≡ false
+any_back f [] ys none = none
+any_back f (x ∷ xs) ys none = any_back f xs ys (or_later (f x) _ none)
+
 module _ (sound : HistoriesAreSound) (total len b : ℕ) (plan : IsPlan total len) where
   listed_within : (own : List OwnEvent) → LegalOwn total len own → is_block_listed len own b ≡ true → b < blocks_of total len
   listed_within own legal is =
@@ -323,24 +339,92 @@ module _ (sound : HistoriesAreSound) (total len b : ℕ) (plan : IsPlan total le
       let wrong = list_any (finds_wrong (piece_of len b)) later in
       blocks_stay later own legal (not_not (and_left (not wrong) _ is)) (and_right (not wrong) _ is)
 
+  -- .. and by a save now
+  pub promised_listed : (later own : List OwnEvent) → LegalOwn total len (later ++ own)
+      → is_block_promised len later own b ≡ true → slice_get (listing_in total len (later ++ own)).blocks b ≡ Some true
+  promised_listed later own legal is =
+      let wrong = list_any (finds_wrong (piece_of len b)) later in
+      let saved = and_right (not wrong) _ is in
+      let listed = still_listed later own legal (not_not (and_left (not wrong) _ is))
+      (saved_still own (legal_before total len later own legal) saved) in
+      true_row (is_block_listed len (later ++ own)) (blocks_of total len) b (listed_within (later ++ own) legal listed) listed
+
+  -- a block that stays promised while these events come is promised by them
+  saved_longer : (more own : List OwnEvent) → LegalOwn total len (more ++ own) → None more → is_block_saved len own b ≡ true
+      → is_block_saved len (more ++ own) b ≡ true
+  saved_longer [] own legal none is = is
+  saved_longer (Saves now ∷ more) own legal none is =
+      still_listed more own legal.0 none (saved_still own (legal_before total len more own legal.0) is)
+  saved_longer (Opens rows blocks now ∷ more) own legal none is = saved_longer more own legal.0 none is
+  saved_longer (Settles piece right giver ∷ more) own legal none is =
+      let e = Settles piece right giver in
+      both_true (not (finds_wrong (piece_of len b) e)) (is_block_saved len (more ++ own) b)
+      (is_not (finds_wrong (piece_of len b) e) (or_first (finds_wrong (piece_of len b) e) _ none))
+      (saved_longer more own legal.0 (or_later (finds_wrong (piece_of len b) e) _ none) is)
+  saved_longer (Grants claim ∷ more) own legal none is = saved_longer more own legal.0 none is
+  saved_longer (Lands id mirror run ∷ more) own legal none is = saved_longer more own legal.0 none is
+  saved_longer (Clears piece ∷ more) own legal none is = saved_longer more own legal.0 none is
+  saved_longer (Loses id mirror piece mark ∷ more) own legal none is = saved_longer more own legal.0 none is
+  saved_longer (Sizes id told ∷ more) own legal none is = saved_longer more own legal.0 none is
+  saved_longer (Checks right ∷ more) own legal none is = saved_longer more own legal.0 none is
+  saved_longer (Halts ends ∷ more) own legal none is = saved_longer more own legal.0 none is
+
+  pub promised_longer : (later more own : List OwnEvent) → LegalOwn total len (more ++ own)
+      → is_block_promised len (later ++ more) own b ≡ true → is_block_promised len later (more ++ own) b ≡ true
+  promised_longer later more own legal is =
+      let wrong = finds_wrong (piece_of len b) in
+      let none = not_not (and_left (not (list_any wrong (later ++ more))) _ is) in
+      both_true (not (list_any wrong later)) (is_block_saved len (more ++ own) b)
+      (is_not (list_any wrong later) (any_front wrong later more none))
+      (saved_longer more own legal (any_back wrong later more none) (and_right (not (list_any wrong (later ++ more))) _ is))
+
+pub piece_longer : (p : ℕ) (more own : List OwnEvent) → is_piece_saved own p ≡ true → is_piece_saved (more ++ own) p ≡ true
+piece_longer p [] own is = is
+piece_longer p (Saves now ∷ more) own is = or_right (is_verified_in (more ++ own) p) _ (piece_longer p more own is)
+piece_longer p (Opens rows blocks now ∷ more) own is = piece_longer p more own is
+piece_longer p (Settles piece right giver ∷ more) own is = piece_longer p more own is
+piece_longer p (Grants claim ∷ more) own is = piece_longer p more own is
+piece_longer p (Lands id mirror run ∷ more) own is = piece_longer p more own is
+piece_longer p (Clears piece ∷ more) own is = piece_longer p more own is
+piece_longer p (Loses id mirror piece mark ∷ more) own is = piece_longer p more own is
+piece_longer p (Sizes id told ∷ more) own is = piece_longer p more own is
+piece_longer p (Checks right ∷ more) own is = piece_longer p more own is
+piece_longer p (Halts ends ∷ more) own is = piece_longer p more own is
+
 -- ---- images
 
 module _ (want : Want) (own : List OwnEvent) where
+  -- by what the last save lists, or by what a save would list now
+  pub listing_promised : (sound : HistoriesAreSound) (later : List OwnEvent) (image : Files) → IsOpenedOwn want (later ++ own)
+      → GivesListing want (last_listing want.plan.total want.plan.piece_len (later ++ own)) image
+      ⊎ GivesListing want (listing_in want.plan.total want.plan.piece_len (later ++ own)) image
+      → GivesPromised want later own false false image
+  listing_promised sound later image opened gives =
+      let total = want.plan.total in
+      let len = want.plan.piece_len in
+      let saved : (p : ℕ) → is_piece_promised false own p ≡ true → is_piece_saved own p ≡ true =
+      λ p is. or_cases (is_piece_saved own p) false is (λ was. was) (λ no. absurd cc) in
+      ⊎_elim
+      (λ (last : GivesListing want (last_listing total len (later ++ own)) image). record {
+        pieces = λ p is. (last.pieces p).1 (saved_stay total len p later own opened.legal (saved p is));
+        blocks = λ again b is. (last.blocks b).1
+            (promised_stay sound total len b opened.want_is.plan later own opened.legal is);
+      })
+      (λ (now : GivesListing want (listing_in total len (later ++ own)) image). record {
+        pieces = λ p is. (now.pieces p).1
+            (verified_listed total len p (later ++ own) opened.legal
+            (verified_later p later own (saved_verified p own (saved p is))));
+        blocks = λ again b is. (now.blocks b).1
+            (promised_listed sound total len b opened.want_is.plan later own opened.legal is);
+      }) gives
+
   pub held_promised : (back : WrittenIsReadBack) (sound : HistoriesAreSound) (later : List OwnEvent) (seen image : Files)
       → IsOpenedOwn want (later ++ own)
       → IsHeld want (last_listing want.plan.total want.plan.piece_len (later ++ own)) seen image
       → GivesPromised want later own false false image
   held_promised back sound later seen image opened held =
       let listing = last_listing want.plan.total want.plan.piece_len (later ++ own) in
-      let gives = held_gives back want listing seen image opened.want_is held in
-      record {
-        pieces = λ p is. or_cases (is_piece_saved own p) false is
-            (λ saved. (gives.pieces p).1
-            (saved_stay want.plan.total want.plan.piece_len p later own opened.legal saved))
-            (λ no. absurd cc);
-        blocks = λ again b is. (gives.blocks b).1
-            (promised_stay sound want.plan.total want.plan.piece_len b opened.want_is.plan later own opened.legal is);
-      }
+      listing_promised sound later image opened (inl (held_gives back want listing seen image opened.want_is held))
 
   pub finished_whole : (seen image : Files)
       → (IsListedWant want → (p : ℕ) → is_verified_in own p ≡ true → HasDigest want (files_in want seen) p)

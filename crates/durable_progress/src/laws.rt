@@ -1,6 +1,6 @@
 // What a crash leaves of downloads, whatever the steps of the store.
 ghost use Rattle.durable_progress.specs.HeldLaws.{HeldGive, OpenedAreHeld, SavesHold, SavedAreHeld, HeldLackRuns, WritesHold, WritesElsewhereHold, FinishesHold, SameHold};
-ghost use Rattle.durable_progress.specs.PromiseLaws.{SavedAreListed, PromisedAreListed, ListedPiecesStay, HeldGivePromised, FinishedStandWhole, SameKeepPromises};
+ghost use Rattle.durable_progress.specs.PromiseLaws.{SavedAreListed, PromisedAreListed, ListedPiecesStay, HeldGivePromised, FinishedStandWhole, ListingsGivePromised, PromisesStay, SameKeepPromises};
 ghost use Rattle.durable_progress.specs.SharingLaws.{FilesStayBeside, LengthsStayBeside, GiveSameBeside, SoundBeside, AgreeBeside};
 
 use control_file::control_files_are_read;
@@ -39,6 +39,8 @@ pub fn promises_are_kept()
     ensures blocks { PromisedAreListed }
     ensures stay { ListedPiecesStay }
     ensures held { HeldGivePromised }
+    ensures listings { ListingsGivePromised }
+    ensures longer { PromisesStay }
     ensures finished { FinishedStandWhole }
     ensures same { SameKeepPromises }
 {

@@ -1,4 +1,4 @@
-use Rattle.durable_progress.proofs.Promised.{finished_whole, held_promised, pieces_stay, promised_stay, same_promises, saved_stay}
+use Rattle.durable_progress.proofs.Promised.{finished_whole, held_promised, listing_promised, piece_longer, pieces_stay, promised_longer, promised_stay, same_promises, saved_stay}
 use Rattle.durable_progress.proofs.laws.promises_are_kept.Goals as goal
 
 pub returns-clause-pieces : goal.returns-clause-pieces
@@ -23,3 +23,14 @@ returns-clause-finished c = λ want own seen image opened. finished_whole want o
 
 pub returns-clause-same : goal.returns-clause-same
 returns-clause-same c = same_promises
+
+pub returns-clause-listings : goal.returns-clause-listings
+returns-clause-listings c = λ want later own image.
+    listing_promised want own c.histories_are_sound.ensures later image
+
+pub returns-clause-longer : goal.returns-clause-longer
+returns-clause-longer c = λ want later more own opened. record {
+  pieces = λ p. piece_longer p more own;
+  blocks = λ b. promised_longer c.histories_are_sound.ensures want.plan.total want.plan.piece_len b opened.want_is.plan later more
+      own opened.legal;
+}
