@@ -5,7 +5,7 @@ use Rattle.dl_kinds.specs.declared.gid.Gid.{Gid}
 use Rattle.dl_kinds.specs.declared.plan.Plan.{Plan}
 use Rattle.dl_kinds.specs.declared.runs.Run.{Run}
 use Rattle.metainfo.specs.Jobs.{run_parts}
-use Rattle.span_map.specs.Jobs.{run_end, run_start}
+use Rattle.span_map.specs.Jobs.{IsJob, run_end, run_start}
 use Rattle.span_map.specs.declared.jobs.Job.{Job}
 use Rattle.span_map.specs.declared.jobs.JobPart.{JobPart}
 use Rattle.machine_core.specs.Choices.{mirror_urls}
@@ -99,6 +99,7 @@ pub record IsJobOf (lengths : PayloadLengths) (subject : Subject) (mirror : ℕ)
   pub piece_len : job.plan.piece_len ≡ lengths.piece_len
   pub run_is : job.run ≡ run
   pub parts : job.parts ≡ asked_parts_of subject job.plan mirror run
+  pub sound : IsJob job
 
 -- blocks are claimed of a mirror, and as many bytes let go as may be
 pub record IsFetchGrant (at : TurnStart) (s : RunStanding) (worker : ℕ) (download : Download) (mirror : ℕ) (run : Run)
