@@ -9,13 +9,13 @@ use Rattle.engine_turns.specs.declared.operations.Said.{Said}
 use Rattle.engine_turns.specs.declared.operations.Said.TheVariants.{NoMemory}
 use Rattle.machine_core.specs.declared.events.Event.{Event}
 use Rattle.stored_run.specs.RunFollows.{RunFollows}
-use Rattle.stored_run.specs.Saves.{AreSavable, AreStoredApart, SavesKeep, StandOnce, TellsOnly, UnlessStarved}
-use Rattle.stored_run.specs.Steps.{DoesRow, RunStays, StoresEach}
+use Rattle.stored_run.specs.Saves.{AreSavable, AreStoredApart, StandOnce, TellsOnly, UnlessStarved}
+use Rattle.stored_run.specs.Steps.{DoesRow, RunStays}
 use Rattle.stored_run.specs.Stored.{IsStoredRun}
 use Rattle.stored_run.specs.Views.{IsGoing}
 use Rattle.stored_run.specs.declared.run.StoredView.{StoredView}
 use Rattle.stored_run.proofs.Doing.{no_counts}
-use Rattle.stored_run.proofs.EachSaved.{HaltsBetween, each_none, each_saved, savable_still, stored_apart_still}
+use Rattle.stored_run.proofs.EachSaved.{HaltsBetween, savable_still, stored_apart_still}
 
 pub same_view : {D : Type 0} (r : StoredView D) → TellsOnly [] r r
 same_view r = record { past = refl; start = refl; now = refl; wants = refl; disk = refl }
@@ -42,11 +42,6 @@ module _ {D : Type 0} (laws : RunFollows) (tells : Bool) (F : D → ℕ) (S : D 
     wants = λ g w is. on.wants g w (between.on.wants g w is);
   }
 
-  pub none_each : IsTrue tells → StoresEach old mid (S old.disk) (S mid.disk)
-  none_each told =
-      subst (λ (d : D). StoresEach old mid (S old.disk) (S d)) (sym came.disk)
-      (each_none laws tells (F old.disk) old mid (S old.disk) run between told)
-
   pub row_here : (Row : TurnStart → RunStanding → List Event → Said → Type 0) (new : StoredView D) (f' : ℕ) (said : Said)
       → DoesRow Row old (F mid.disk) new f' said → DoesRow Row old (F old.disk) new f' said
   row_here Row new f' said row = subst (λ (d : D). DoesRow Row old (F d) new f' said) came.disk row
@@ -59,9 +54,3 @@ module _ {D : Type 0} (laws : RunFollows) (tells : Bool) (F : D → ℕ) (S : D 
     stored_all told =
         subst (λ (d : D). AreStoredApart mid gids (S d)) (sym came.disk)
         (stored_apart_still laws tells (F old.disk) old mid (S old.disk) run between gids went told)
-
-    pub saved_each : (new : StoredView D) → IsTrue tells → SavesKeep gids mid new (S mid.disk) (S new.disk)
-        → StoresEach old new (S old.disk) (S new.disk)
-    saved_each new told keeps =
-        each_saved laws tells (F old.disk) old mid (S old.disk) run between gids went new (S new.disk) told
-        (subst (λ (d : D). SavesKeep gids mid new (S d) (S new.disk)) came.disk keeps)

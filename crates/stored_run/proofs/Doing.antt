@@ -1,6 +1,6 @@
 -- Parts of turns put together: one after the other, and broken off.
-use Rattle.std.proofs.Common.{◌≡◌, ◌≢◌, inl, inr, ⊎_elim, ◌≤◌, ◌<◌, ◌+◌, ◌-◌, ◌^◌, ℕ, zero, suc, get_or, Bool, true, false, cond, List, [], ◌∷◌, ◌++◌, refl, sym, ap, ◌∙◌, subst, arith}
-use Rattle.std.specs.Prelude.{◌||◌, Contains, IfSome}
+use Rattle.std.proofs.Common.{◌≡◌, ◌≢◌, inl, inr, ⊎_elim, ◌≤◌, ◌<◌, ◌+◌, ◌-◌, ◌^◌, ℕ, zero, suc, get_or, Bool, true, false, cond, Option, Some, None, List, [], ◌∷◌, ◌++◌, refl, sym, ap, ◌∙◌, subst, arith}
+use Rattle.std.specs.Prelude.{◌||◌, Contains, IfSome, IsSome}
 use Rattle.std.proofs.lemmas.Bool.{cases_lt}
 use Rattle.std.proofs.lemmas.List.{append_assoc}
 use Rattle.std.proofs.lemmas.List.Elements.{Contains-append_cases}
@@ -8,6 +8,7 @@ use Rattle.dl_words.specs.Counts.{Rose}
 use Rattle.dl_disk.specs.Files.{Files}
 use Rattle.dl_disk.specs.Passes.{present, since_split}
 use Rattle.dl_disk.specs.State.{DiskState, LeftSince}
+use Rattle.dl_history.specs.Listings.{Listing}
 use Rattle.dl_history.specs.OwnEvents.{OwnEvent}
 use Rattle.dl_history.specs.PayloadParts.{is_opened, is_opening}
 use Rattle.dl_kinds.specs.declared.gid.Gid.{Gid}
@@ -20,8 +21,10 @@ use Rattle.machine_core.specs.Starts.{RunStart}
 use Rattle.machine_core.specs.declared.ends.End.TheVariants as end
 use Rattle.machine_core.specs.declared.events.Event.{Event}
 use Rattle.machine_core.specs.declared.events.Event.TheVariants.{Called, Opened, Sized, Claimed, Landed, Settled, Cleared, Lost, Checked, Saved, Ended, Left, Stopped}
+use Rattle.resume_core.specs.Openings.{HasControl, LacksControl}
 use Rattle.resume_core.specs.Resume.{AreSound}
-use Rattle.resume_core.specs.Steps.{IsFinished, SameBesides}
+use Rattle.resume_core.specs.Steps.{SameBesides}
+use Rattle.resume_core.specs.Wants.{control_name}
 use Rattle.resume_core.proofs.Openings.{besides_none, besides_on}
 use Rattle.engine_turns.specs.Phases.{AndThen, ByHistory, Did, IfElse, IsRisen, NoEvent, Phase, TurnStart}
 use Rattle.engine_turns.specs.Standings.{RunStanding}
@@ -29,8 +32,9 @@ use Rattle.engine_turns.specs.Told.{history_after}
 use Rattle.engine_turns.specs.declared.operations.Said.{Said}
 use Rattle.engine_turns.specs.declared.outcome.Outcome.{Outcome}
 use Rattle.engine_turns.specs.declared.outcome.Outcome.TheVariants.{Went}
+use Rattle.durable_progress.specs.Held.{IsHeld, IsHeldByEither}
 use Rattle.durable_progress.specs.HeldLaws.{HeldGive}
-use Rattle.stored_run.specs.Steps.{Continues, DoesPart, DoesRow, EndsOn, IsBetween, IsLeftStored, IsStandingOf, StoresOn, turn_from}
+use Rattle.stored_run.specs.Steps.{Continues, DoesPart, DoesRow, EndsOn, IsBetween, IsLeftStored, IsLeftWhole, IsStandingOf, StoresOn, turn_from}
 use Rattle.stored_run.specs.Stored.{IsStored, saved_listing}
 use Rattle.stored_run.specs.declared.run.StoredView.{StoredView}
 
@@ -273,7 +277,7 @@ opened_more : (b c : Bool) → c ≡ true → (b || c) ≡ true
 opened_more true c is = refl
 opened_more false c is = is
 
-opened_behind : (more was : List OwnEvent) → is_opened was ≡ true → is_opened (more ++ was) ≡ true
+pub opened_behind : (more was : List OwnEvent) → is_opened was ≡ true → is_opened (more ++ was) ≡ true
 opened_behind [] was is = is
 opened_behind (x ∷ more) was is = opened_more (is_opening x) (is_opened (more ++ was)) (opened_behind more was is)
 
@@ -303,6 +307,30 @@ between_to was between mid own grown is = record {
   rest = grown.0 ++ is.rest;
   to = grown.1 ∙ (ap (λ (l : List OwnEvent). grown.0 ++ l) is.to ∙ sym (append_assoc grown.0 is.rest between));
 }
+
+-- ---- the control file
+
+-- an image that is held has it
+pub held_control : (want : Want) (listing : Listing) (seen image : Files) → IsHeld want listing seen image
+    → HasControl want image
+held_control want listing seen image held = subst (λ (o : Option (List ℕ)). IsSome o) (sym held.bytes) refl
+
+-- so has the disk as it reads now, where each image since then is held by one of two listings
+pub either_control : (want : Want) (one other : Listing) (old new : DiskState) → old.moment ≤ new.moment
+    → ((image : Files) → LeftSince new old.moment image → IsHeldByEither want one other new.seen image)
+    → HasControl want new.seen
+either_control want one other old new later held = ⊎_elim
+    (λ (is : IsHeld want one new.seen new.seen). held_control want one new.seen new.seen is)
+    (λ (is : IsHeld want other new.seen new.seen). held_control want other new.seen new.seen is)
+    (held new.seen (new.moment, later, omega arith, (new.now_left new.seen).1 new.own_image))
+
+some_or_none : {P : Type 0} (o : Option (List ℕ)) → IsSome o → o ≡ None → P
+some_or_none None there none = absurd cc
+some_or_none (Some bytes) there none = absurd cc
+
+-- it can't be there and not
+pub control_there : {P : Type 0} (want : Want) (image : Files) → HasControl want image → LacksControl want image → P
+control_there want image there lacks = some_or_none (image (control_name want)) there lacks
 
 -- ---- two parts on the disk
 
@@ -335,35 +363,43 @@ module _ (want : Want) (was mid own : List OwnEvent) (a b c : DiskState) (first 
           (λ (early : LeftSince b a.moment image). (front.kept is).sound sound image early)
           (λ (late : LeftSince c b.moment image). (back.kept stored).sound (mid_sound is sound) image late)
           (since_split (SameBesides want) a.moment b c back.besides.passes image left);
+      control = (back.kept stored).control;
     };
   }
 
   -- the second one may finish it
-  pub ends_on : EndsOn want mid own b c → EndsOn want was own a c
-  ends_on back = record {
-    besides = besides_on want a b c front.besides back.besides;
-    kept = λ is. record {
-      images = λ image left. ⊎_elim (λ (early : LeftSince b a.moment image). inl (early_left is image early))
-          (λ (late : LeftSince c b.moment image). ⊎_elim
-          (λ (gives : IsLeftStored want mid own image). inl (late_left image gives))
-          (λ (finished : IsFinished want c.seen image). inr finished)
-          ((back.kept stored).images image late))
-          (since_split (SameBesides want) a.moment b c back.besides.passes image left);
-      sound = λ sound image left. ⊎_elim
-          (λ (early : LeftSince b a.moment image). (front.kept is).sound sound image early)
-          (λ (late : LeftSince c b.moment image). (back.kept stored).sound (mid_sound is sound) image late)
-          (since_split (SameBesides want) a.moment b c back.besides.passes image left);
-    };
-  }
+  module _ {Whole : Type 0} where
+    pub ends_on : EndsOn want Whole mid own b c → EndsOn want Whole was own a c
+    ends_on back = record {
+      besides = besides_on want a b c front.besides back.besides;
+      kept = λ is. record {
+        images = λ image left. ⊎_elim (λ (early : LeftSince b a.moment image). inl (early_left is image early))
+            (λ (late : LeftSince c b.moment image). ⊎_elim
+            (λ (gives : IsLeftStored want mid own image). inl (late_left image gives))
+            (λ (whole : IsLeftWhole want Whole own b c image). inr (record {
+              verified = whole.verified;
+              finished = whole.finished;
+              right = λ sound. whole.right (mid_sound is sound);
+            }))
+            ((back.kept stored).images image late))
+            (since_split (SameBesides want) a.moment b c back.besides.passes image left);
+        sound = λ sound image left. ⊎_elim
+            (λ (early : LeftSince b a.moment image). (front.kept is).sound sound image early)
+            (λ (late : LeftSince c b.moment image). (back.kept stored).sound (mid_sound is sound) image late)
+            (since_split (SameBesides want) a.moment b c back.besides.passes image left);
+        right = λ lacks sound. (back.kept stored).right lacks (mid_sound is sound);
+      };
+    }
 
 -- A part that stores, and nothing after it.
-pub ends_stored : (want : Want) (was own : List OwnEvent) (a b : DiskState) → StoresOn want was own a b
-    → EndsOn want was own a b
+pub ends_stored : {Whole : Type 0} (want : Want) (was own : List OwnEvent) (a b : DiskState) → StoresOn want was own a b
+    → EndsOn want Whole was own a b
 ends_stored want was own a b stores = record {
   besides = stores.besides;
   kept = λ is. record {
     images = λ image left. inl ((stores.kept is).images image left);
     sound = (stores.kept is).sound;
+    right = λ lacks sound listed p verified. control_there want b.seen (stores.kept is).control lacks;
   };
 }
 
@@ -379,5 +415,6 @@ stores_none give want was own disk want_is grown = record {
       inl (give want (saved_listing want was) disk.seen image want_is (is.held image (present disk image left))),
     );
     sound = λ sound image left. (sound image (present disk image left)).0;
+    control = held_control want (saved_listing want was) disk.seen disk.seen (is.held disk.seen disk.own_image);
   };
 }

@@ -174,7 +174,7 @@ between_stopped laws old new are tells = between_one laws Stopped old new are (�
 module _ {D : Type 0} (laws : RunFollows) (tells : Bool) (faults : ℕ) (old mid : StoredView D) (disk : DiskState)
     (run : IsStoredRun tells faults disk old) (between : HaltsBetween old mid) where
   -- one that went on is stored still
-  stored_still : IsTrue tells → (g : Gid) (w : Want) → IsGoing old g → kept_want_of old g ≡ Some w
+  pub stored_still : IsTrue tells → (g : Gid) (w : Want) → IsGoing old g → kept_want_of old g ≡ Some w
       → IsStored w (own_in mid g) disk
   stored_still told g w goes kept =
       halts_stored w (own_in old g) (own_in mid g) disk (between.own g) (run.stored told g w goes kept)
@@ -203,7 +203,7 @@ module _ {D : Type 0} (laws : RunFollows) (tells : Bool) (faults : ℕ) (old mid
     pub savable_still : StandOnce gids → AreSavable mid gids
     savable_still once = record { each = λ i g at. may_still g (went i g at); once = once }
 
-    apart_all : (g : Gid) → IsGoing old g → IsApartFrom gids mid g
+    pub apart_all : (g : Gid) → IsGoing old g → IsApartFrom gids mid g
     apart_all g goes i other v w at beside kept_v kept_w =
         apart_still other g v w (went i other at) goes (λ same. beside (sym same)) kept_v kept_w
 

@@ -5,14 +5,14 @@ use Rattle.std.specs.List.{filter_map}
 use Rattle.std.specs.Option.{is_some}
 use Rattle.std.proofs.lemmas.Bool.{cases_lt, cases_eq}
 use Rattle.std.proofs.lemmas.Option.{same_Some}
-use Rattle.control_file.specs.Wants.{IsWant}
+use Rattle.control_file.specs.Wants.{IsListedWant, IsWant}
 use Rattle.control_file.specs.declared.want.Want.{Want}
 use Rattle.dl_disk.specs.Calls.{Stays}
 use Rattle.dl_disk.specs.State.{DiskState}
 use Rattle.dl_history.specs.Listings.{Listing}
 use Rattle.dl_history.specs.OwnEvents.{OwnEvent, Clears, Checks, Halts}
-use Rattle.dl_history.specs.OwnLegal.{MaySave}
-use Rattle.dl_history.specs.PayloadParts.{is_ended}
+use Rattle.dl_history.specs.OwnLegal.{LegalOwn, MaySave}
+use Rattle.dl_history.specs.PayloadParts.{is_ended, is_verified_in}
 use Rattle.dl_kinds.specs.declared.gid.Gid.{Gid}
 use Rattle.dl_kinds.specs.declared.runs.Moment.{Moment}
 use Rattle.dl_words.specs.Counts.{Rose}
@@ -33,7 +33,7 @@ use Rattle.resume_core.specs.Causes.{HasStoreCause}
 use Rattle.resume_core.specs.declared.fault.StoreErr.{StoreErr}
 use Rattle.resume_core.specs.declared.fault.StoreErr.TheVariants as store
 use Rattle.resume_core.specs.Openings.{KeepsBesides}
-use Rattle.resume_core.specs.Resume.{HasDigest}
+use Rattle.resume_core.specs.Resume.{AreSound, HasDigest}
 use Rattle.resume_core.specs.Sharing.{share_names}
 use Rattle.resume_core.specs.States.{StaysSound}
 use Rattle.resume_core.specs.Steps.{IsFinished}
@@ -44,6 +44,7 @@ use Rattle.stored_run.specs.Stored.{AreFaultsWithin, AreWantsKept, IsStored, IsS
 use Rattle.stored_run.specs.Views.{GoesOpened, kept_want}
 use Rattle.stored_run.specs.declared.run.StoredView.{StoredView}
 use Rattle.stored_run.proofs.Doing.{IsGrown, risen}
+use Rattle.stored_run.proofs.SaveOne.{verified_matches}
 use Rattle.stored_run.proofs.Kept.{IsPlain, after_event, others_still, own_beside, plain_stored}
 use Rattle.stored_run.proofs.Single.{IsOwnOf, moved, opens_none, own_then, read_event}
 
@@ -255,10 +256,12 @@ unmade_kept laws tells before faults old new start past wants now gid want was s
         (cases_eq g.0 gid.0)
 
 -- what a finish leaves of it
-pub finish_ends : RunFollows → (want : Want) → IsWant want → (was own : List OwnEvent) (old new : DiskState)
-    → IsGrown was own → ((listing : Listing) → StaysHeldOrFinished want listing old new) → KeepsBesides want old new
-    → StaysSound want old new → EndsOn want was own old new
-finish_ends laws want want_is was own old new grown held besides sound = record {
+pub finish_ends : {Whole : Type 0} → RunFollows → Whole → (want : Want) → IsWant want → (was own : List OwnEvent)
+    (old new : DiskState) → LegalOwn want.plan.total want.plan.piece_len was → IsGrown was own
+    → ((p : ℕ) → is_verified_in own p ≡ true → is_verified_in was p ≡ true)
+    → ((listing : Listing) → StaysHeldOrFinished want listing old new) → KeepsBesides want old new
+    → files_in want new.seen ≡ files_in want old.seen → StaysSound want old new → EndsOn want Whole was own old new
+finish_ends laws whole want want_is was own old new legal grown back held besides payload sound = record {
   besides = besides;
   kept = λ stored. record {
     images = λ image left. ⊎_elim
@@ -268,11 +271,22 @@ finish_ends laws want want_is was own old new grown held besides sound = record 
           record { first = []; from = refl; rest = grown.0; to = grown.1 },
           inl (laws.give want (saved_listing want was) new.seen image want_is is),
         ))
-        (λ (finished : IsFinished want new.seen image). inr finished)
+        (λ (finished : IsFinished want new.seen image). inr (record {
+          verified = whole;
+          finished = finished;
+          right = right_now stored;
+        }))
         (held (saved_listing want was) stored.held image left);
     sound = λ all image left. (sound all image left).0;
+    right = λ lacks all listed p verified. right_now stored all listed p verified;
   };
 }
+  where
+    right_now : IsStored want was old → AreSound want old.seen old.may_leave → IsListedWant want → (p : ℕ)
+        → is_verified_in own p ≡ true → HasDigest want (files_in want new.seen) p
+    right_now stored all listed p verified =
+        subst (λ (contents : List (Option (List ℕ))). HasDigest want contents p) (sym payload)
+        (verified_matches laws want was want_is legal old stored all listed p (back p verified))
 
 -- ---- a save
 

@@ -46,7 +46,7 @@ use Rattle.machine_core.specs.declared.offers.Offered.TheVariants.{Held, Idle, N
 use Rattle.metainfo.specs.Jobs.{run_parts}
 use Rattle.rate_limits.specs.Shared.{RunLevels}
 use Rattle.resume_core.specs.Runs.{len_of_piece}
-use Rattle.span_map.specs.Jobs.{IsRun, run_end, run_start}
+use Rattle.span_map.specs.Jobs.{IsJob, IsRun, run_end, run_start}
 use Rattle.span_map.specs.declared.jobs.Job.{Job}
 use Rattle.stored_run.specs.Granting.{IsLongAsPiece, IsPlaceOfClaim, MakesClaim, MayBeGiven, UngivenRow, ungiven_row}
 use Rattle.stored_run.specs.RunFollows.{RunFollows}
@@ -95,7 +95,7 @@ module _ (laws : RunFollows) (m : MachineView) (id : ℕ) (gid : Gid) (claim : C
 -- ---- what was offered may be given
 
 -- one of the active downloads
-among_active : (f : Gid → Credit) → ((g : Gid) → (f g).gid ≡ g) → (gs : List Gid) (before : List Credit) (c : Credit)
+pub among_active : (f : Gid → Credit) → ((g : Gid) → (f g).gid ≡ g) → (gs : List Gid) (before : List Credit) (c : Credit)
     (behind : List Credit) → map f gs ≡ before ++ c ∷ behind → list_any (is_same_gid c.gid) gs ≡ true
 among_active f own [] [] c behind cut = absurd cc
 among_active f own [] (b ∷ before) c behind cut = absurd cc
@@ -288,15 +288,16 @@ want_of_download start past gid want read download has added same =
 listed_by : (subject : Subject) (lengths : PayloadLengths) (want : Want) (mirror : ℕ) (run : Run) (url : List ℕ) (job : Job)
     → want.layout ≡ files_of_subject subject want.base lengths.total → lengths_of_plan want.plan ≡ lengths
     → want.info_hash ≡ info_hash_by subject → is_some want.info_hash ≡ true → url ≡ mirror_url subject mirror
-    → job.plan ≡ want.plan → job.run ≡ run → job.parts ≡ run_parts want.layout want.plan run url
+    → job.plan ≡ want.plan → job.run ≡ run → job.parts ≡ run_parts want.layout want.plan run url → IsJob job
     → IsJobOf lengths subject mirror run job
-listed_by (Unlisted uris) lengths want mirror run url job layout lengths_are hash listed url_is plan runs parts =
+listed_by (Unlisted uris) lengths want mirror run url job layout lengths_are hash listed url_is plan runs parts sound =
     absurd (let no : true ≡ false = sym listed ∙ ap is_some hash in cc)
-listed_by (Listed meta uris) lengths want mirror run url job layout lengths_are hash listed url_is plan runs parts = record {
+listed_by (Listed meta uris) lengths want mirror run url job layout lengths_are hash listed url_is plan runs parts sound = record {
   total = ap (λ (p : Plan). p.total) plan ∙ ap (λ (l : PayloadLengths). l.total) lengths_are;
   piece_len = ap (λ (p : Plan). p.piece_len) plan ∙ ap (λ (l : PayloadLengths). l.piece_len) lengths_are;
   run_is = runs;
   parts = parts ∙ λ i. run_parts (layout i) (sym plan i) run (url_is i);
+  sound = sound;
 }
 
 -- .. and without one
@@ -308,10 +309,10 @@ unlisted_by : (subject : Subject) (lengths : PayloadLengths) (want : Want) (mirr
       len = run_end want.plan run - run_start want.plan run;
       total = want.plan.total;
     } ∷ []
-    → IsJobOf lengths subject mirror run job
-unlisted_by (Listed meta uris) lengths want mirror run url job lengths_are hash listed url_is plan runs parts =
+    → IsJob job → IsJobOf lengths subject mirror run job
+unlisted_by (Listed meta uris) lengths want mirror run url job lengths_are hash listed url_is plan runs parts sound =
     absurd (let no : false ≡ true = sym listed ∙ ap is_some hash in cc)
-unlisted_by (Unlisted uris) lengths want mirror run url job lengths_are hash listed url_is plan runs parts = record {
+unlisted_by (Unlisted uris) lengths want mirror run url job lengths_are hash listed url_is plan runs parts sound = record {
   total = ap (λ (p : Plan). p.total) plan ∙ ap (λ (l : PayloadLengths). l.total) lengths_are;
   piece_len = ap (λ (p : Plan). p.piece_len) plan ∙ ap (λ (l : PayloadLengths). l.piece_len) lengths_are;
   run_is = runs;
@@ -321,16 +322,17 @@ unlisted_by (Unlisted uris) lengths want mirror run url job lengths_are hash lis
     len = run_end (sym plan i) run - run_start (sym plan i) run;
     total = (sym plan i).total;
   } ∷ [];
+  sound = sound;
 }
 
 pub listed_job : {E : Type 0} (d : Download) (lengths : PayloadLengths) (want : Want) (mirror : ℕ) (run : Run) (url : List ℕ)
     → IsWantOf d lengths want → is_some want.info_hash ≡ true → url ≡ mirror_url d.subject mirror → (r : Result Job E)
     → IfOk r (λ job. job.plan ≡ want.plan) → IfOk r (λ job. job.run ≡ run)
-    → IfOk r (λ job. job.parts ≡ run_parts want.layout want.plan run url)
+    → IfOk r (λ job. job.parts ≡ run_parts want.layout want.plan run url) → IfOk r IsJob
     → IfOk r (IsJobOf lengths d.subject mirror run)
-listed_job d lengths want mirror run url is listed url_is (Err e) plan runs parts = tt
-listed_job d lengths want mirror run url is listed url_is (Ok job) plan runs parts =
-    listed_by d.subject lengths want mirror run url job is.layout is.plan is.info_hash listed url_is plan runs parts
+listed_job d lengths want mirror run url is listed url_is (Err e) plan runs parts sound = tt
+listed_job d lengths want mirror run url is listed url_is (Ok job) plan runs parts sound =
+    listed_by d.subject lengths want mirror run url job is.layout is.plan is.info_hash listed url_is plan runs parts sound
 
 pub unlisted_job : {E : Type 0} (d : Download) (lengths : PayloadLengths) (want : Want) (mirror : ℕ) (run : Run) (url : List ℕ)
     → IsWantOf d lengths want → is_some want.info_hash ≡ false → url ≡ mirror_url d.subject mirror → (r : Result Job E)
@@ -341,10 +343,10 @@ pub unlisted_job : {E : Type 0} (d : Download) (lengths : PayloadLengths) (want 
       len = run_end want.plan run - run_start want.plan run;
       total = want.plan.total;
     } ∷ [])
-    → IfOk r (IsJobOf lengths d.subject mirror run)
-unlisted_job d lengths want mirror run url is listed url_is (Err e) plan runs parts = tt
-unlisted_job d lengths want mirror run url is listed url_is (Ok job) plan runs parts =
-    unlisted_by d.subject lengths want mirror run url job is.plan is.info_hash listed url_is plan runs parts
+    → IfOk r IsJob → IfOk r (IsJobOf lengths d.subject mirror run)
+unlisted_job d lengths want mirror run url is listed url_is (Err e) plan runs parts sound = tt
+unlisted_job d lengths want mirror run url is listed url_is (Ok job) plan runs parts sound =
+    unlisted_by d.subject lengths want mirror run url job is.plan is.info_hash listed url_is plan runs parts sound
 
 -- ---- a full piece that isn't given
 

@@ -1,5 +1,6 @@
 -- What is kept of one download on the disk while calls are made for others.
-use Rattle.std.proofs.Common.{◌≡◌, ◌≤◌, inl, inr, ⊎_elim, false, List, arith}
+use Rattle.std.proofs.Common.{◌≡◌, ◌≤◌, inl, inr, ⊎_elim, ℕ, false, Option, List, sym, subst, arith}
+use Rattle.std.specs.Prelude.{IsSome}
 use Rattle.control_file.specs.Wants.{IsWant}
 use Rattle.control_file.specs.declared.want.Want.{Want}
 use Rattle.dl_disk.specs.Files.{Files}
@@ -73,6 +74,9 @@ module _ (laws : RunFollows) (other want : Want) (was own : List OwnEvent) (a b 
         let from = kept_late image late in
         sound_same want from.0 image from.2 (front.sound sound from.0 from.1))
         (since_split (SameBesides other) a.moment b c besides.passes image left);
+    control =
+        let same = laws.files other want b.seen c.seen (record { apart = apart; besides = besides.seen }) in
+        subst (λ (o : Option (List ℕ)). IsSome o) (sym same.control) front.control;
   }
 
 -- ---- calls for the download itself
@@ -100,6 +104,7 @@ module _ (want : Want) (was mid own : List OwnEvent) (a b c : DiskState) (first 
         (λ (early : LeftSince b a.moment image). front.sound sound image early)
         (λ (late : LeftSince c b.moment image). (back.kept stored).sound (between_sound sound) image late)
         (since_split (SameBesides want) a.moment b c back.besides.passes image left);
+    control = (back.kept stored).control;
   }
 
 -- ---- events alone
@@ -111,6 +116,7 @@ keeps_from want was mid own a c grown keeps = record {
   images = λ image left.
       let gives = keeps.images image left in (gives.0, between_from was mid gives.0 own grown gives.1, gives.2);
   sound = keeps.sound;
+  control = keeps.control;
 }
 
 -- no call of the disk

@@ -20,6 +20,10 @@ pub mod Steady
 pub mod Seals
 pub mod WantPlaces
 pub mod Completing
+pub mod Halted
+pub mod Left
+pub mod OfOne
+pub mod Leaving
 pub mod OwnLandings
 pub mod RunParts
 pub mod OwnFindings
@@ -38,6 +42,7 @@ pub mod EachSaved
 pub mod SavedRows
 pub mod CallSaves
 pub mod AfterTelling
+pub mod AfterSaves
 pub mod Openings
 pub mod OpenedKept
 pub mod OpenNext
@@ -45,3 +50,5 @@ pub mod OpenParts
 pub mod Grants
 pub mod Between
 pub mod SealedPieces
+pub mod Tried
+pub mod OpenDisk

@@ -1,6 +1,6 @@
 -- The download that is opened next, what its store may refuse, and what comes of it.
-use Rattle.std.proofs.Common.{◌≡◌, ◌≤◌, ◌<◌, ◌^◌, ℕ, Bool, true, false, Option, Some, None, List, [], ◌∷◌, refl, sym, ap, ◌∙◌, subst}
-use Rattle.std.specs.Prelude.{◌&&◌, ◌||◌, Err, IfErr, IfOk, IfSome, Ok, OnOk, Result, find, is_err, not}
+use Rattle.std.proofs.Common.{◌≡◌, ◌≤◌, ◌<◌, ◌^◌, ◌⊎◌, inl, inr, ℕ, Bool, true, false, Option, Some, None, List, [], ◌∷◌, refl, sym, ap, ◌∙◌, subst}
+use Rattle.std.specs.Prelude.{◌&&◌, ◌||◌, Err, IfErr, IfOk, IfSome, IsSome, Ok, OnOk, Result, find, is_err, not}
 use Rattle.std.specs.List.{list_any}
 use Rattle.std.specs.Option.{is_some, option_and_then}
 use Rattle.std.proofs.lemmas.Bool.{eq-eqb}
@@ -29,12 +29,14 @@ use Rattle.machine_core.specs.declared.ends.End.TheVariants as end
 use Rattle.machine_core.specs.declared.events.Event.TheVariants.{Ended, Opened as OpenedEvent}
 use Rattle.piece_table.specs.Progress.{IsStart}
 use Rattle.resume_core.specs.Openings.{AreOpenedRows, HasOpenCause}
-use Rattle.resume_core.specs.Refusals.{TellsWant}
+use Rattle.resume_core.specs.Refusals.{IsRefusal, TellsWant}
 use Rattle.resume_core.specs.declared.refusing.OpenErr.{OpenErr}
 use Rattle.resume_core.specs.declared.refusing.OpenErr.TheVariants as refusal
-use Rattle.stored_run.specs.Opening.{IsRefusedSince, IsToResume, end_by_refusal}
+use Rattle.stored_run.specs.Opening.{IsDiskEnd, IsRefusedSince, IsToResume, end_by_refusal}
 use Rattle.stored_run.specs.RunFollows.{RunFollows}
 use Rattle.stored_run.specs.Stored.{AreFaultsWithin}
+use Rattle.stored_run.specs.Views.{own_in}
+use Rattle.stored_run.specs.declared.run.StoredView.{StoredView}
 use Rattle.stored_run.proofs.Doing.{risen}
 use Rattle.stored_run.proofs.Own.{lengths_known}
 use Rattle.stored_run.proofs.PlainEvents.{gid_added}
@@ -96,6 +98,11 @@ before_opening laws m gid legal next =
       };
       opening = record { active = among; known = due.0; unopened = due.1 };
     }
+
+-- it isn't opened yet
+pub unopened_next : {D : Type 0} → RunFollows → (r : StoredView D) (gid : Gid) → IsLegal r.machine.start r.machine.past
+    → next_to_open r.machine.start r.machine.past ≡ Some gid → is_opened (own_in r gid) ≡ false
+unopened_next laws r gid legal next = (before_opening laws r.machine gid legal next).opening.unopened
 
 -- ---- the event of its opening
 
@@ -202,6 +209,25 @@ pub refusal_count : (gid : Gid) (after n : ℕ) (err : OpenErr) (o : Option End)
 refusal_count gid after n err o o_is within =
     subst (λ (x : Option End). IfSome x (λ how. IfSome (disk_fault_of (Ended gid how)) (λ count. count ≤ after))) (sym o_is)
     (count_by gid after n err within)
+
+-- it ends for a fault of the disk, or for a reason that there is
+reason_by : {Tells P : Type 0} (n : ℕ) (err : OpenErr) → (Tells → IsRefusal err → P)
+    → IfSome (end_by_refusal err n) (λ how. Tells → IsDiskEnd how ⊎ P)
+reason_by n (refusal.Exists length) refused = λ told. inr (refused told (λ is. absurd cc, λ is. absurd cc))
+reason_by n (refusal.PieceLength have want) refused = λ told. inr (refused told (λ is. absurd cc, λ is. absurd cc))
+reason_by n (refusal.Length have want) refused = λ told. inr (refused told (λ is. absurd cc, λ is. absurd cc))
+reason_by n refusal.InfoHash refused = λ told. inr (refused told (λ is. absurd cc, λ is. absurd cc))
+reason_by n (refusal.Unreadable at) refused = λ told. inr (refused told (λ is. absurd cc, λ is. absurd cc))
+reason_by n refusal.Disk refused = λ told. inl (n, refl)
+reason_by n refusal.NoMemory refused = tt
+
+pub refusal_reason : {Tells P : Type 0} (n : ℕ) (err : OpenErr) (o : Option End) → o ≡ end_by_refusal err n
+    → (Tells → IsRefusal err → P) → IfSome o (λ how. Tells → IsDiskEnd how ⊎ P)
+refusal_reason {Tells} {P} n err o o_is refused =
+    subst (λ (x : Option End). IfSome x (λ how. Tells → IsDiskEnd how ⊎ P)) (sym o_is) (reason_by n err refused)
+
+pub refused_some : (o : Option OpenErr) (err : OpenErr) → o ≡ Some err → IsSome o
+refused_some o err is = subst (λ (x : Option OpenErr). IsSome x) (sym is) refl
 
 pub rose_open : {T : Type 0} (before now n : ℕ) (result : Result T OpenErr) (err : OpenErr)
     → HasOpenCause before now result → result ≡ Err err → n ≡ now → err ≡ refusal.Disk → Rose before n

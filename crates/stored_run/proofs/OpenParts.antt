@@ -1,13 +1,12 @@
 -- The parts of an opening, one after the other: a place for the want, the store, the event, and the end.
-use Rattle.std.proofs.Common.{◌≡◌, ◌≤◌, ◌<◌, inl, inr, ℕ, Bool, false, Option, Some, None, List, [], ◌∷◌, ◌++◌, length, refl, sym, ap, ◌∙◌, subst, arith}
-use Rattle.std.specs.Prelude.{IfNone, IfSome, IsSome, IsTrue}
+use Rattle.std.proofs.Common.{◌≡◌, ◌≤◌, ◌<◌, inl, inr, ℕ, Bool, Option, Some, None, List, [], ◌∷◌, length, refl, sym, ap, ◌∙◌, subst, arith}
+use Rattle.std.specs.Prelude.{Contains, IfNone, IfSome, IsSome}
 use Rattle.std.proofs.lemmas.Option.{slice_get_within}
 use Rattle.control_file.specs.declared.want.Opened.{Opened}
 use Rattle.control_file.specs.declared.want.Want.{Want}
 use Rattle.dl_disk.specs.Passes.{present}
 use Rattle.dl_disk.specs.State.{DiskState}
 use Rattle.dl_history.specs.OwnEvents.{OwnEvent, Opens}
-use Rattle.dl_history.specs.PayloadParts.{is_opened}
 use Rattle.dl_kinds.specs.declared.gid.Gid.{Gid}
 use Rattle.dl_kinds.specs.declared.runs.Moment.{Moment}
 use Rattle.engine_turns.specs.Phases.{AndThen, EndingOr, NoEvent, OpeningPhase, Phase, TurnStart}
@@ -27,18 +26,16 @@ use Rattle.machine_core.specs.declared.ends.End.{End}
 use Rattle.machine_core.specs.declared.ends.End.TheVariants as end
 use Rattle.machine_core.specs.declared.events.Event.{Event}
 use Rattle.machine_core.specs.declared.events.Event.TheVariants.{Ended, Opened as OpenedEvent}
-use Rattle.resume_core.proofs.Openings.{besides_none, besides_on}
-use Rattle.resume_core.specs.Openings.{KeepsBesides}
-use Rattle.stored_run.specs.Opening.{IsToResume, OpenNextRow, OpensFor, OpensJustIn, OpensOn, OpensWhere, OpensWith, StandsStill, is_checked_in, is_checked_of}
-use Rattle.stored_run.specs.RunFollows.{RunFollows}
-use Rattle.stored_run.specs.Steps.{Continues, DoesPart, DoesRow, EndsGid, EndsStored, StoresEach, turn_from}
-use Rattle.stored_run.specs.Stored.{IsStoredRun}
+use Rattle.resume_core.proofs.Openings.{besides_none}
+use Rattle.resume_core.proofs.OverWhole.{for_none, whole_kept}
+use Rattle.resume_core.specs.Openings.{is_compared}
+use Rattle.resume_core.specs.Refusals.{open_refusal}
+use Rattle.stored_run.specs.Opening.{FindsJust, HasFailed, IsDiskEnd, OpenNextRow, OpensJustIn, OpensOn, OpensWith, StandsStill, is_checked_in, is_checked_of}
+use Rattle.stored_run.specs.Steps.{Continues, DoesPart, DoesRow, turn_from}
 use Rattle.stored_run.specs.Telling.{TellsEvent}
 use Rattle.stored_run.specs.Views.{own_in}
 use Rattle.stored_run.specs.declared.run.StoredView.{StoredView}
-use Rattle.stored_run.proofs.Doing.{IsGrown, fault_in, no_counts}
-use Rattle.stored_run.proofs.Keeps.{keeps_beside, keeps_none}
-use Rattle.stored_run.proofs.Openings.{apart_opening}
+use Rattle.stored_run.proofs.Doing.{fault_in, no_counts}
 use Rattle.stored_run.proofs.PlainEvents.{gid_added}
 
 -- ---- its place
@@ -110,11 +107,18 @@ module _ {D : Type 0} (old mid : StoredView D) (still : StandsStill old mid) whe
         subst (λ (d : D). OpensOn want (is_checked_of old gid) (S d) b) same
         (subst (λ (m : MachineView). OpensOn want (is_checked_in m.start m.past gid) (S mid.disk) b) still.machine on)
 
-    pub just_still : (opened : Opened) → OpensJustIn mid gid want (S mid.disk) opened
+    just_still : (opened : Opened) → OpensJustIn mid gid want (S mid.disk) opened
         → OpensJustIn old gid want (S old.disk) opened
     just_still opened just =
         subst (λ (d : D). OpensJustIn old gid want (S d) opened) same
         (subst (λ (m : MachineView). OpensJustIn (record mid { machine = m }) gid want (S mid.disk) opened) still.machine just)
+
+    pub finds_still : (opened : Opened) → FindsJust mid gid want (S mid.disk) opened
+        → FindsJust old gid want (S old.disk) opened
+    finds_still opened finds = record {
+      allowed = subst (λ (d : D). open_refusal want (S d).seen ≡ None) same finds.allowed;
+      just = just_still opened finds.just;
+    }
 
 -- ---- the store isn't asked
 
@@ -135,64 +139,19 @@ opens_none want check disk = record {
     pieces = λ piece is. is;
     blocks = λ block is. is;
   };
+  over_whole = λ has. whole_kept want (is_compared want check) disk disk (for_none want disk);
+  refusable = λ reason each. for_none each disk;
 }
 
--- ---- other downloads
+-- ---- a fault of the disk
 
-module _ {D : Type 0} (laws : RunFollows) (tells : Bool) (faults : ℕ) (old new : StoredView D) (a b : DiskState) (gid : Gid)
-    (run : IsStoredRun tells faults a old) (told : IsTrue tells) (grown : (g : Gid) → IsGrown (own_in old g) (own_in new g))
-  where
-    -- no call of the disk
-    pub each_still : StoresEach old new a a
-    each_still g w goes kept =
-        keeps_none laws w (own_in old g) (own_in new g) a (run.wants_are.sound g w kept) (grown g)
-        (run.stored told g w goes kept)
-
-    -- calls for the files of a want that is opened
-    pub each_beside : (want : Want) → IsToResume old.machine gid want → KeepsBesides want a b → StoresEach old new a b
-    each_beside want is besides g w goes kept =
-        keeps_beside laws want w (own_in old g) (own_in new g) a a b
-        (apart_opening old.machine.start old.machine.past old.wants.items old.machine gid want refl refl run.wants_are is.has
-        is.before.opening.unopened is.apart g w goes kept)
-        (omega arith) (each_still g w goes kept) besides
-
--- ---- the opening, and the end after it
-
-module _ {D : Type 0} (S : D → DiskState) (tells : Bool) (faults : ℕ) (old mid new : StoredView D) (gid : Gid) (want : Want)
-    (is : IsToResume old.machine gid want) (on : OpensOn want (is_checked_of old gid) (S old.disk) (S mid.disk)) where
-  pub opens_not : is_opened (own_in mid gid) ≡ false → OpensFor S gid want old mid
-  opens_not shut = record {
-    has = is.has;
-    besides = on.besides;
-    came = inl (record { on = on; unopened = shut });
-  }
-
-  module _ (told : IsTrue tells) (run : IsStoredRun tells faults (S mid.disk) mid)
-      (opens : OpensWhere (λ opened. IsTrue tells → OpensJustIn old gid want (S old.disk) opened) gid want old mid) (n : ℕ)
-      (rest : Continues n mid new) (grown : IsGrown (own_in mid gid) (own_in new gid))
-      (ends : EndsGid gid mid new (S mid.disk) (S new.disk)) where
-    end_on : EndsStored want (own_in mid gid) (own_in new gid) (S mid.disk) (S new.disk)
-    end_on = (ends want opens.2.kept).kept (run.stored told gid want opens.2.going opens.2.kept)
-
-    pub besides_both : KeepsBesides want (S old.disk) (S new.disk)
-    besides_both = besides_on want (S old.disk) (S mid.disk) (S new.disk) on.besides (ends want opens.2.kept).besides
-
-    pub opens_ends : OpensFor S gid want old new
-    opens_ends = record {
-      has = is.has;
-      besides = besides_both;
-      came = inr (record {
-        opened = opens.0;
-        mid = mid.disk;
-        on = on;
-        just = opens.1 told;
-        kept = rest.wants gid want opens.2.kept;
-        later = grown.0;
-        own = grown.1 ∙ ap (λ (ys : List OwnEvent). grown.0 ++ ys) opens.2.own;
-        besides = (ends want opens.2.kept).besides;
-        ends = subst (λ (ys : List OwnEvent). EndsStored want ys (own_in new gid) (S mid.disk) (S new.disk)) opens.2.own end_on;
-      });
-    }
+pub ended_failed : {D : Type 0} (new : StoredView D) (gid : Gid) (how : End) (past : List Event)
+    → new.machine.past ≡ Ended gid how ∷ past → IsDiskEnd how → HasFailed new gid
+ended_failed new gid how past is fails = (
+  fails.0,
+  subst (λ (events : List Event). Contains events (Ended gid (end.Disk fails.0))) (sym is)
+      (0, omega arith, ap (λ (h : End). Ended gid h) fails.1),
+)
 
 -- ---- the answer
 

@@ -18,7 +18,7 @@ use Rattle.machine_core.specs.declared.events.Event.TheVariants.{Saved}
 use Rattle.resume_core.specs.Tables.{IsTableOf}
 use Rattle.stored_run.specs.Stored.{AreFaultsWithin}
 use Rattle.stored_run.specs.Views.{kept_want}
-use Rattle.stored_run.proofs.Doing.{IsGrown}
+use Rattle.stored_run.proofs.Doing.{IsGrown, either_control}
 use Rattle.stored_run.proofs.Own.{lengths_known, own_legal}
 use Rattle.stored_run.proofs.Touching.{new_fault}
 use Rattle.control_file.specs.Wants.{IsListedWant, IsWant}
@@ -100,6 +100,8 @@ module _ (laws : RunFollows) (want : Want) (own : List OwnEvent) (is : IsWant wa
           );
           sound = λ all image left.
               (sound (table_matches old may stored all) all image left).0;
+          control = either_control want (saved_listing want own) (listing_of own_table) old new besides.passes.later
+              (held (saved_listing want own) stored.held);
         };
       }
 

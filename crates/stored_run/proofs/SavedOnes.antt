@@ -21,8 +21,10 @@ use Rattle.machine_core.specs.declared.events.Event.{Event}
 use Rattle.machine_core.specs.declared.events.Event.TheVariants.{Ended, Saved}
 use Rattle.resume_core.specs.Openings.{KeepsBesides}
 use Rattle.resume_core.specs.Sharing.{share_names}
+use Rattle.resume_core.specs.Steps.{SameBesides}
+use Rattle.stored_run.specs.Leavings.{IsLeftHeld, IsLeftHeldOf}
 use Rattle.stored_run.specs.RunFollows.{RunFollows}
-use Rattle.stored_run.specs.Saves.{AreSavable, AreStoredApart, IsApartFrom, SavesKeep}
+use Rattle.stored_run.specs.Saves.{AreSavable, AreStoredApart, IsApartFrom, SavesDisk}
 use Rattle.stored_run.specs.Steps.{DoesPart, RunStays, IsStoredApart, KeepsStored, StoresGid, turn_from}
 use Rattle.stored_run.specs.Stored.{AreWantsKept, IsStored, IsStoredRun}
 use Rattle.stored_run.specs.Views.{GoesOpened, IsGoing, kept_want, kept_want_of, own_in}
@@ -32,6 +34,7 @@ use Rattle.stored_run.proofs.Endings.{ended_own}
 use Rattle.stored_run.proofs.Findings.{saved_own}
 use Rattle.stored_run.proofs.Keeps.{keeps_beside, keeps_none, keeps_on}
 use Rattle.stored_run.proofs.Kept.{going_before, own_beside, some_of, stored_beside}
+use Rattle.stored_run.proofs.Left.{any_none, any_of, any_on, for_none, for_on, held_stored, keeps_for, left_beside}
 use Rattle.stored_run.proofs.Single.{opens_none}
 use Rattle.stored_run.proofs.Touching.{same_or_apart}
 
@@ -226,7 +229,7 @@ pub record SavesSoFar {D : Type 0} (tells : Bool) (gids : List Gid) (n : ℕ) (o
   pub stored : IsTrue tells → (i : ℕ) (gid : Gid) (want : Want) → n ≤ i → slice_get gids i ≡ Some gid
       → kept_want_of old gid ≡ Some want → IsStored want (own_in old gid) after
   pub later : IsTrue tells → before.moment ≤ after.moment
-  pub keeps : IsTrue tells → SavesKeep gids old now before after
+  pub keeps : IsTrue tells → SavesDisk gids old now before after
 
 pub sofar_none : {D : Type 0} (laws : RunFollows) (tells : Bool) (faults : ℕ) (gids : List Gid) (r : StoredView D)
     (disk : DiskState) → IsStoredRun tells faults disk r → (IsTrue tells → AreStoredApart r gids disk)
@@ -238,9 +241,14 @@ sofar_none laws tells faults gids r disk run apart = record {
   going = λ gid goes. goes;
   stored = λ told i gid want past at kept. ((apart told).each i gid at).stored want kept;
   later = λ told. omega arith;
-  keeps = λ told gid want kept stored beside.
-      keeps_none laws want (own_in r gid) (own_in r gid) disk (run.wants_are.sound gid want kept)
-      (grown_none (own_in r gid)) stored;
+  keeps = λ told. record {
+    time = any_none disk;
+    others = λ other beside. for_none other disk;
+    keeps = λ gid want kept stored beside.
+        keeps_none laws want (own_in r gid) (own_in r gid) disk (run.wants_are.sound gid want kept)
+        (grown_none (own_in r gid)) stored;
+    left = λ gid want kept stored beside. held_stored want (own_in r gid) disk stored;
+  };
 }
 
 module _ {D : Type 0} (laws : RunFollows) (tells : Bool) (faults : ℕ) (gids : List Gid) (n : ℕ) (old now : StoredView D)
@@ -283,7 +291,8 @@ module _ {D : Type 0} (laws : RunFollows) (tells : Bool) (faults : ℕ) (gids : 
       apart n gid here.0 w there (λ same. other (sym same)) kept_here kept
 
   module _ (new : StoredView D) (c : DiskState) (on : RunStays now new) (wants : new.wants ≡ now.wants)
-      (came : SaveCame gid now.now now.machine.past new.machine.past) (disk : IsTrue tells → StoresGid gid now new b c) where
+      (came : SaveCame gid now.now now.machine.past new.machine.past) (disk : IsTrue tells → StoresGid gid now new b c)
+      (held : IsTrue tells → IsLeftHeldOf new gid c) where
     left : LeavesOthers now.machine.start now.machine.past gid now.wants.items new.machine.past
     left =
         leaves_others laws now.machine.start now.machine.past gid now.now now.wants.items new.machine.past run.wants_are
@@ -312,14 +321,14 @@ module _ {D : Type 0} (laws : RunFollows) (tells : Bool) (faults : ℕ) (gids : 
     keeps_others told g w other kept is apart =
         subst (λ (ys : List OwnEvent). KeepsStored w (own_in old g) ys a c) (sym (own_others g other))
         (keeps_beside laws here.0 w (own_in old g) (own_in now g) a b c (beside g w kept other apart) (sofar.later told)
-        (sofar.keeps told g w kept is apart) (besides told))
+        ((sofar.keeps told).keeps g w kept is apart) (besides told))
 
     keeps_here : IsTrue tells → (w : Want) → kept_want_of old gid ≡ Some w → IsStored w (own_in old gid) a
         → IsApartFrom gids old gid → KeepsStored w (own_in old gid) (own_in new gid) a c
     keeps_here told w kept is apart =
         keeps_on w (own_in old gid) (own_in now gid) (own_in new gid) a b c
         (subst (λ (ys : List OwnEvent). IsGrown (own_in old gid) ys) (sym own_same) (grown_none (own_in old gid)))
-        grown_new (sofar.later told) (sofar.keeps told gid w kept is apart)
+        grown_new (sofar.later told) ((sofar.keeps told).keeps gid w kept is apart)
         ((next_stored told).stored w (sofar.kept gid ∙ kept)) (disk told w (sofar.kept gid ∙ kept))
 
     pub sofar_next : SavesSoFar tells gids (n + 1) old new a c
@@ -337,14 +346,28 @@ module _ {D : Type 0} (laws : RunFollows) (tells : Bool) (faults : ℕ) (gids : 
           (beside g w kept (apart_next i g past at) ((stored told).apart i g at)) (besides told)
           (sofar.stored told i g w (omega arith) at kept);
       later = λ told. let x = sofar.later told in let y = (besides told).passes.later in omega arith;
-      keeps = λ told g w kept is apart. ⊎_elim
-          (λ (same : g ≡ gid).
-          subst
-          (λ (h : Gid). kept_want_of old h ≡ Some w → IsStored w (own_in old h) a → IsApartFrom gids old h
-          → KeepsStored w (own_in old h) (own_in new h) a c)
-          (sym same) (λ k s beside. keeps_here told w k s beside) kept is apart)
-          (λ (other : g ≢ gid). keeps_others told g w other kept is apart)
-          (same_or_apart g gid);
+      keeps = λ told. record {
+        time = any_on a b c (sofar.keeps told).time (any_of (SameBesides here.0) b c (besides told).passes);
+        others = λ other apart. for_on other a b c ((sofar.keeps told).others other apart)
+            (keeps_for laws here.0 other b c (apart n gid here.0 there kept_here) (besides told));
+        keeps = λ g w kept is apart. ⊎_elim
+            (λ (same : g ≡ gid).
+            subst
+            (λ (h : Gid). kept_want_of old h ≡ Some w → IsStored w (own_in old h) a → IsApartFrom gids old h
+            → KeepsStored w (own_in old h) (own_in new h) a c)
+            (sym same) (λ k s beside. keeps_here told w k s beside) kept is apart)
+            (λ (other : g ≢ gid). keeps_others told g w other kept is apart)
+            (same_or_apart g gid);
+        left = λ g w kept is apart. ⊎_elim
+            (λ (same : g ≡ gid).
+            subst (λ (h : Gid). kept_want_of old h ≡ Some w → IsLeftHeld w (own_in new h) c) (sym same)
+            (λ k. held told w (kept_new gid ∙ (sofar.kept gid ∙ k))) kept)
+            (λ (other : g ≢ gid).
+            subst (λ (ys : List OwnEvent). IsLeftHeld w ys c) (sym (own_others g other))
+            (left_beside laws here.0 w (own_in now g) b c (beside g w kept other apart) (besides told)
+            ((sofar.keeps told).left g w kept is apart)))
+            (same_or_apart g gid);
+      };
     }
 
 -- the event of a save that is told

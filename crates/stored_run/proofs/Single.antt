@@ -1,6 +1,6 @@
 -- What a single event of a download, and calls that only read, leave of a run and its disk.
 use Rattle.std.proofs.Common.{◌≡◌, ◌≤◌, ℕ, zero, suc, Bool, true, false, Option, Some, List, [], ◌∷◌, ◌++◌, ◌⊎◌, inl, refl, sym, ap, ◌∙◌, subst, arith}
-use Rattle.std.specs.Prelude.{◌||◌, Contains, IfSome, IsTrue, slice_get}
+use Rattle.std.specs.Prelude.{◌||◌, Contains, IfSome, IsSome, IsTrue, slice_get}
 use Rattle.control_file.specs.Wants.{IsWant}
 use Rattle.control_file.specs.declared.want.Want.{Want}
 use Rattle.dl_disk.specs.Calls.{Stays}
@@ -29,6 +29,7 @@ use Rattle.stored_run.specs.RunFollows.{RunFollows}
 use Rattle.stored_run.specs.Steps.{StoresOn}
 use Rattle.stored_run.specs.Stored.{AreFaultsWithin, IsStored, IsStoredWith, saved_listing}
 use Rattle.stored_run.specs.Views.{GoesOpened, kept_want}
+use Rattle.stored_run.proofs.Doing.{held_control}
 use Rattle.stored_run.proofs.Kept.{OpensNone, after_event, own_at, own_where}
 
 -- ---- what is done by one event or none
@@ -126,6 +127,9 @@ read_stores laws want want_is was rest old new stays passes = record {
     sound = λ sound image left.
         let from = passes.images left.0 image left.1 left.2 left.3 in
         sound_same want from.0 image (same_read want from.0 image from.2) (sound from.0 from.1).0;
+    control =
+        subst (λ (o : Option (List ℕ)). IsSome o) (sym (stays.seen (control_name want)))
+        (held_control want (saved_listing want was) old.seen old.seen (is.held old.seen old.own_image));
   };
 }
 

@@ -15,8 +15,10 @@ use Rattle.machine_core.specs.Starts.{RunStart}
 use Rattle.machine_core.specs.declared.ends.End.TheVariants as end
 use Rattle.machine_core.specs.declared.events.Event.{Event}
 use Rattle.machine_core.specs.declared.events.Event.TheVariants.{Ended}
+use Rattle.resume_core.proofs.Filed.{files_kept}
+use Rattle.resume_core.specs.States.{SamePayload}
 use Rattle.stored_run.specs.RunFollows.{RunFollows}
-use Rattle.stored_run.specs.Steps.{EndsOn, StoresOn}
+use Rattle.stored_run.specs.Steps.{EndsOn, KeepsPayload, StoresOn}
 use Rattle.stored_run.specs.Stored.{AreWantsKept}
 use Rattle.stored_run.specs.Views.{kept_want_of, own_in}
 use Rattle.stored_run.specs.declared.run.StoredView.{StoredView}
@@ -43,6 +45,19 @@ module _ {D : Type 0} (u v : StoredView D) (same : u ≡ v) where
   none_did F P f' o later is =
       subst (λ (w : StoredView D). Did (P w) w.machine.past (F w.disk) u.machine.past f' o) same
       (did_none (P u) u.machine.past (F u.disk) f' o later is)
+
+  -- its payload reads as it did, where the disk was at most read
+  pub payload_read : (S : D → DiskState) (gid : Gid) (b : DiskState) → Stays (S u.disk) b → KeepsPayload gid v (S v.disk) b
+  payload_read S gid b stays =
+      subst (λ (w : StoredView D). KeepsPayload gid w (S w.disk) b) same
+      (λ want is. files_kept want (S u.disk).seen b.seen stays.seen)
+
+  -- .. and where this is known of its want
+  pub payload_at : (S : D → DiskState) (gid : Gid) (w : Want) → kept_want_of u gid ≡ Some w → (b : DiskState)
+      → SamePayload w (S u.disk) b → KeepsPayload gid v (S v.disk) b
+  payload_at S gid w kept_w b payload =
+      subst (λ (x : StoredView D). KeepsPayload gid x (S x.disk) b) same
+      (λ want is. subst (λ (y : Want). SamePayload y (S u.disk) b) (same_Some w want (sym kept_w ∙ is)) payload)
 
   module _ (laws : RunFollows) (S : D → DiskState) (start' : RunStart) (past' : List Event) (gid : Gid)
       (kept : AreWantsKept u.machine.start u.machine.past u.wants.items) where
@@ -73,12 +88,13 @@ module _ {D : Type 0} (u v : StoredView D) (same : u ≡ v) where
         (read_stores laws want (kept.sound gid want is) (own_in u gid) grown.0 (S u.disk) b stays passes))
 
     -- what may finish it
-    pub ends_at : (w : Want) → kept_want_of u gid ≡ Some w → (b : DiskState)
-        → EndsOn w (own_in u gid) (own_of start' past' gid) (S u.disk) b
-        → (want : Want) → kept_want_of v gid ≡ Some want
-        → EndsOn want (own_in v gid) (own_of start' past' gid) (S v.disk) b
-    ends_at w kept_w b ends =
-        subst (λ (x : StoredView D). (want : Want) → kept_want_of x gid ≡ Some want
-        → EndsOn want (own_in x gid) (own_of start' past' gid) (S x.disk) b) same
-        (λ want is. subst (λ (y : Want). EndsOn y (own_in u gid) (own_of start' past' gid) (S u.disk) b)
-        (same_Some w want (sym kept_w ∙ is)) ends)
+    module _ {Whole : Type 0} where
+      pub ends_at : (w : Want) → kept_want_of u gid ≡ Some w → (b : DiskState)
+          → EndsOn w Whole (own_in u gid) (own_of start' past' gid) (S u.disk) b
+          → (want : Want) → kept_want_of v gid ≡ Some want
+          → EndsOn want Whole (own_in v gid) (own_of start' past' gid) (S v.disk) b
+      ends_at w kept_w b ends =
+          subst (λ (x : StoredView D). (want : Want) → kept_want_of x gid ≡ Some want
+          → EndsOn want Whole (own_in x gid) (own_of start' past' gid) (S x.disk) b) same
+          (λ want is. subst (λ (y : Want). EndsOn y Whole (own_in u gid) (own_of start' past' gid) (S u.disk) b)
+          (same_Some w want (sym kept_w ∙ is)) ends)

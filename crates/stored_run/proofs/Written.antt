@@ -33,6 +33,7 @@ use Rattle.span_map.specs.Jobs.{IsRun, run_end, run_start}
 use Rattle.stored_run.specs.RunFollows.{RunFollows}
 use Rattle.stored_run.specs.Steps.{StoresOn}
 use Rattle.stored_run.specs.Stored.{IsStored, saved_listing}
+use Rattle.stored_run.proofs.Doing.{held_control}
 use Rattle.stored_run.proofs.Own.{verified_within}
 use Rattle.stored_run.proofs.Unlisted.{unlanded_unlisted}
 
@@ -145,5 +146,7 @@ module _ (laws : RunFollows) (follow : BlocksFollow) (of_pieces : BlocksAreOfPie
           inl (laws.give want (saved_listing want own) new.seen image is (held stored.held image left)),
         );
         sound = λ all image left. (sound all image left).0;
+        control = held_control want (saved_listing want own) new.seen new.seen
+            (held stored.held new.seen (new.moment, later, omega arith, (new.now_left new.seen).1 new.own_image));
       };
     }

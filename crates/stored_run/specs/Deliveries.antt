@@ -12,7 +12,6 @@ use Rattle.engine_turns.specs.Phases.{AllRightPhase, AndThen, EndingOr, FindingP
 use Rattle.engine_turns.specs.declared.limits.TheConstants.{MAX_DELIVERY}
 use Rattle.engine_turns.specs.declared.outcome.Outcome.{Outcome}
 use Rattle.engine_turns.specs.declared.outcome.Outcome.TheVariants.{Went}
-use Rattle.machine_core.specs.MachineViews.{MachineView, StandsUnder}
 use Rattle.machine_core.specs.OwnParts.{PayloadLengths, own_of}
 use Rattle.machine_core.specs.Reads.{lengths_of_gid}
 use Rattle.machine_core.specs.RunLegal.{is_listed}
@@ -53,12 +52,6 @@ landed_total past = sum_by blocks_in_event past
 -- so many blocks landed between two histories
 abbrev pub LandedBetween : ℕ → (old new : List Event) → Type 0
 LandedBetween counted old new = landed_total new ≡ counted + landed_total old
-
--- ---- claims
-
--- the claim under the number is of this download
-abbrev pub IsHomeIn : MachineView → ℕ → Gid → Type 0
-IsHomeIn m id gid = (claim : Claim) × StandsUnder m id gid claim
 
 -- ---- full pieces
 

@@ -4,6 +4,7 @@ pub mod Steps
 pub mod RunFollows
 pub mod Telling
 pub mod Landings
+pub mod Leavings
 pub mod Settlings
 pub mod Deliveries
 pub mod Saves

@@ -1,12 +1,14 @@
 -- What the opening of a download does.
-use Rattle.std.specs.Prelude.{◌≡◌, ◌⊎◌, ◌≤◌, ◌+◌, ℕ, Bool, false, not, ◌==◌, Option, Some, None, List, ◌∷◌, ◌++◌, length, slice_get}
+use Rattle.std.specs.Prelude.{◌≡◌, ◌⊎◌, ◌≤◌, ◌+◌, ℕ, Bool, true, false, not, ◌==◌, Contains, IsSome, Option, Some, None, List, ◌∷◌, ◌++◌, length, slice_get}
 use Rattle.std.specs.Option.{option_map_or}
-use Rattle.control_file.specs.Wants.{IsWant}
+use Rattle.control_file.specs.Wants.{IsListedWant, IsWant}
 use Rattle.control_file.specs.declared.want.Opened.{Opened}
 use Rattle.control_file.specs.declared.want.Want.{Want}
-use Rattle.dl_disk.specs.State.{DiskState}
+use Rattle.dl_disk.specs.Files.{Files}
+use Rattle.dl_disk.specs.Passes.{Passes}
+use Rattle.dl_disk.specs.State.{DiskState, LeftSince}
 use Rattle.dl_history.specs.OwnEvents.{OwnEvent, Opens}
-use Rattle.dl_history.specs.PayloadParts.{is_opened}
+use Rattle.dl_history.specs.PayloadParts.{is_opened, is_verified_in}
 use Rattle.dl_kinds.specs.declared.gid.Gid.{Gid}
 use Rattle.engine_turns.specs.NextRows.{OpenRow}
 use Rattle.engine_turns.specs.Phases.{IsOpeningRefusal, TurnStart}
@@ -22,17 +24,20 @@ use Rattle.machine_core.specs.Starts.{Download, RunStart}
 use Rattle.machine_core.specs.declared.ends.End.{End}
 use Rattle.machine_core.specs.declared.ends.End.TheVariants as end
 use Rattle.machine_core.specs.declared.events.Event.{Event}
-use Rattle.machine_core.specs.declared.events.Event.TheVariants.{Opened as OpenedEvent}
+use Rattle.machine_core.specs.declared.events.Event.TheVariants.{Ended, Opened as OpenedEvent}
 use Rattle.option_set.specs.Values.{number_value}
 use Rattle.option_set.specs.declared.kinds.Num.TheVariants.{CheckIntegrity}
 use Rattle.payload_files.specs.Payload.{HasFiles}
-use Rattle.resume_core.specs.Openings.{HasControl, KeepsBesides, KeepsGiven, KeepsPieces, LacksControl, OpensJust, is_compared}
-use Rattle.resume_core.specs.Resume.{AreSound}
-use Rattle.resume_core.specs.States.{StaysSound}
+use Rattle.resume_core.specs.Openings.{ComesOfBefore, GivesPieces, GivesSeen, HasControl, KeepsBesides, KeepsGiven, KeepsPieces, LacksControl, OpensJust, OpensWhole, is_compared}
+use Rattle.resume_core.specs.Refusals.{open_refusal}
+use Rattle.resume_core.specs.Resume.{Agrees, AreSound, GivesAtLeast, HasDigest, Sound}
+use Rattle.resume_core.specs.States.{KeepsFor, SamePayload, StaysSound}
+use Rattle.resume_core.specs.Wants.{files_in}
 use Rattle.resume_core.specs.declared.refusing.OpenErr.{OpenErr}
 use Rattle.resume_core.specs.declared.refusing.OpenErr.TheVariants as refusal
-use Rattle.stored_run.specs.Steps.{EndsStored}
-use Rattle.stored_run.specs.Views.{IsGoing, kept_want_of, own_in}
+use Rattle.stored_run.specs.Leavings.{AnyChange, IsLeft}
+use Rattle.stored_run.specs.Steps.{EndsStored, IsLeftStored, IsLeftWhole}
+use Rattle.stored_run.specs.Views.{IsDoneOf, IsGoing, kept_want_of, own_in}
 use Rattle.stored_run.specs.declared.run.StoredView.{StoredView}
 
 -- ---- refusals
@@ -50,6 +55,10 @@ end_by_refusal refusal.NoMemory faults = None
 -- the store refused for this since so many faults of the disk
 abbrev pub IsRefusedSince : ℕ → End → Type 0
 IsRefusedSince faults how = (at : TurnStart) → at.faults ≤ faults → IsOpeningRefusal at how
+
+-- a fault of the disk ended it
+abbrev pub IsDiskEnd : End → Type 0
+IsDiskEnd how = (count : ℕ) × (how ≡ end.Disk count)
 
 -- ---- wants
 
@@ -76,14 +85,17 @@ pub record IsToResume (m : MachineView) (gid : Gid) (want : Want) : Type 0 where
 
 -- ---- the disk
 
--- What the store did with the files of a want that it opens: those of wants that share no name with it are the same; what
--- was sound is so still; and no image gives less than one gave before, where a control file stood or the files were whole.
+-- What the store did with the files of a want that it was asked to open: those of wants that share no name with it are the
+-- same; what was sound is so still; no image gives less than one gave before, where a control file stood or the files were
+-- whole; whole files stay so; and where there is a reason to refuse it, nothing changes.
 pub record OpensOn (want : Want) (check : Bool) (old new : DiskState) : Type 0 where
   pub besides : KeepsBesides want old new
   pub sound : StaysSound want old new
   pub gives : HasControl want old.seen → is_compared want check ≡ false → KeepsGiven want old new
   pub pieces : HasControl want old.seen → AreSound want old.seen old.may_leave → KeepsPieces want old new
   pub whole : LacksControl want old.seen → HasFiles want.dir want.layout old.seen → KeepsGiven want old new
+  pub over_whole : HasFiles want.dir want.layout old.seen → OpensWhole (is_compared want check) want old new
+  pub refusable : IsSome (open_refusal want old.seen) → (each : Want) → KeepsFor each old new
 
 -- ---- parts of a run
 
@@ -116,36 +128,100 @@ module _ {D : Type 0} where
   abbrev pub OpensJustIn : StoredView D → Gid → Want → DiskState → Opened → Type 0
   OpensJustIn r gid want disk = OpensJust (is_compared want (is_checked_of r gid)) want disk.seen
 
--- ---- what comes of it on a disk, by the state that each value of the disk has
+  -- .. and nothing was there for which it is refused
+  pub record FindsJust (r : StoredView D) (gid : Gid) (want : Want) (disk : DiskState) (opened : Opened) : Type 0 where
+    pub allowed : open_refusal want disk.seen ≡ None
+    pub just : OpensJustIn r gid want disk opened
 
-module _ {D : Type 0} (state : D → DiskState) where
-  -- the store was asked, and the download isn't opened
-  pub record OpensNot (gid : Gid) (want : Want) (old new : StoredView D) : Type 0 where
-    pub on : OpensOn want (is_checked_of old gid) (state old.disk) (state new.disk)
-    pub unopened : is_opened (own_in new gid) ≡ false
+  -- a fault of the disk ended the download
+  abbrev pub HasFailed : StoredView D → Gid → Type 0
+  HasFailed r gid = (count : ℕ) × Contains r.machine.past (Ended gid (end.Disk count))
 
-  -- The store opened it with just what its files gave; that was the disk at `mid`. Then the download ended, where each
-  -- wanted piece was verified: its images give what it was opened with, or its payload stands whole.
-  pub record OpensThenEnds (gid : Gid) (want : Want) (old new : StoredView D) : Type 0 where
+-- ---- what a crash leaves of it
+
+module _ {D : Type 0} where
+  -- The download is opened with just what its files gave, and from the image an opening gives just what a save lists, or
+  -- what one would.
+  pub record IsLeftOpened (gid : Gid) (want : Want) (old new : StoredView D) (before : DiskState) (image : Files) : Type 0
+    where
+      pub opened : Opened
+      pub just : OpensJustIn old gid want before opened
+      pub stored : IsLeftStored want (own_opened old gid opened) (own_in new gid) image
+
+  -- .. or it is opened, and its payload stands whole
+  abbrev pub IsLeftEnded : Gid → Want → (old new : StoredView D) → (before after : DiskState) → Files → Type 0
+  IsLeftEnded gid want old new before after image =
+      IsLeftOpened gid want old new before image
+      ⊎ ((is_opened (own_in new gid) ≡ true) × IsLeftWhole want (IsDoneOf new gid) (own_in new gid) before after image)
+
+  -- the files of an image from before, or a control file that gives what was found, or what is left of the download
+  abbrev pub IsLeftTried : Gid → Want → (old new : StoredView D) → (before after : DiskState) → Files → Type 0
+  IsLeftTried gid want old new before after image =
+      ComesOfBefore want before image
+      ⊎ GivesSeen (is_compared want (is_checked_of old gid)) want before.seen image
+      ⊎ IsLeftEnded gid want old new before after image
+
+  -- The download is opened, with just what its files gave, and is left as its saves say. No other that goes on shares a
+  -- name with it.
+  pub record OpensAs (gid : Gid) (want : Want) (old new : StoredView D) (before after : DiskState) : Type 0 where
     pub opened : Opened
-    pub mid : D
-    pub on : OpensOn want (is_checked_of old gid) (state old.disk) (state mid)
-    pub just : OpensJustIn old gid want (state old.disk) opened
-    pub kept : kept_want_of new gid ≡ Some want
+    pub just : OpensJustIn old gid want before opened
     pub later : List OwnEvent
     pub own : own_in new gid ≡ later ++ own_opened old gid opened
-    pub besides : KeepsBesides want (state mid) (state new.disk)
-    pub ends : EndsStored want (own_opened old gid opened) (own_in new gid) (state mid) (state new.disk)
+    pub kept : kept_want_of new gid ≡ Some want
+    pub left : IsLeft new gid want after
+    pub apart : SharesNoName old.machine gid
 
-  -- the store was asked to open the download, whose want this is
-  pub record OpensFor (gid : Gid) (want : Want) (old new : StoredView D) : Type 0 where
+  -- The store was asked to open the download. No image gives less than one gave before, and whole files stay so, with the
+  -- payload that they had, but for what is left of the download itself, where it is opened; what was sound is so still.
+  -- Where the disk reads no control file of what is opened, each verified piece has its digest.
+  pub record TriesWant (gid : Gid) (want : Want) (old new : StoredView D) (before after : DiskState) : Type 0 where
+    pub refusable : open_refusal want before.seen ≡ None
+    pub images : HasFiles want.dir want.layout before.seen → (image : Files) → LeftSince after before.moment image
+        → IsLeftTried gid want old new before after image
+    pub gives : HasControl want before.seen → is_compared want (is_checked_of old gid) ≡ false
+        → (image : Files) → LeftSince after before.moment image
+        → GivesAtLeast want before.may_leave image ⊎ IsLeftEnded gid want old new before after image
+    pub pieces : HasControl want before.seen → AreSound want before.seen before.may_leave
+        → (image : Files) → LeftSince after before.moment image
+        → GivesPieces want before.may_leave image ⊎ IsLeftEnded gid want old new before after image
+    pub sound : AreSound want before.seen before.may_leave
+        → (image : Files) → LeftSince after before.moment image → Sound want image
+    pub agrees : AreSound want before.seen before.may_leave
+        → (image : Files) → after.may_leave image → Agrees want after.seen image
+    pub files : HasFiles want.dir want.layout before.seen → HasFiles want.dir want.layout after.seen
+    pub payload : HasFiles want.dir want.layout before.seen → SamePayload want before after
+    pub opened : is_opened (own_in new gid) ≡ true → OpensAs gid want old new before after
+    pub right : is_opened (own_in new gid) ≡ true → LacksControl want after.seen
+        → AreSound want before.seen before.may_leave → IsListedWant want → (p : ℕ)
+        → is_verified_in (own_in new gid) p ≡ true → HasDigest want (files_in want after.seen) p
+
+  -- the files of the download may have been changed: it is opened, or the disk failed at it, or memory ran out
+  abbrev pub IsTouched : StoredView D → Gid → Said → Type 0
+  IsTouched r gid said = (is_opened (own_in r gid) ≡ true) ⊎ HasFailed r gid ⊎ (said ≡ NoMemory)
+
+  -- no file changed, and the download isn't opened
+  abbrev pub StaysUnopened : Gid → StoredView D → (before after : DiskState) → Type 0
+  StaysUnopened gid new before after =
+      ((other : Want) → KeepsFor other before after) × (is_opened (own_in new gid) ≡ false)
+
+  -- The store was asked to open the download, and its files may have been changed; none of a want that shares no name with
+  -- it were.
+  pub record AsksStore (gid : Gid) (old new : StoredView D) (said : Said) (before after : DiskState) : Type 0 where
+    pub want : Want
+    pub sound : IsWant want
     pub has : HasWant old.machine.start old.machine.past gid want
-    pub besides : KeepsBesides want (state old.disk) (state new.disk)
-    pub came : OpensNot gid want old new ⊎ OpensThenEnds gid want old new
+    pub touched : IsTouched new gid said
+    pub besides : KeepsBesides want before after
+    pub tries : TriesWant gid want old new before after
 
-  -- .. or, for a clash or want of memory, it wasn't asked
-  abbrev pub OpensGid : Gid → (old new : StoredView D) → Type 0
-  OpensGid gid old new = (new.disk ≡ old.disk) ⊎ ((want : Want) × OpensFor gid want old new)
+  -- No file changed, or the store was asked. Each download that went on goes on, and is stored.
+  pub record OpensDisk (gid : Gid) (old new : StoredView D) (said : Said) (before after : DiskState) : Type 0 where
+    pub time : Passes AnyChange before after
+    pub each : (g : Gid) (want : Want) → IsGoing old g → kept_want_of old g ≡ Some want
+        → EndsStored want (IsDoneOf new g) (own_in old g) (own_in new g) before after
+    pub left : (g : Gid) (want : Want) → IsGoing old g → kept_want_of old g ≡ Some want → IsLeft new g want after
+    pub came : StaysUnopened gid new before after ⊎ AsksStore gid old new said before after
 
 -- ---- the operation
 

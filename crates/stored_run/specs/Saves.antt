@@ -2,6 +2,7 @@
 use Rattle.std.specs.Prelude.{◌≡◌, ◌≢◌, ◌⊎◌, ◌&&◌, ◌||◌, ℕ, Bool, true, false, not, Option, Some, List, map, slice_get}
 use Rattle.std.specs.Option.{option_and_then, option_map_or}
 use Rattle.control_file.specs.declared.want.Want.{Want}
+use Rattle.dl_disk.specs.Passes.{Passes}
 use Rattle.dl_disk.specs.State.{DiskState}
 use Rattle.dl_history.specs.OwnLegal.{MaySave}
 use Rattle.dl_history.specs.PayloadParts.{is_opened}
@@ -23,6 +24,8 @@ use Rattle.machine_core.specs.RunLegal.{goes_on_in}
 use Rattle.machine_core.specs.Starts.{RunStart}
 use Rattle.machine_core.specs.declared.events.Event.{Event}
 use Rattle.resume_core.specs.Sharing.{share_names}
+use Rattle.resume_core.specs.States.{KeepsFor}
+use Rattle.stored_run.specs.Leavings.{AnyChange, IsLeftHeld}
 use Rattle.stored_run.specs.Steps.{IsStoredApart, KeepsStored}
 use Rattle.stored_run.specs.Stored.{IsStored}
 use Rattle.stored_run.specs.Views.{kept_want_of, own_in}
@@ -124,3 +127,22 @@ module _ {D : Type 0} where
   SavesKeep gids old new before after =
       (gid : Gid) (want : Want) → kept_want_of old gid ≡ Some want → IsStored want (own_in old gid) before
       → IsApartFrom gids old gid → KeepsStored want (own_in old gid) (own_in new gid) before after
+
+  -- .. and what is left of it after them
+  abbrev pub SavesLeave : List Gid → (old new : StoredView D) → (before after : DiskState) → Type 0
+  SavesLeave gids old new before after =
+      (gid : Gid) (want : Want) → kept_want_of old gid ≡ Some want → IsStored want (own_in old gid) before
+      → IsApartFrom gids old gid → IsLeftHeld want (own_in new gid) after
+
+  -- none of these shares a name with the want
+  abbrev pub AreBeside : List Gid → StoredView D → Want → Type 0
+  AreBeside gids r other =
+      (i : ℕ) (gid : Gid) (want : Want) → slice_get gids i ≡ Some gid → kept_want_of r gid ≡ Some want
+      → share_names want other ≡ false
+
+  -- what the saves of these did on the disk
+  pub record SavesDisk (gids : List Gid) (old new : StoredView D) (before after : DiskState) : Type 0 where
+    pub time : Passes AnyChange before after
+    pub others : (other : Want) → AreBeside gids old other → KeepsFor other before after
+    pub keeps : SavesKeep gids old new before after
+    pub left : SavesLeave gids old new before after

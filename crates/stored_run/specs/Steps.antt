@@ -1,10 +1,12 @@
 -- What the parts of a turn do, from one state of a run and its disk to the next.
-use Rattle.std.specs.Prelude.{◌≡◌, ◌≢◌, ◌⊎◌, ◌+◌, ◌≤◌, ℕ, false, Contains, List, ◌++◌, Some}
+use Rattle.std.specs.Prelude.{◌≡◌, ◌≢◌, ◌⊎◌, ◌+◌, ◌≤◌, ℕ, false, true, Contains, List, ◌++◌, Some}
+use Rattle.control_file.specs.Wants.{IsListedWant}
 use Rattle.control_file.specs.declared.want.Want.{Want}
 use Rattle.dl_disk.specs.Files.{Files}
 use Rattle.dl_disk.specs.State.{DiskState, LeftSince}
 use Rattle.dl_history.specs.Listings.{listing_in}
 use Rattle.dl_history.specs.OwnEvents.{OwnEvent}
+use Rattle.dl_history.specs.PayloadParts.{is_verified_in}
 use Rattle.dl_kinds.specs.declared.gid.Gid.{Gid}
 use Rattle.durable_progress.specs.Held.{GivesListing}
 use Rattle.engine_turns.specs.Phases.{Did, Phase, TurnStart}
@@ -15,12 +17,14 @@ use Rattle.engine_turns.specs.declared.outcome.Outcome.{Outcome}
 use Rattle.machine_core.specs.declared.ends.End.TheVariants as end
 use Rattle.machine_core.specs.declared.events.Event.{Event}
 use Rattle.machine_core.specs.declared.events.Event.TheVariants.{Ended}
-use Rattle.resume_core.specs.Openings.{KeepsBesides}
-use Rattle.resume_core.specs.Resume.{AreSound, Sound}
+use Rattle.resume_core.specs.Openings.{HasControl, KeepsBesides, LacksControl}
+use Rattle.resume_core.specs.Resume.{AreSound, HasDigest, Sound}
 use Rattle.resume_core.specs.Sharing.{share_names}
+use Rattle.resume_core.specs.States.{SamePayload}
 use Rattle.resume_core.specs.Steps.{IsFinished}
+use Rattle.resume_core.specs.Wants.{files_in}
 use Rattle.stored_run.specs.Stored.{IsStored, saved_listing}
-use Rattle.stored_run.specs.Views.{IsGoing, kept_want_of, own_in}
+use Rattle.stored_run.specs.Views.{IsDoneOf, IsGoing, kept_want_of, own_in}
 use Rattle.stored_run.specs.declared.run.StoredView.{StoredView}
 
 -- ---- what a crash leaves of one download
@@ -44,26 +48,39 @@ IsLeftStored want old new image =
     (between : List OwnEvent) × IsBetween old between new × GivesSaved want between image
 
 -- From one state of the disk to the next, while a download that is stored went from one history to another: each image
--- since gives what was saved at some moment, and is sound where all were.
+-- since gives what was saved at some moment, and is sound where all were; and the disk reads its control file.
 pub record KeepsStored (want : Want) (was own : List OwnEvent) (old new : DiskState) : Type 0 where
   pub images : (image : Files) → LeftSince new old.moment image → IsLeftStored want was own image
   pub sound : AreSound want old.seen old.may_leave → (image : Files) → LeftSince new old.moment image → Sound want image
+  pub control : HasControl want new.seen
 
 -- .. and the files of wants that share no name with it are the same
 pub record StoresOn (want : Want) (was own : List OwnEvent) (old new : DiskState) : Type 0 where
   pub besides : KeepsBesides want old new
   pub kept : IsStored want was old → KeepsStored want was own old new
 
--- The same, but that in some images the payload may stand whole without its control file. Nothing of the download comes
--- after that.
-pub record EndsStored (want : Want) (was own : List OwnEvent) (old new : DiskState) : Type 0 where
-  pub images : (image : Files) → LeftSince new old.moment image
-      → IsLeftStored want was own image ⊎ IsFinished want new.seen image
-  pub sound : AreSound want old.seen old.may_leave → (image : Files) → LeftSince new old.moment image → Sound want image
+-- The payload stands whole without its control file: each wanted piece is verified, and where all images were sound each
+-- verified piece has its digest.
+pub record IsLeftWhole (want : Want) (Whole : Type 0) (own : List OwnEvent) (old new : DiskState) (image : Files) : Type 0
+  where
+    pub verified : Whole
+    pub finished : IsFinished want new.seen image
+    pub right : AreSound want old.seen old.may_leave → IsListedWant want → (p : ℕ) → is_verified_in own p ≡ true
+        → HasDigest want (files_in want new.seen) p
 
-pub record EndsOn (want : Want) (was own : List OwnEvent) (old new : DiskState) : Type 0 where
+-- From one state of the disk to the next, while the download may have ended: each image since gives what was saved at some
+-- moment, or the payload stands whole. Nothing of the download comes after that. Where the disk reads no control file any
+-- more, each verified piece has its digest.
+pub record EndsStored (want : Want) (Whole : Type 0) (was own : List OwnEvent) (old new : DiskState) : Type 0 where
+  pub images : (image : Files) → LeftSince new old.moment image
+      → IsLeftStored want was own image ⊎ IsLeftWhole want Whole own old new image
+  pub sound : AreSound want old.seen old.may_leave → (image : Files) → LeftSince new old.moment image → Sound want image
+  pub right : LacksControl want new.seen → AreSound want old.seen old.may_leave → IsListedWant want → (p : ℕ)
+      → is_verified_in own p ≡ true → HasDigest want (files_in want new.seen) p
+
+pub record EndsOn (want : Want) (Whole : Type 0) (was own : List OwnEvent) (old new : DiskState) : Type 0 where
   pub besides : KeepsBesides want old new
-  pub kept : IsStored want was old → EndsStored want was own old new
+  pub kept : IsStored want was old → EndsStored want Whole was own old new
 
 -- ---- a part of a turn
 
@@ -97,7 +114,13 @@ module _ {D : Type 0} where
   -- .. where that may finish it
   abbrev pub EndsGid : Gid → (old new : StoredView D) → (before after : DiskState) → Type 0
   EndsGid gid old new before after =
-      (want : Want) → kept_want_of old gid ≡ Some want → EndsOn want (own_in old gid) (own_in new gid) before after
+      (want : Want) → kept_want_of old gid ≡ Some want
+      → EndsOn want (IsDoneOf new gid) (own_in old gid) (own_in new gid) before after
+
+  -- the payload of a download that is opened reads as it did
+  abbrev pub KeepsPayload : Gid → StoredView D → (before after : DiskState) → Type 0
+  KeepsPayload gid r before after =
+      (want : Want) → kept_want_of r gid ≡ Some want → SamePayload want before after
 
   -- what it kept on the disk of each download that went on
   abbrev pub StoresEach : (old new : StoredView D) → (before after : DiskState) → Type 0

@@ -4,8 +4,9 @@ ghost use Rattle.engine_turns.specs.CallRows.{CallRow, LeaveRow, is_starved};
 ghost use Rattle.machine_core.specs.Answers.{applied_by};
 ghost use Rattle.machine_core.specs.LawfulCalls.{IsLawful};
 ghost use Rattle.machine_core.specs.declared.events.Event.TheVariants.{Called};
+ghost use Rattle.stored_run.specs.Leavings.{LeavesDisk};
 ghost use Rattle.stored_run.specs.Saves.{TellsOnly, UnlessStarved};
-ghost use Rattle.stored_run.specs.Steps.{Continues, DoesRow, RunStays, StoresEach};
+ghost use Rattle.stored_run.specs.Steps.{Continues, DoesRow, RunStays};
 
 use crate::StoredRun;
 use crate::following::runs_follow;
@@ -51,11 +52,11 @@ impl<D: Disk> StoredRun<D> {
         ensures row { DoesRow (λ at s. UnlessStarved (CallRow at s session call)) self.old
             (D.faults self.old.disk) self.new (D.faults self.new.disk) result }
         ensures on { RunStays self.old self.new }
-        ensures disk { IsTrue D.tells → StoresEach self.old self.new
+        ensures leaves { IsTrue D.tells → LeavesDisk self.old self.new
             (D.state self.old.disk) (D.state self.new.disk) }
     {
         runs_follow();
-        self.tells_kept();
+        self.tells_stored();
         let Ok(was) = self.statuses() else {
             return Said::NoMemory;
         };
@@ -86,6 +87,8 @@ impl<D: Disk> StoredRun<D> {
             self.new (D.faults self.new.disk) result }
         ensures on { Continues 0 self.old self.new }
         ensures disk { self.new.disk ≡ self.old.disk }
+        ensures leaves { IsTrue D.tells → LeavesDisk self.old self.new
+            (D.state self.old.disk) (D.state self.new.disk) }
     {
         runs_follow();
         if self.machine.doors() == 0 {

@@ -1,5 +1,5 @@
 // Claims that fail, and probes that tell a length.
-ghost use Rattle.std.specs.Prelude.{◌≡◌, ◌≤◌, false, true, IsTrue, Some};
+ghost use Rattle.std.specs.Prelude.{◌≡◌, ◌≢◌, ◌≤◌, false, true, IsTrue, Some};
 ghost use Rattle.dl_history.specs.PayloadParts.{is_ended, is_sole_in, told_total};
 ghost use Rattle.dl_history.specs.StandingClaims.{is_probe};
 ghost use Rattle.engine_turns.specs.ClaimRows.{LoseRow, SizedRow, TellingPhase, lost_piece, sole_phase};
@@ -11,9 +11,10 @@ ghost use Rattle.machine_core.specs.RunLegal.{MayFollow, download_in};
 ghost use Rattle.machine_core.specs.Starts.{Download};
 ghost use Rattle.machine_core.specs.TurnRooms.{HasTurnMarkRoom};
 ghost use Rattle.machine_core.specs.declared.events.Event.TheVariants as event;
+ghost use Rattle.stored_run.specs.Leavings.{IsLeftOf, LeavesDisk};
 ghost use Rattle.stored_run.specs.Steps.{Continues, DoesPart, DoesRow, StoresGid};
 ghost use Rattle.stored_run.specs.Telling.{ClaimGoes, StaysAdded, TellsEvent, loss_phase_of, too_long_phase};
-ghost use Rattle.stored_run.specs.Views.{own_in};
+ghost use Rattle.stored_run.specs.Views.{IsGoing, own_in};
 
 use crate::StoredRun;
 use crate::following::runs_follow;
@@ -83,6 +84,8 @@ impl<D: Disk> StoredRun<D> {
         ensures disk { self.new.disk ≡ self.old.disk }
         ensures stores { IsTrue D.tells → StoresGid gid self.old self.new
             (D.state self.old.disk) (D.state self.new.disk) }
+        ensures left { IsGoing self.old gid → result ≢ Went → IsTrue D.tells
+            → IsLeftOf self.new gid (D.state self.new.disk) }
         ensures still { result ≡ Went → self.new ≡ self.old }
     {
         runs_follow();
@@ -110,7 +113,7 @@ impl<D: Disk> StoredRun<D> {
         plan_laws();
         runs_follow();
         // The loss may come by what holds of every run.
-        self.tells_kept();
+        self.tells_stored();
         let (piece, sole) = self.failing_piece(gid, claim);
         self.tell_loss(gid, claim, piece, mark);
         self.clear_sole(gid, piece, sole);
@@ -126,6 +129,8 @@ impl<D: Disk> StoredRun<D> {
             (D.faults self.old.disk) self.new (D.faults self.new.disk) result }
         ensures on { Continues 3 self.old self.new }
         ensures disk { self.new.disk ≡ self.old.disk }
+        ensures leaves { IsTrue D.tells → LeavesDisk self.old self.new
+            (D.state self.old.disk) (D.state self.new.disk) }
     {
         runs_follow();
         let Some((gid, granted)) = self.machine.claim(claim) else {
@@ -183,7 +188,7 @@ impl<D: Disk> StoredRun<D> {
     {
         runs_follow();
         // Its download goes on by what holds of every run.
-        self.tells_kept();
+        self.tells_stored();
         self.tell_size(gid, claim, total);
         self.end_where_too_long(gid, total)
     }
@@ -196,6 +201,8 @@ impl<D: Disk> StoredRun<D> {
             (D.faults self.old.disk) self.new (D.faults self.new.disk) result }
         ensures on { Continues 2 self.old self.new }
         ensures disk { self.new.disk ≡ self.old.disk }
+        ensures leaves { IsTrue D.tells → LeavesDisk self.old self.new
+            (D.state self.old.disk) (D.state self.new.disk) }
     {
         runs_follow();
         let Some((gid, granted)) = self.machine.claim(claim) else {

@@ -1,7 +1,6 @@
 // Blocks of a claim are delivered.
 ghost use Rattle.std.specs.Prelude.{◌≡◌, ◌≤◌, ◌<◌, ◌+◌, ◌*◌, ℕ, Contains, IsTrue, MatchBool, length, sum_by};
 ghost use Rattle.dl_kinds.specs.declared.runs.Run.{Run};
-ghost use Rattle.dl_kinds.specs.declared.gid.Gid.{Gid};
 ghost use Rattle.engine_turns.specs.ClaimRows.{DeliverRow, DeliveryPhase, DueSavePhase, IsKept, IsSaveDue};
 ghost use Rattle.engine_turns.specs.Phases.{EndingOr};
 ghost use Rattle.engine_turns.specs.Standings.{AnswersUnlessStarved, OfClaim};
@@ -9,7 +8,8 @@ ghost use Rattle.engine_turns.specs.declared.operations.Said.TheVariants.{Kept};
 ghost use Rattle.machine_core.specs.Claiming.{AreOpenIn};
 ghost use Rattle.machine_core.specs.MachineViews.{StandsUnder, standing_in};
 ghost use Rattle.machine_core.specs.Reads.{lengths_of_gid};
-ghost use Rattle.stored_run.specs.Deliveries.{AreBlocksOf, AreUnsettled, Delivers, FollowsSince, IsHomeIn, IsRunOfPayload, LandedBetween};
+ghost use Rattle.stored_run.specs.Deliveries.{AreBlocksOf, AreUnsettled, Delivers, FollowsSince, IsRunOfPayload, LandedBetween};
+ghost use Rattle.stored_run.specs.Leavings.{IsLeftOf, LeavesDisk};
 ghost use Rattle.stored_run.specs.Settlings.{OfDownload};
 ghost use Rattle.stored_run.specs.Steps.{Continues, DoesPart, DoesRow, EndsGid, turn_from};
 ghost use Rattle.stored_run.specs.Views.{IsGoing, own_in};
@@ -86,7 +86,7 @@ impl<D: Disk> StoredRun<D> {
     {
         plan_laws();
         runs_follow();
-        self.tells_kept();
+        self.tells_stored();
         if !are_blocks_of(claim.run, run) {
             return false;
         }
@@ -129,9 +129,10 @@ impl<D: Disk> StoredRun<D> {
         ensures on { Continues 1 self.old self.new }
         ensures disk { IsTrue D.tells → EndsGid gid self.old self.new
             (D.state self.old.disk) (D.state self.new.disk) }
+        ensures left { IsTrue D.tells → IsLeftOf self.new gid (D.state self.new.disk) }
     {
         runs_follow();
-        self.tells_kept();
+        self.tells_stored();
         if self.is_save_due(gid) {
             self.save_one(gid)
         } else {
@@ -149,9 +150,10 @@ impl<D: Disk> StoredRun<D> {
         ensures on { Continues 2 self.old self.new }
         ensures disk { IsTrue D.tells → EndsGid gid self.old self.new
             (D.state self.old.disk) (D.state self.new.disk) }
+        ensures left { IsTrue D.tells → IsLeftOf self.new gid (D.state self.new.disk) }
     {
         runs_follow();
-        self.tells_kept();
+        self.tells_stored();
         if self.is_done(gid) {
             self.complete(gid)
         } else {
@@ -173,12 +175,13 @@ impl<D: Disk> StoredRun<D> {
         ensures counted { LandedBetween 0 self.old.machine.past self.new.machine.past }
         ensures disk { IsTrue D.tells → EndsGid gid self.old self.new
             (D.state self.old.disk) (D.state self.new.disk) }
+        ensures left { IsTrue D.tells → IsLeftOf self.new gid (D.state self.new.disk) }
     {
         plan_laws();
         runs_follow();
-        self.tells_kept();
+        self.tells_stored();
         self.fill(gid, run, full);
-        self.tells_kept();
+        self.tells_stored();
         self.end_or_save(gid)
     }
 
@@ -204,15 +207,16 @@ impl<D: Disk> StoredRun<D> {
         ensures counted { LandedBetween result.0 self.old.machine.past self.new.machine.past }
         ensures disk { IsTrue D.tells → EndsGid gid self.old self.new
             (D.state self.old.disk) (D.state self.new.disk) }
+        ensures left { IsTrue D.tells → IsLeftOf self.new gid (D.state self.new.disk) }
     {
         plan_laws();
         runs_follow();
-        self.tells_kept();
+        self.tells_stored();
         let full = self.full_pieces(gid, run);
         let (counted, outcome) = self.land_all(gid, claim, run, open_runs, bytes);
         match outcome {
             Outcome::Went => {
-                self.tells_kept();
+                self.tells_stored();
                 (counted, self.follow(gid, run, &full))
             }
             outcome => (counted, outcome),
@@ -229,12 +233,12 @@ impl<D: Disk> StoredRun<D> {
             (λ at s. IsKept at s download claim run)
             self.old (D.faults self.old.disk) self.new (D.faults self.new.disk) result) }
         ensures on { Continues DELIVERY_EVENTS self.old self.new }
-        ensures disk { IsTrue D.tells → EndsGid gid self.old self.new
+        ensures leaves { IsTrue D.tells → LeavesDisk self.old self.new
             (D.state self.old.disk) (D.state self.new.disk) }
     {
         plan_laws();
         runs_follow();
-        self.tells_kept();
+        self.tells_stored();
         let open_runs = self.machine.new_blocks(claim.id, run);
         let open = block_count(&open_runs);
         let repeated = run.count - open;
@@ -249,11 +253,11 @@ impl<D: Disk> StoredRun<D> {
         ensures row { DoesRow (λ at s. OfClaim at s claim (DeliverRow at s run bytes.now)) self.old
             (D.faults self.old.disk) self.new (D.faults self.new.disk) result }
         ensures on { Continues DELIVERY_EVENTS self.old self.new }
-        ensures disk { IsTrue D.tells → (gid : Gid) → IsHomeIn self.old.machine claim gid
-            → EndsGid gid self.old self.new (D.state self.old.disk) (D.state self.new.disk) }
+        ensures leaves { IsTrue D.tells → LeavesDisk self.old self.new
+            (D.state self.old.disk) (D.state self.new.disk) }
     {
         runs_follow();
-        self.tells_kept();
+        self.tells_stored();
         let Some((gid, granted)) = self.machine.claim(claim) else {
             return Said::Void;
         };

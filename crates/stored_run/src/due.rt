@@ -87,7 +87,7 @@ impl<D: Disk> StoredRun<D> {
         ensures { MatchBool result (HasOpenedUnsaved self.entry.now gid)
             (¬ HasOpenedUnsaved self.entry.now gid) }
     {
-        self.tells_kept();
+        self.tells_stored();
         self.machine.table(gid).is_some() && self.machine.unsaved(gid)
     }
 
@@ -96,7 +96,7 @@ impl<D: Disk> StoredRun<D> {
         ensures { MatchBool result (IsDueOff was.now self.entry.now gid)
             (¬ IsDueOff was.now self.entry.now gid) }
     {
-        self.tells_kept();
+        self.tells_stored();
         match self.machine.place(gid) {
             Some(place) => {
                 is_off(status_then(was, place), self.machine.status(gid)) && self.is_unsaved(gid)

@@ -1,5 +1,5 @@
 // The end of a download.
-ghost use Rattle.std.specs.Prelude.{◌≡◌, ◌≤◌, ◌∷◌, [], false, IfNone, IfSome, IsTrue, MatchBool, Some, true};
+ghost use Rattle.std.specs.Prelude.{◌≡◌, ◌≢◌, ◌≤◌, ◌∷◌, [], false, IfNone, IfSome, IsTrue, MatchBool, Some, true};
 ghost use Rattle.dl_history.specs.PayloadParts.{is_opened, last_check};
 ghost use Rattle.engine_turns.specs.Phases.{AfterDisk, CheckedPhase, CompletionPhase, EndAfterDisk, EndingOr, JustEnd, NoEvent};
 ghost use Rattle.engine_turns.specs.declared.outcome.Outcome.TheVariants.{Went};
@@ -8,8 +8,9 @@ ghost use Rattle.machine_core.specs.declared.ends.End.TheVariants as end;
 ghost use Rattle.machine_core.specs.declared.events.Event.TheVariants.{Checked, Ended};
 ghost use Rattle.option_set.specs.Values.{text_of_word};
 ghost use Rattle.option_set.specs.declared.kinds.Word.TheVariants as word;
+ghost use Rattle.stored_run.specs.Leavings.{IsLeftOf};
 ghost use Rattle.stored_run.specs.Settlings.{IsDone, IsTruly, MayBeCheckedBy, OfDownload, OfWant, SpellsCheckOf};
-ghost use Rattle.stored_run.specs.Steps.{Continues, DoesPart, EndsGid, StoresGid};
+ghost use Rattle.stored_run.specs.Steps.{Continues, DoesPart, EndsGid, KeepsPayload, StoresGid};
 ghost use Rattle.stored_run.specs.Views.{IsGoing, own_in};
 
 use crate::StoredRun;
@@ -42,7 +43,7 @@ impl<D: Disk> StoredRun<D> {
         ensures none { OfDownload self.entry.now gid (λ download.
             IfNone result (has_checksum download ≡ false)) }
     {
-        self.tells_kept();
+        self.tells_stored();
         if self.want(gid)?.info_hash.is_some() {
             return None;
         }
@@ -61,6 +62,10 @@ impl<D: Disk> StoredRun<D> {
         ensures on { Continues 1 self.old self.new }
         ensures disk { IsTrue D.tells → StoresGid gid self.old self.new
             (D.state self.old.disk) (D.state self.new.disk) }
+        ensures payload { IsTrue D.tells → KeepsPayload gid self.old
+            (D.state self.old.disk) (D.state self.new.disk) }
+        ensures left { result.1 ≢ Went → IsTrue D.tells
+            → IsLeftOf self.new gid (D.state self.new.disk) }
         ensures still { result.1 ≡ Went → IsGoing self.new gid }
         ensures truly { result.1 ≡ Went → IsTrue D.tells → OfWant self.old gid
             (λ want. IsTruly result.0 check.now want (D.state self.old.disk).seen) }
@@ -94,6 +99,9 @@ impl<D: Disk> StoredRun<D> {
         ensures on { Continues 1 self.old self.new }
         ensures disk { IsTrue D.tells → EndsGid gid self.old self.new
             (D.state self.old.disk) (D.state self.new.disk) }
+        ensures payload { IsTrue D.tells → KeepsPayload gid self.old
+            (D.state self.old.disk) (D.state self.new.disk) }
+        ensures left { IsTrue D.tells → IsLeftOf self.new gid (D.state self.new.disk) }
     {
         runs_follow();
         same_files_give_the_same();
@@ -105,8 +113,8 @@ impl<D: Disk> StoredRun<D> {
                 Outcome::Over
             }
             Err(StoreErr::Disk) => {
-                let count = self.disk.faults();
-                self.machine.ended(gid, End::Disk { count });
+                let faults = self.disk.faults();
+                self.machine.ended(gid, End::Disk { count: faults });
                 Outcome::Over
             }
             Err(StoreErr::NoMemory) => Outcome::Starved,
@@ -123,6 +131,10 @@ impl<D: Disk> StoredRun<D> {
         ensures on { Continues 1 self.old self.new }
         ensures disk { IsTrue D.tells → EndsGid gid self.old self.new
             (D.state self.old.disk) (D.state self.new.disk) }
+        ensures payload { IsTrue D.tells → KeepsPayload gid self.old
+            (D.state self.old.disk) (D.state self.new.disk) }
+        ensures left { IsGoing self.old gid → IsTrue D.tells
+            → IsLeftOf self.new gid (D.state self.new.disk) }
     {
         runs_follow();
         self.machine.ended(gid, End::Checksum);
@@ -140,9 +152,12 @@ impl<D: Disk> StoredRun<D> {
         ensures on { Continues 1 self.old self.new }
         ensures disk { IsTrue D.tells → EndsGid gid self.old self.new
             (D.state self.old.disk) (D.state self.new.disk) }
+        ensures payload { IsTrue D.tells → KeepsPayload gid self.old
+            (D.state self.old.disk) (D.state self.new.disk) }
+        ensures left { IsTrue D.tells → IsLeftOf self.new gid (D.state self.new.disk) }
     {
         runs_follow();
-        self.tells_kept();
+        self.tells_stored();
         if right {
             self.finish_one(gid)
         } else {
@@ -160,13 +175,16 @@ impl<D: Disk> StoredRun<D> {
         ensures on { Continues 2 self.old self.new }
         ensures disk { IsTrue D.tells → EndsGid gid self.old self.new
             (D.state self.old.disk) (D.state self.new.disk) }
+        ensures payload { IsTrue D.tells → KeepsPayload gid self.old
+            (D.state self.old.disk) (D.state self.new.disk) }
+        ensures left { IsTrue D.tells → IsLeftOf self.new gid (D.state self.new.disk) }
     {
         runs_follow();
-        self.tells_kept();
+        self.tells_stored();
         let (right, outcome) = self.check_whole(gid, check);
         match outcome {
             Outcome::Went => {
-                self.tells_kept();
+                self.tells_stored();
                 self.end_checked(gid, right)
             }
             outcome => outcome,
@@ -184,9 +202,12 @@ impl<D: Disk> StoredRun<D> {
         ensures on { Continues 2 self.old self.new }
         ensures disk { IsTrue D.tells → EndsGid gid self.old self.new
             (D.state self.old.disk) (D.state self.new.disk) }
+        ensures payload { IsTrue D.tells → KeepsPayload gid self.old
+            (D.state self.old.disk) (D.state self.new.disk) }
+        ensures left { IsTrue D.tells → IsLeftOf self.new gid (D.state self.new.disk) }
     {
         runs_follow();
-        self.tells_kept();
+        self.tells_stored();
         match self.checksum(gid) {
             Some(check) => self.complete_checked(gid, &check),
             None => self.finish_one(gid),
@@ -203,9 +224,12 @@ impl<D: Disk> StoredRun<D> {
         ensures on { Continues 2 self.old self.new }
         ensures disk { IsTrue D.tells → EndsGid gid self.old self.new
             (D.state self.old.disk) (D.state self.new.disk) }
+        ensures payload { IsTrue D.tells → KeepsPayload gid self.old
+            (D.state self.old.disk) (D.state self.new.disk) }
+        ensures left { IsTrue D.tells → IsLeftOf self.new gid (D.state self.new.disk) }
     {
         runs_follow();
-        self.tells_kept();
+        self.tells_stored();
         if self.is_done(gid) {
             self.complete(gid)
         } else {

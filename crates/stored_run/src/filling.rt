@@ -99,7 +99,7 @@ impl<D: Disk> StoredRun<D> {
         ensures untouched { self.new.disk ≡ self.old.disk }
     {
         runs_follow();
-        self.tells_kept();
+        self.tells_stored();
         if marked {
             return false;
         }
@@ -127,10 +127,10 @@ impl<D: Disk> StoredRun<D> {
         ensures untouched { self.new.disk ≡ self.old.disk }
     {
         runs_follow();
-        self.tells_kept();
+        self.tells_stored();
         let (first, last) = self.pieces_of_run(gid, run);
         for piece in first..last + 1 {
-            self.tells_kept();
+            self.tells_stored();
             let marked = is_marked(full, (piece - first) as usize);
             self.count_if_filled(gid, piece, marked);
         }
@@ -146,7 +146,7 @@ impl<D: Disk> StoredRun<D> {
         ensures none { result ≡ false → OfWant self.entry.now gid
             (λ want. want.info_hash ≡ None) }
     {
-        self.tells_kept();
+        self.tells_stored();
         self.want(gid).unwrap().info_hash.is_some()
     }
 
@@ -167,7 +167,7 @@ impl<D: Disk> StoredRun<D> {
         ensures untouched { self.new.disk ≡ self.old.disk }
     {
         runs_follow();
-        self.tells_kept();
+        self.tells_stored();
         if !self.has_digests(gid) {
             self.count_filled(gid, run, full);
         }

@@ -6,8 +6,8 @@ use durable_progress::{steps_hold, wants_are_apart};
 use engine_turns::{active_downloads_are_going, downloads_go_on_once};
 use machine_core::{downloads_are_legal, downloads_stay, wants_stay};
 
-// It does nothing when it runs.
-pub(crate) fn runs_follow()
+/// What the runs on a disk follow. It does nothing when it runs.
+pub fn runs_follow()
     ensures { RunFollows }
 {
     accounts_match_events();

@@ -9,8 +9,9 @@ ghost use Rattle.machine_core.specs.Reads.{downloads_in, lengths_of_gid};
 ghost use Rattle.machine_core.specs.RunLegal.{is_listed};
 ghost use Rattle.stored_run.specs.Beginnings.{IsRoomier};
 ghost use Rattle.stored_run.specs.Granting.{IsLongAsPiece, IsPlaceOfClaim, MakesClaim, MayBeGiven, MayGiveBlocks, MayGiveProbe, UngivenRow};
+ghost use Rattle.stored_run.specs.Leavings.{LeavesDisk};
 ghost use Rattle.stored_run.specs.Settlings.{IsToBeSettled, OfDownload, ReadsPieceOf};
-ghost use Rattle.stored_run.specs.Steps.{Continues, DoesRow, EndsGid};
+ghost use Rattle.stored_run.specs.Steps.{Continues, DoesRow};
 ghost use Rattle.stored_run.specs.Views.{IsGoing};
 
 use crate::StoredRun;
@@ -46,6 +47,8 @@ impl<D: Disk> StoredRun<D> {
         ensures offered { IfOk result
             (IsOfferedNow self.old.machine handed.now.pieces limits.now self.old.now.0) }
         ensures may { IfOk result (MayBeGiven self.new) }
+        ensures leaves { IsTrue D.tells → LeavesDisk self.old self.new
+            (D.state self.old.disk) (D.state self.new.disk) }
         ensures same { IsRoomier self.old self.new }
     {
         runs_follow();
@@ -65,6 +68,8 @@ impl<D: Disk> StoredRun<D> {
             (IsClaimAt gid worker mirror run victim self.old.now) }
         ensures event { IfOk result (λ id.
             MakesClaim gid worker mirror run victim id self.old self.new) }
+        ensures leaves { IsTrue D.tells → LeavesDisk self.old self.new
+            (D.state self.old.disk) (D.state self.new.disk) }
         ensures same { OnErr result (IsRoomier self.old self.new) }
     {
         runs_follow();
@@ -87,10 +92,12 @@ impl<D: Disk> StoredRun<D> {
             MakesClaim gid worker mirror run victim given.0 self.old self.new) }
         ensures job { OfDownload self.old gid (λ download. IfOk result (λ given.
             IsJobOf (lengths_of_gid self.old.machine gid) download.subject mirror run given.1)) }
+        ensures leaves { IsTrue D.tells → LeavesDisk self.old self.new
+            (D.state self.old.disk) (D.state self.new.disk) }
         ensures same { OnErr result (IsRoomier self.old self.new) }
     {
         runs_follow();
-        self.tells_kept();
+        self.tells_stored();
         let job = self.job(gid, mirror, run)?;
         let claim = self.claim(gid, worker, mirror, run, victim)?;
         Ok((claim, job))
@@ -109,8 +116,12 @@ impl<D: Disk> StoredRun<D> {
             MakesClaim gid worker mirror no_blocks None given.0 self.old self.new) }
         ensures url { OfDownload self.old gid (λ download. IfOk result (λ given.
             given.1 ≡ mirror_url download.subject mirror)) }
+        ensures leaves { IsTrue D.tells → LeavesDisk self.old self.new
+            (D.state self.old.disk) (D.state self.new.disk) }
         ensures same { OnErr result (IsRoomier self.old self.new) }
     {
+        runs_follow();
+        self.tells_stored();
         let url = Text::of(self.alloc, self.mirror_url(gid, mirror))?;
         let run = Run { first: 0, count: 0 };
         let claim = self.claim(gid, worker, mirror, run, None)?;
@@ -133,7 +144,7 @@ impl<D: Disk> StoredRun<D> {
         ensures row { IfErr result (DoesRow (UngivenRow gid piece)
             self.old (D.faults self.old.disk) self.new (D.faults self.new.disk)) }
         ensures on { Continues 6 self.old self.new }
-        ensures disk { IsTrue D.tells → EndsGid gid self.old self.new
+        ensures leaves { IsTrue D.tells → LeavesDisk self.old self.new
             (D.state self.old.disk) (D.state self.new.disk) }
     {
         if self.has_digests(gid) {

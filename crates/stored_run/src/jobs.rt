@@ -6,7 +6,7 @@ ghost use Rattle.machine_core.specs.MachineParts.{subject_of_event};
 ghost use Rattle.machine_core.specs.Reads.{IsOpenedGid, lengths_of_gid};
 ghost use Rattle.machine_core.specs.RunLegal.{download_in};
 ghost use Rattle.machine_core.specs.Starts.{Download, Subject};
-ghost use Rattle.span_map.specs.Jobs.{IsRun, run_end, run_start};
+ghost use Rattle.span_map.specs.Jobs.{IsJob, IsRun, run_end, run_start};
 ghost use Rattle.stored_run.specs.Settlings.{OfDownload, OfWant};
 
 use crate::StoredRun;
@@ -76,6 +76,7 @@ fn whole_job(alloc: Global, plan: Plan, run: Run, url: &str) -> Result<Job, Allo
       len = run_end plan run - run_start plan run;
       total = plan.total;
     } ∷ []) }
+    ensures sound { IfOk result IsJob }
 {
     plan_laws();
     let (start, _) = plan.block_span(run.first);
@@ -109,7 +110,7 @@ impl<D: Disk> StoredRun<D> {
         ensures { OfDownload self.entry.now gid (λ download. IfOk result
             (IsJobOf (lengths_of_gid self.entry.now.machine gid) download.subject mirror run)) }
     {
-        self.tells_kept();
+        self.tells_stored();
         let want = self.want(gid).unwrap();
         let url = self.mirror_url(gid, mirror);
         if want.info_hash.is_some() {

@@ -1,5 +1,5 @@
 // Blocks that came are written and counted.
-ghost use Rattle.std.specs.Prelude.{◌≡◌, ◌≤◌, ◌∷◌, [], length, IsTrue};
+ghost use Rattle.std.specs.Prelude.{◌≡◌, ◌≢◌, ◌≤◌, ◌∷◌, [], length, IsTrue};
 ghost use Rattle.dl_kinds.specs.Plan.{IsPlan};
 ghost use Rattle.engine_turns.specs.Phases.{AfterDisk, LandingsPhase};
 ghost use Rattle.engine_turns.specs.declared.outcome.Outcome.TheVariants.{Went};
@@ -10,6 +10,7 @@ ghost use Rattle.machine_core.specs.RunLegal.{MayFollow};
 ghost use Rattle.machine_core.specs.declared.events.Event.TheVariants as event;
 ghost use Rattle.stored_run.specs.Deliveries.{Delivers, IsPartOf, IsRangeOf, IsRunOfPayload, LandedBetween};
 ghost use Rattle.stored_run.specs.Landings.{HasRunLen, HoldsRunOf, IsOneUnder};
+ghost use Rattle.stored_run.specs.Leavings.{IsLeftOf};
 ghost use Rattle.stored_run.specs.Steps.{Continues, DoesPart, StoresGid};
 ghost use Rattle.stored_run.specs.Views.{IsGoing, own_in};
 
@@ -38,6 +39,8 @@ impl<D: Disk> StoredRun<D> {
         ensures on { Continues 1 self.old self.new }
         ensures disk { IsTrue D.tells → StoresGid gid self.old self.new
             (D.state self.old.disk) (D.state self.new.disk) }
+        ensures left { result ≢ Went → IsTrue D.tells
+            → IsLeftOf self.new gid (D.state self.new.disk) }
         ensures written { result ≡ Went → IsTrue D.tells → HoldsRunOf gid run bytes.now self.old
             (D.state self.old.disk) (D.state self.new.disk) }
     {
@@ -68,7 +71,7 @@ impl<D: Disk> StoredRun<D> {
         ensures plan { IsPlan (lengths_of_gid self.entry.now.machine gid).total
             (lengths_of_gid self.entry.now.machine gid).piece_len }
     {
-        self.tells_kept();
+        self.tells_stored();
         self.want(gid).unwrap().plan
     }
 
@@ -105,6 +108,8 @@ impl<D: Disk> StoredRun<D> {
         ensures on { Continues 1 self.old self.new }
         ensures disk { IsTrue D.tells → StoresGid gid self.old self.new
             (D.state self.old.disk) (D.state self.new.disk) }
+        ensures left { result ≢ Went → IsTrue D.tells
+            → IsLeftOf self.new gid (D.state self.new.disk) }
     {
         let (from, to) = self.part_range(gid, run, part);
         self.land_one(gid, claim, part, &bytes[from..to])
@@ -131,13 +136,15 @@ impl<D: Disk> StoredRun<D> {
         ensures on { Continues (length open_runs.now) self.old self.new }
         ensures disk { IsTrue D.tells → StoresGid gid self.old self.new
             (D.state self.old.disk) (D.state self.new.disk) }
+        ensures left { result.1 ≢ Went → IsTrue D.tells
+            → IsLeftOf self.new gid (D.state self.new.disk) }
         ensures counted { LandedBetween result.0 self.old.machine.past self.new.machine.past }
     {
         runs_follow();
-        self.tells_kept();
+        self.tells_stored();
         let mut counted = 0;
         for place in 0..open_runs.len() {
-            self.tells_kept();
+            self.tells_stored();
             let part = open_runs.get(place).unwrap();
             match self.land_part(gid, claim, run, part, bytes) {
                 Outcome::Went => counted += part.count,

@@ -22,4 +22,5 @@ mod settling;
 mod stopping;
 
 pub use delivering::DELIVERY_EVENTS;
+pub use following::runs_follow;
 pub use run::{StoredRun, StoredView};

@@ -1,18 +1,22 @@
 // The opening of downloads.
-ghost use Rattle.std.specs.Prelude.{◌≡◌, ◌≢◌, ◌<◌, ◌≤◌, [], false, IfErr, IfOk, IfSome, IsTrue, OnErr, OnOk, Some, length, slice_set};
+ghost use Rattle.std.specs.Prelude.{◌≡◌, ◌≢◌, ◌<◌, ◌≤◌, ◌⊎◌, [], false, IfErr, IfOk, IfSome, IsSome, IsTrue, OnErr, OnOk, Some, length, slice_set};
 ghost use Rattle.dl_history.specs.PayloadParts.{is_opened};
 ghost use Rattle.engine_turns.specs.Phases.{AndThen, EndingOr, NoEvent, OpeningPhase};
-ghost use Rattle.engine_turns.specs.declared.outcome.Outcome.TheVariants.{Went};
+ghost use Rattle.engine_turns.specs.Standings.{AnswersUnlessStarved};
+ghost use Rattle.engine_turns.specs.declared.operations.Said.{Said as Answer};
+ghost use Rattle.engine_turns.specs.declared.operations.Said.TheVariants.{Done};
+ghost use Rattle.engine_turns.specs.declared.outcome.Outcome.TheVariants.{Over, Went};
 ghost use Rattle.machine_core.specs.Claiming.{next_to_open};
 ghost use Rattle.machine_core.specs.MachineViews.{place_in};
 ghost use Rattle.machine_core.specs.Reads.{downloads_in};
 ghost use Rattle.machine_core.specs.RunLegal.{MayFollow, disk_fault_of};
 ghost use Rattle.machine_core.specs.declared.events.Event.TheVariants.{Ended};
 ghost use Rattle.resume_core.specs.Openings.{AreOpenedIn, AreOpenedRows};
-ghost use Rattle.stored_run.specs.Opening.{HoldsPlace, IsRefusedSince, IsToResume, OpenNextRow, OpensFor, OpensGid, OpensJustIn, OpensOn, OpensWhere, OpensWith, StandsStill, end_by_refusal, is_checked_of};
+ghost use Rattle.resume_core.specs.Refusals.{open_refusal};
+ghost use Rattle.stored_run.specs.Opening.{FindsJust, HasFailed, HoldsPlace, IsDiskEnd, IsRefusedSince, IsToResume, OpenNextRow, OpensDisk, OpensOn, OpensWhere, OpensWith, StandsStill, end_by_refusal, is_checked_of};
 ghost use Rattle.stored_run.specs.Saves.{TellsOnly};
 ghost use Rattle.stored_run.specs.Settlings.{OfDownload};
-ghost use Rattle.stored_run.specs.Steps.{Continues, DoesPart, DoesRow, StoresEach};
+ghost use Rattle.stored_run.specs.Steps.{Continues, DoesPart, DoesRow};
 ghost use Rattle.stored_run.specs.Telling.{TellsEvent};
 ghost use Rattle.stored_run.specs.Views.{own_in};
 
@@ -93,13 +97,15 @@ impl<D: Disk> StoredRun<D> {
             (D.state self.old.disk) (D.state self.new.disk) }
         ensures rows { IfOk result (AreOpenedRows want.now) }
         ensures opened { IfOk result (λ opened. IsTrue D.tells
-            → OpensJustIn self.old gid want.now (D.state self.old.disk) opened) }
+            → FindsJust self.old gid want.now (D.state self.old.disk) opened) }
         ensures listed { IfOk result (λ opened. IsTrue D.tells → AreOpenedIn want.now opened
             (D.state self.new.disk).seen (D.state self.new.disk).may_leave) }
         ensures may { IfErr result (λ end. IfSome end (λ how.
             MayFollow self.old.machine.start self.old.machine.past (Ended gid how))) }
         ensures refused { IfErr result (λ end. IfSome end
             (IsRefusedSince (D.faults self.old.disk))) }
+        ensures reason { IfErr result (λ end. IfSome end (λ how. IsTrue D.tells → IsDiskEnd how
+            ⊎ IsSome (open_refusal want.now (D.state self.old.disk).seen))) }
         ensures fault { IfErr result (λ end. IfSome end (λ how.
             IfSome (disk_fault_of (Ended gid how)) (λ count. count ≤ D.faults self.new.disk))) }
         ensures later { D.faults self.old.disk ≤ D.faults self.new.disk }
@@ -163,12 +169,14 @@ impl<D: Disk> StoredRun<D> {
         ensures disk { IsTrue D.tells → OpensOn want (is_checked_of self.old gid)
             (D.state self.old.disk) (D.state self.new.disk) }
         ensures opened { result ≡ Went → OpensWhere (λ opened. IsTrue D.tells
-            → OpensJustIn self.old gid want (D.state self.old.disk) opened)
+            → FindsJust self.old gid want (D.state self.old.disk) opened)
             gid want self.old self.new }
         ensures shut { result ≢ Went → is_opened (own_in self.new gid) ≡ false }
+        ensures reason { result ≡ Over → IsTrue D.tells → HasFailed self.new gid
+            ⊎ IsSome (open_refusal want (D.state self.old.disk).seen) }
     {
         runs_follow();
-        self.tells_kept();
+        self.tells_stored();
         let place = self.machine.place(gid).unwrap();
         if self.hold_place(place).is_err() {
             return Outcome::Starved;
@@ -179,7 +187,7 @@ impl<D: Disk> StoredRun<D> {
                 Err(NoMemory) => Outcome::Starved,
             },
             Err(Some(end)) => {
-                self.tells_kept();
+                self.tells_stored();
                 self.end_unopened(gid, end);
                 Outcome::Over
             }
@@ -195,15 +203,14 @@ impl<D: Disk> StoredRun<D> {
             (λ at. AndThen (OpeningPhase at download.gid) (EndingOr at download NoEvent))
             self.old (D.faults self.old.disk) self.new (D.faults self.new.disk) result) }
         ensures on { Continues 3 self.old self.new }
-        ensures disk { IsTrue D.tells → OpensFor D.state gid want self.old self.new }
-        ensures each { IsTrue D.tells → StoresEach self.old self.new
-            (D.state self.old.disk) (D.state self.new.disk) }
+        ensures leaves { IsTrue D.tells → (said : Answer) → AnswersUnlessStarved Done result said
+            → OpensDisk gid self.old self.new said (D.state self.old.disk) (D.state self.new.disk) }
     {
         runs_follow();
-        self.tells_kept();
+        self.tells_stored();
         match self.resume_one(gid, want) {
             Outcome::Went => {
-                self.tells_kept();
+                self.tells_stored();
                 self.end_if_done(gid)
             }
             outcome => outcome,
@@ -219,12 +226,11 @@ impl<D: Disk> StoredRun<D> {
         ensures row { DoesRow (OpenNextRow gid) self.old (D.faults self.old.disk)
             self.new (D.faults self.new.disk) result }
         ensures on { Continues 3 self.old self.new }
-        ensures disk { IsTrue D.tells → OpensGid D.state gid self.old self.new }
-        ensures each { IsTrue D.tells → StoresEach self.old self.new
+        ensures leaves { IsTrue D.tells → OpensDisk gid self.old self.new result
             (D.state self.old.disk) (D.state self.new.disk) }
     {
         runs_follow();
-        self.tells_kept();
+        self.tells_stored();
         let Ok(clash) = self.machine.clash(self.alloc, gid) else {
             return Said::NoMemory;
         };

@@ -2,6 +2,7 @@
 ghost use Rattle.std.specs.Prelude.{◌≡◌, ◌≤◌, IfSome, length, option_copied};
 ghost use Rattle.control_file.specs.Wants.{IsWant};
 ghost use Rattle.machine_core.specs.Reads.{downloads_in};
+ghost use Rattle.stored_run.specs.Stored.{IsStoredRun};
 ghost use Rattle.stored_run.specs.Views.{kept_want, kept_want_of};
 
 use crate::following::runs_follow;
@@ -54,6 +55,14 @@ impl<D: Disk> StoredRun<D> {
         ensures { result.now ≡ self.entry.now.machine }
     {
         &self.machine
+    }
+
+    /// What the type keeps, told as a fact before and after a call.
+    pub fn tells_stored(&self)
+        ensures { IsStoredRun D.tells (D.faults self.entry.now.disk)
+            (D.state self.entry.now.disk) self.entry.now }
+    {
+        let _ = self.machine.doors();
     }
 
     // What the disk is to keep of a download that is opened.

@@ -2,7 +2,8 @@
 ghost use Rattle.std.specs.Prelude.{◌≡◌, ◌≤◌, [], IsTrue, true};
 ghost use Rattle.dl_history.specs.OwnLegal.{MaySave};
 ghost use Rattle.engine_turns.specs.Phases.{SavePhase, SavesPhase};
-ghost use Rattle.stored_run.specs.Saves.{AreSavable, AreStoredApart, SavesKeep, TellsOnly};
+ghost use Rattle.stored_run.specs.Leavings.{IsLeftHeldOf};
+ghost use Rattle.stored_run.specs.Saves.{AreSavable, AreStoredApart, SavesDisk, TellsOnly};
 ghost use Rattle.stored_run.specs.Steps.{DoesPart, RunStays, IsStoredApart, StoresGid};
 ghost use Rattle.stored_run.specs.Views.{own_in};
 
@@ -31,9 +32,10 @@ impl<D: Disk> StoredRun<D> {
         ensures wants { self.new.wants ≡ self.old.wants }
         ensures disk { IsTrue D.tells → StoresGid gid self.old self.new
             (D.state self.old.disk) (D.state self.new.disk) }
+        ensures held { IsTrue D.tells → IsLeftHeldOf self.new gid (D.state self.new.disk) }
     {
         runs_follow();
-        self.tells_kept();
+        self.tells_stored();
         if self.make_room() {
             self.save_one(gid)
         } else {
@@ -49,13 +51,13 @@ impl<D: Disk> StoredRun<D> {
         ensures did { DoesPart (λ at. SavesPhase at gids.now) self.old (D.faults self.old.disk)
             self.new (D.faults self.new.disk) result }
         ensures on { RunStays self.old self.new }
-        ensures disk { IsTrue D.tells → SavesKeep gids.now self.old self.new
+        ensures disk { IsTrue D.tells → SavesDisk gids.now self.old self.new
             (D.state self.old.disk) (D.state self.new.disk) }
     {
         runs_follow();
-        self.tells_kept();
+        self.tells_stored();
         for at in 0..gids.len() {
-            self.tells_kept();
+            self.tells_stored();
             let gid = gids[at];
             if let Outcome::Starved = self.save_next(gid) {
                 return Outcome::Starved;

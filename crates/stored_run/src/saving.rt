@@ -2,6 +2,7 @@
 ghost use Rattle.std.specs.Prelude.{◌≡◌, ◌≤◌, IsTrue};
 ghost use Rattle.dl_history.specs.OwnLegal.{MaySave};
 ghost use Rattle.engine_turns.specs.Phases.{SavePhase};
+ghost use Rattle.stored_run.specs.Leavings.{IsLeftHeldOf, IsLeftOf};
 ghost use Rattle.stored_run.specs.Steps.{Continues, DoesPart, IsStoredApart, StoresGid};
 ghost use Rattle.stored_run.specs.Views.{own_in};
 
@@ -27,6 +28,8 @@ impl<D: Disk> StoredRun<D> {
         ensures wants { self.new.wants ≡ self.old.wants }
         ensures disk { IsTrue D.tells → StoresGid gid self.old self.new
             (D.state self.old.disk) (D.state self.new.disk) }
+        ensures left { IsTrue D.tells → IsLeftOf self.new gid (D.state self.new.disk) }
+        ensures held { IsTrue D.tells → IsLeftHeldOf self.new gid (D.state self.new.disk) }
     {
         runs_follow();
         let want = want_of(&self.machine, &self.wants, gid).unwrap();

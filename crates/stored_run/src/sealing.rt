@@ -1,5 +1,5 @@
 // Full pieces are read, settled by their digests, and count as right where their download has none.
-ghost use Rattle.std.specs.Prelude.{◌≡◌, ◌≤◌, [], false, IfErr, IfOk, IsTrue, None, OnOk, true};
+ghost use Rattle.std.specs.Prelude.{◌≡◌, ◌≢◌, ◌≤◌, [], false, IfErr, IfOk, IsTrue, None, OnOk, true};
 ghost use Rattle.std.specs.Str.{bytes_eq};
 ghost use Rattle.dl_disk.specs.Files.{IsSame};
 ghost use Rattle.engine_turns.specs.Phases.{AfterDisk, AndThen, EndingOr, NoEvent, SettlingPhase};
@@ -10,6 +10,7 @@ ghost use Rattle.engine_turns.specs.declared.outcome.Outcome.TheVariants.{Went};
 ghost use Rattle.machine_core.specs.MachineViews.{IsFindingOf, IsNext, mark_spare_in};
 ghost use Rattle.machine_core.specs.Reads.{IsPieceOfGid, lengths_of_gid};
 ghost use Rattle.stored_run.specs.Granting.{IsLongAsPiece};
+ghost use Rattle.stored_run.specs.Leavings.{IsLeftOf, LeavesDisk};
 ghost use Rattle.stored_run.specs.Settlings.{CountedRow, HasItsDigest, IsListedDigest, IsSettledBetween, IsToBeSettled, OfDownload, OfWant, ReadsPieceOf, SealedRow, SettlesIfSame, UnreadRow, has_digest_in};
 ghost use Rattle.stored_run.specs.Views.{IsGoing};
 ghost use Rattle.stored_run.specs.Steps.{Continues, DoesPart, DoesRow, EndsGid, StoresGid};
@@ -69,6 +70,8 @@ impl<D: Disk> StoredRun<D> {
         ensures on { Continues 1 self.old self.new }
         ensures disk { IsTrue D.tells → StoresGid gid self.old self.new
             (D.state self.old.disk) (D.state self.new.disk) }
+        ensures left { result ≢ Went → IsTrue D.tells
+            → IsLeftOf self.new gid (D.state self.new.disk) }
         ensures read { result ≡ Went → IsTrue D.tells
             → ReadsPieceOf self.old gid piece (D.state self.old.disk).seen into.new.items }
         ensures len { result ≡ Went
@@ -106,12 +109,13 @@ impl<D: Disk> StoredRun<D> {
         ensures on { Continues 6 self.old self.new }
         ensures disk { IsTrue D.tells → EndsGid gid self.old self.new
             (D.state self.old.disk) (D.state self.new.disk) }
+        ensures left { IsTrue D.tells → IsLeftOf self.new gid (D.state self.new.disk) }
     {
         runs_follow();
-        self.tells_kept();
+        self.tells_stored();
         match self.settle(gid, piece, right) {
             Outcome::Went => {
-                self.tells_kept();
+                self.tells_stored();
                 self.end_if_done(gid)
             }
             outcome => outcome,
@@ -126,7 +130,7 @@ impl<D: Disk> StoredRun<D> {
             result ≡ has_listed_digest download.subject sealed.now) }
         ensures digest { result ≡ true → IsListedDigest self.entry.now gid sealed.now }
     {
-        self.tells_kept();
+        self.tells_stored();
         has_its_digest(&self.want(gid).unwrap().digests, sealed)
     }
 
@@ -147,6 +151,7 @@ impl<D: Disk> StoredRun<D> {
         ensures on { Continues 6 self.old self.new }
         ensures disk { IsTrue D.tells → EndsGid gid self.old self.new
             (D.state self.old.disk) (D.state self.new.disk) }
+        ensures left { IsTrue D.tells → IsLeftOf self.new gid (D.state self.new.disk) }
     {
         let right = self.is_right(gid, sealed);
         self.settle_and_end(gid, sealed.piece(), right)
@@ -165,9 +170,10 @@ impl<D: Disk> StoredRun<D> {
         ensures on { Continues 6 self.old self.new }
         ensures disk { IsTrue D.tells → EndsGid gid self.old self.new
             (D.state self.old.disk) (D.state self.new.disk) }
+        ensures left { IsTrue D.tells → IsLeftOf self.new gid (D.state self.new.disk) }
     {
         runs_follow();
-        self.tells_kept();
+        self.tells_stored();
         if are_sealed(sealed, bytes) {
             done_unless_starved(self.settle_sealed(gid, sealed))
         } else {
@@ -185,7 +191,7 @@ impl<D: Disk> StoredRun<D> {
         ensures row { DoesRow (SealedRow gid sealed.now)
             self.old (D.faults self.old.disk) self.new (D.faults self.new.disk) result }
         ensures on { Continues 7 self.old self.new }
-        ensures disk { IsTrue D.tells → EndsGid gid self.old self.new
+        ensures leaves { IsTrue D.tells → LeavesDisk self.old self.new
             (D.state self.old.disk) (D.state self.new.disk) }
         ensures settled { IsTrue D.tells
             → IsSettledBetween self.old.machine.past self.new.machine.past gid sealed.now.piece
@@ -196,11 +202,11 @@ impl<D: Disk> StoredRun<D> {
             sealed.now.bytes }
     {
         runs_follow();
-        self.tells_kept();
+        self.tells_stored();
         let mut bytes = Vec::new(self.alloc);
         match self.read_into(gid, sealed.piece(), &mut bytes) {
             Outcome::Went => {
-                self.tells_kept();
+                self.tells_stored();
                 self.settle_if_same(gid, sealed, &bytes)
             }
             outcome => done_unless_starved(outcome),
@@ -220,12 +226,17 @@ impl<D: Disk> StoredRun<D> {
         ensures row { IfErr result (DoesRow (UnreadRow gid)
             self.old (D.faults self.old.disk) self.new (D.faults self.new.disk)) }
         ensures on { Continues 1 self.old self.new }
-        ensures disk { IsTrue D.tells → StoresGid gid self.old self.new
+        ensures leaves { IsTrue D.tells → LeavesDisk self.old self.new
             (D.state self.old.disk) (D.state self.new.disk) }
     {
+        runs_follow();
+        self.tells_stored();
         let mut bytes = Vec::new(self.alloc);
         match self.read_into(gid, piece, &mut bytes) {
-            Outcome::Went => Ok(Blob::wrap(bytes)),
+            Outcome::Went => {
+                self.tells_stored();
+                Ok(Blob::wrap(bytes))
+            }
             outcome => Err(done_unless_starved(outcome)),
         }
     }
@@ -239,9 +250,11 @@ impl<D: Disk> StoredRun<D> {
         ensures row { DoesRow (CountedRow gid piece)
             self.old (D.faults self.old.disk) self.new (D.faults self.new.disk) result }
         ensures on { Continues 6 self.old self.new }
-        ensures disk { IsTrue D.tells → EndsGid gid self.old self.new
+        ensures leaves { IsTrue D.tells → LeavesDisk self.old self.new
             (D.state self.old.disk) (D.state self.new.disk) }
     {
+        runs_follow();
+        self.tells_stored();
         done_unless_starved(self.settle_and_end(gid, piece, true))
     }
 }

@@ -1,13 +1,13 @@
 // Pieces are found right or wrong.
-ghost use Rattle.std.specs.Prelude.{◌≡◌, ◌≤◌, false, IsTrue, true};
+ghost use Rattle.std.specs.Prelude.{◌≡◌, ◌≢◌, ◌≤◌, false, IsTrue, true};
 ghost use Rattle.engine_turns.specs.Phases.{DeadPhase, FindingPhase, SettlingPhase, UnlistingPhase, WrongPhase, JustEvent};
 ghost use Rattle.engine_turns.specs.declared.outcome.Outcome.TheVariants.{Went};
 ghost use Rattle.machine_core.specs.MachineViews.{IsFindingOf, IsNext, mark_spare_in};
 ghost use Rattle.machine_core.specs.Reads.{IsPieceUnlisted};
 ghost use Rattle.machine_core.specs.declared.events.Event.TheVariants.{Cleared};
+ghost use Rattle.stored_run.specs.Leavings.{IsLeftOf};
 ghost use Rattle.stored_run.specs.Settlings.{HasItsDigest, IsFoundWrong, OfDownload};
 ghost use Rattle.stored_run.specs.Steps.{Continues, DoesPart, StoresGid};
-ghost use Rattle.stored_run.specs.Stored.{IsStoredRun};
 ghost use Rattle.stored_run.specs.Views.{IsGoing};
 
 use crate::StoredRun;
@@ -18,14 +18,6 @@ use engine_turns::Outcome;
 use machine_core::End;
 
 impl<D: Disk> StoredRun<D> {
-    // What the type keeps, told as a fact between two parts.
-    pub(crate) fn tells_kept(&self)
-        ensures { IsStoredRun D.tells (D.faults self.entry.now.disk)
-            (D.state self.entry.now.disk) self.entry.now }
-    {
-        let _ = self.machine.doors();
-    }
-
     // A piece is found right or wrong.
     pub(crate) fn find(&mut self, gid: Gid, piece: u32, right: bool)
         requires going { IsGoing self.old gid }
@@ -56,6 +48,8 @@ impl<D: Disk> StoredRun<D> {
         ensures on { Continues 1 self.old self.new }
         ensures disk { IsTrue D.tells → StoresGid gid self.old self.new
             (D.state self.old.disk) (D.state self.new.disk) }
+        ensures left { result ≢ Went → IsTrue D.tells
+            → IsLeftOf self.new gid (D.state self.new.disk) }
         ensures still { result ≡ Went → IsFoundWrong self.new gid piece }
         ensures unlisted { result ≡ Went → IsPieceUnlisted self.new.machine gid piece }
     {
@@ -94,14 +88,16 @@ impl<D: Disk> StoredRun<D> {
         ensures on { Continues 3 self.old self.new }
         ensures disk { IsTrue D.tells → StoresGid gid self.old self.new
             (D.state self.old.disk) (D.state self.new.disk) }
+        ensures left { result ≢ Went → IsTrue D.tells
+            → IsLeftOf self.new gid (D.state self.new.disk) }
         ensures still { result ≡ Went → IsGoing self.new gid }
     {
         runs_follow();
         match self.unlist(gid, piece) {
             Outcome::Went => {
-                self.tells_kept();
+                self.tells_stored();
                 self.clear(gid, piece);
-                self.tells_kept();
+                self.tells_stored();
                 self.end_where_dead(gid, piece)
             }
             outcome => outcome,
@@ -122,12 +118,14 @@ impl<D: Disk> StoredRun<D> {
         ensures on { Continues 4 self.old self.new }
         ensures disk { IsTrue D.tells → StoresGid gid self.old self.new
             (D.state self.old.disk) (D.state self.new.disk) }
+        ensures left { result ≢ Went → IsTrue D.tells
+            → IsLeftOf self.new gid (D.state self.new.disk) }
         ensures still { result ≡ Went → IsGoing self.new gid }
         ensures untouched { right ≡ true → self.new.disk ≡ self.old.disk }
     {
         runs_follow();
         self.find(gid, piece, right);
-        self.tells_kept();
+        self.tells_stored();
         if right {
             Outcome::Went
         } else {

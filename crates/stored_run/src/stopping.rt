@@ -5,8 +5,9 @@ ghost use Rattle.engine_turns.specs.CallRows.{StopRow, stop_events};
 ghost use Rattle.engine_turns.specs.Standings.{AnswersUnlessStarved};
 ghost use Rattle.engine_turns.specs.declared.operations.Said.TheVariants.{Done};
 ghost use Rattle.machine_core.specs.RunLegal.{is_stop};
+ghost use Rattle.stored_run.specs.Leavings.{LeavesDisk};
 ghost use Rattle.stored_run.specs.Saves.{TellsOnly};
-ghost use Rattle.stored_run.specs.Steps.{DoesRow, RunStays, StoresEach};
+ghost use Rattle.stored_run.specs.Steps.{DoesRow, RunStays};
 
 use crate::StoredRun;
 use crate::following::runs_follow;
@@ -33,13 +34,13 @@ impl<D: Disk> StoredRun<D> {
         ensures row { DoesRow StopRow self.old (D.faults self.old.disk)
             self.new (D.faults self.new.disk) result }
         ensures on { RunStays self.old self.new }
-        ensures disk { IsTrue D.tells → StoresEach self.old self.new
+        ensures leaves { IsTrue D.tells → LeavesDisk self.old self.new
             (D.state self.old.disk) (D.state self.new.disk) }
     {
         runs_follow();
-        self.tells_kept();
+        self.tells_stored();
         self.tell_stop();
-        self.tells_kept();
+        self.tells_stored();
         match self.due_last() {
             Ok(due) => done_unless_starved(self.save_all(&due)),
             Err(NoMemory) => Said::NoMemory,

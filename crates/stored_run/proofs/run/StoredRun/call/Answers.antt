@@ -5,28 +5,29 @@ use Rattle.engine_turns.specs.Phases.{SavesPhase}
 use Rattle.engine_turns.specs.declared.operations.Said.TheVariants.{Replied}
 use Rattle.engine_turns.specs.declared.outcome.Outcome.TheVariants.{Starved}
 use Rattle.machine_core.specs.declared.events.Event.TheVariants.{Called}
-use Rattle.stored_run.specs.Saves.{AreSavable, AreStoredApart, SavesKeep, UnlessStarved}
+use Rattle.stored_run.specs.Saves.{AreSavable, AreStoredApart, SavesDisk, UnlessStarved}
 use Rattle.stored_run.specs.Steps.{DoesPart}
-use Rattle.stored_run.proofs.AfterTelling.{goes_after, may_all, none_each, row_here, same_view, saved_each, stored_all}
+use Rattle.stored_run.proofs.AfterSaves.{called_incomplete, halted_leaves, saved_leaves}
+use Rattle.stored_run.proofs.AfterTelling.{goes_after, may_all, row_here, same_view, stored_all}
 use Rattle.stored_run.proofs.CallSaves.{off_are, off_once, off_some, off_went_on}
 use Rattle.stored_run.proofs.EachSaved.{between_called, between_none}
 use Rattle.stored_run.proofs.SavedRows.{call_row, saves_starved}
 use Rattle.stored_run.proofs.run.StoredRun.call.Goals as goal
 
-pub returns-in_default-clause-disk : goal.returns-in_default-clause-disk
-returns-in_default-clause-disk g c told =
+pub returns-in_default-clause-leaves : goal.returns-in_default-clause-leaves
+returns-in_default-clause-leaves g c told =
     let d = g.D.Disk in
     let v = c.args.self.now in
-    none_each c.runs_follow.ensures d.tells d.faults d.state v v c.tells_kept.ensures [] (same_view v)
-    (between_none v v (same_view v)) told
+    halted_leaves c.runs_follow.ensures d.tells d.faults d.state v v c.tells_stored.ensures [] (same_view v)
+    (between_none v v (same_view v)) tt told
 
-pub returns-in_default-apply-clause-disk : goal.returns-in_default-apply-clause-disk
-returns-in_default-apply-clause-disk g c told =
+pub returns-in_default-apply-clause-leaves : goal.returns-in_default-apply-clause-leaves
+returns-in_default-apply-clause-leaves g c told =
     let d = g.D.Disk in
     let v = c.args.self.now in
     let same = c.in_default-apply.ensures.same in
-    none_each c.runs_follow.ensures d.tells d.faults d.state v c.apply.new.self c.tells_kept.ensures [] same
-    (between_none v c.apply.new.self same) told
+    halted_leaves c.runs_follow.ensures d.tells d.faults d.state v c.apply.new.self c.tells_stored.ensures [] same
+    (between_none v c.apply.new.self same) tt told
 
 pub save_all-outcome-requires-clause-may : goal.save_all-outcome-requires-clause-may
 save_all-outcome-requires-clause-may g c =
@@ -34,7 +35,7 @@ save_all-outcome-requires-clause-may g c =
     let v = c.args.self.now in
     let mid = c.apply.new.self in
     let laws = c.runs_follow.ensures in
-    let run = c.tells_kept.ensures in
+    let run = c.tells_stored.ensures in
     let came = c.in-Ok-apply.ensures.came in
     let between = between_called laws c.args.session c.args.call v.now v mid run.wants_are came in
     let was = c.deref.result.now in
@@ -54,7 +55,7 @@ save_all-outcome-requires-clause-stored g c told =
     let v = c.args.self.now in
     let mid = c.apply.new.self in
     let laws = c.runs_follow.ensures in
-    let run = c.tells_kept.ensures in
+    let run = c.tells_stored.ensures in
     let came = c.in-Ok-apply.ensures.came in
     let between = between_called laws c.args.session c.args.call v.now v mid run.wants_are came in
     let was_is = c.deref.ensures.value ∙ c.in-Ok.ensures in
@@ -71,7 +72,7 @@ returns-in-Ok-due_off-clause-row g c =
     let mid = c.apply.new.self in
     let new = c.save_all-outcome.new.self in
     let laws = c.runs_follow.ensures in
-    let run = c.tells_kept.ensures in
+    let run = c.tells_stored.ensures in
     let came = c.in-Ok-apply.ensures.came in
     let between = between_called laws c.args.session c.args.call v.now v mid run.wants_are came in
     let was_is = c.deref.ensures.value ∙ c.in-Ok.ensures in
@@ -94,28 +95,32 @@ returns-in-Ok-due_off-clause-on g c =
     let v = c.args.self.now in
     let mid = c.apply.new.self in
     let laws = c.runs_follow.ensures in
-    let run = c.tells_kept.ensures in
+    let run = c.tells_stored.ensures in
     let came = c.in-Ok-apply.ensures.came in
     goes_after laws d.tells d.faults d.state v mid run (Called c.args.session c.args.call v.now ∷ []) came
     (between_called laws c.args.session c.args.call v.now v mid run.wants_are came) c.save_all-outcome.new.self
     c.save_all-outcome.ensures.on
 
-pub returns-in-Ok-due_off-clause-disk : goal.returns-in-Ok-due_off-clause-disk
-returns-in-Ok-due_off-clause-disk g c told =
+pub returns-in-Ok-due_off-clause-leaves : goal.returns-in-Ok-due_off-clause-leaves
+returns-in-Ok-due_off-clause-leaves g c told =
     let d = g.D.Disk in
     let v = c.args.self.now in
     let mid = c.apply.new.self in
     let new = c.save_all-outcome.new.self in
     let laws = c.runs_follow.ensures in
-    let run = c.tells_kept.ensures in
+    let run = c.tells_stored.ensures in
     let came = c.in-Ok-apply.ensures.came in
     let between = between_called laws c.args.session c.args.call v.now v mid run.wants_are came in
     let was_is = c.deref.ensures.value ∙ c.in-Ok.ensures in
     let due = c.in-Ok-due_off.due.items in
-    saved_each laws d.tells d.faults d.state v mid run (Called c.args.session c.args.call v.now ∷ []) came between due
+    saved_leaves laws d.tells d.faults d.state v mid run (Called c.args.session c.args.call v.now ∷ []) came between
+    (called_incomplete c.args.session c.args.call v.now) told due
     (off_went_on laws d.tells (d.faults v.disk) (d.state v.disk) v mid run c.args.session c.args.call came
-    c.deref.result.now was_is due c.in-Ok-due_off.ensures.those) new told
-    (subst (λ (gids : List Gid). SavesKeep gids mid new (d.state mid.disk) (d.state new.disk))
+    c.deref.result.now was_is due c.in-Ok-due_off.ensures.those) new (d.faults mid.disk) (d.faults new.disk) c.save_all-outcome.result
+    (subst
+    (λ (gids : List Gid). DoesPart (λ at. SavesPhase at gids) mid (d.faults mid.disk) new (d.faults new.disk) c.save_all-outcome.result)
+    c.deref-in-Ok-due_off.ensures.value c.save_all-outcome.ensures.did)
+    (subst (λ (gids : List Gid). SavesDisk gids mid new (d.state mid.disk) (d.state new.disk))
     c.deref-in-Ok-due_off.ensures.value (c.save_all-outcome.ensures.disk told))
 
 pub returns-clause-row : goal.returns-clause-row
@@ -124,7 +129,7 @@ returns-clause-row g c =
     let v = c.args.self.now in
     let mid = c.apply.new.self in
     let laws = c.runs_follow.ensures in
-    let run = c.tells_kept.ensures in
+    let run = c.tells_stored.ensures in
     let came = c.in-Ok-apply.ensures.came in
     let between = between_called laws c.args.session c.args.call v.now v mid run.wants_are came in
     let was_is = c.deref.ensures.value ∙ c.in-Ok.ensures in
@@ -140,16 +145,17 @@ returns-clause-row g c =
 pub returns-clause-on : goal.returns-clause-on
 returns-clause-on g c =
     let v = c.args.self.now in
-    (between_called c.runs_follow.ensures c.args.session c.args.call v.now v c.apply.new.self c.tells_kept.ensures.wants_are
+    (between_called c.runs_follow.ensures c.args.session c.args.call v.now v c.apply.new.self c.tells_stored.ensures.wants_are
     c.in-Ok-apply.ensures.came).on
 
-pub returns-clause-disk : goal.returns-clause-disk
-returns-clause-disk g c told =
+pub returns-clause-leaves : goal.returns-clause-leaves
+returns-clause-leaves g c told =
     let d = g.D.Disk in
     let v = c.args.self.now in
     let mid = c.apply.new.self in
     let laws = c.runs_follow.ensures in
-    let run = c.tells_kept.ensures in
+    let run = c.tells_stored.ensures in
     let came = c.in-Ok-apply.ensures.came in
-    none_each laws d.tells d.faults d.state v mid run (Called c.args.session c.args.call v.now ∷ []) came
-    (between_called laws c.args.session c.args.call v.now v mid run.wants_are came) told
+    halted_leaves laws d.tells d.faults d.state v mid run (Called c.args.session c.args.call v.now ∷ []) came
+    (between_called laws c.args.session c.args.call v.now v mid run.wants_are came)
+    (called_incomplete c.args.session c.args.call v.now) told

@@ -16,7 +16,7 @@ returns-then-is_some-clause-none g c download added =
     let v = c.args.self.now in
     let want = c.in_ok-want.field-0.now in
     let kept = sym c.want.ensures.value ∙ ap option_copied c.in_ok-want.was in
-    let has = c.tells_kept.ensures.wants_are.has c.args.gid want kept in
+    let has = c.tells_stored.ensures.wants_are.has c.args.gid want kept in
     let same = one_download v.machine.start v.machine.past c.args.gid has.download download has.added added in
     let hash = has.is.info_hash ∙ ap (λ (d : Download). info_hash_by d.subject) same in
     listed_none download
@@ -27,7 +27,7 @@ returns-clause-found g c download added =
     let v = c.args.self.now in
     let want = c.in_ok-want.field-0.now in
     let kept = sym c.want.ensures.value ∙ ap option_copied c.in_ok-want.was in
-    let has = c.tells_kept.ensures.wants_are.has c.args.gid want kept in
+    let has = c.tells_stored.ensures.wants_are.has c.args.gid want kept in
     let same = one_download v.machine.start v.machine.past c.args.gid has.download download has.added added in
     let hash = has.is.info_hash ∙ ap (λ (d : Download). info_hash_by d.subject) same in
     let here = subst (λ (w : StoredView _). download_in w.machine.start w.machine.past c.args.gid ≡ Some download)

@@ -11,7 +11,7 @@ use Rattle.stored_run.proofs.run.StoredRun.complete.Goals as goal
 pub complete_checked-requires-clause-may : goal.complete_checked-requires-clause-may
 complete_checked-requires-clause-may g c =
     let v = c.args.self.now in
-    let facts = going_facts v.machine.start v.machine.past v.wants.items c.args.gid c.tells_kept.ensures.wants_are
+    let facts = going_facts v.machine.start v.machine.past v.wants.items c.args.gid c.tells_stored.ensures.wants_are
     c.requires.going in
     record {
       download = facts.has.download;
@@ -23,7 +23,7 @@ complete_checked-requires-clause-may g c =
 pub finish_one-requires-clause-may : goal.finish_one-requires-clause-may
 finish_one-requires-clause-may g c =
     let v = c.args.self.now in
-    let run = c.tells_kept.ensures in
+    let run = c.tells_stored.ensures in
     let facts = going_facts v.machine.start v.machine.past v.wants.items c.args.gid run.wants_are c.requires.going in
     may_complete c.runs_follow.ensures v.machine.start v.machine.past c.args.gid facts.has.download run.legal
     c.requires.going facts.has.added (c.requires.done facts.has.download facts.has.added)

@@ -1,4 +1,4 @@
-use Rattle.std.proofs.Common.{◌∷◌, [], arith, subst, true}
+use Rattle.std.proofs.Common.{◌∷◌, [], ◌∙◌, arith, subst, true}
 use Rattle.engine_turns.specs.Phases.{AfterDisk, AndThen, CheckedPhase, CompletionPhase, IsWantedVerified}
 use Rattle.engine_turns.specs.declared.outcome.Outcome.{Outcome}
 use Rattle.machine_core.specs.declared.events.Event.TheVariants.{Checked}
@@ -70,8 +70,13 @@ returns-in-Went-clause-disk g c told =
     let second = grown_by (λ at. CheckedPhase at gid right) a n 1 (d.faults a.disk) (d.faults n.disk)
     c.end_checked.result c.end_checked.ensures.on c.end_checked.ensures.did gid in
     ends_part d.tells (d.faults a.disk) v a n gid 1 (d.state v.disk) (d.state a.disk) (d.state n.disk)
-    c.check_whole-right.ensures.on first second c.tells_kept-in-Went.ensures (c.check_whole-right.ensures.still c.in-Went.is) told
+    c.check_whole-right.ensures.on first second c.tells_stored-in-Went.ensures (c.check_whole-right.ensures.still c.in-Went.is) told
     (c.check_whole-right.ensures.disk told) (c.end_checked.ensures.disk told)
+
+pub returns-in-Went-clause-payload : goal.returns-in-Went-clause-payload
+returns-in-Went-clause-payload g c told want kept =
+    c.end_checked.ensures.payload told want (c.check_whole-right.ensures.on.wants c.args.gid want kept)
+    ∙ c.check_whole-right.ensures.payload told want kept
 
 pub returns-in_default : goal.returns-in_default
 returns-in_default g c =
@@ -89,4 +94,6 @@ returns-in_default g c =
           (d.faults v.disk) (d.faults a.disk) c.check_whole-right.result.1 c.in_default.not-Went c.check_whole-right.ensures.did);
       on = continues_wider 1 2 v a (omega arith) c.check_whole-right.ensures.on;
       disk = λ told. ends_stored_part v a gid (d.state v.disk) (d.state a.disk) (c.check_whole-right.ensures.disk told);
+      payload = c.check_whole-right.ensures.payload;
+      left = c.check_whole-right.ensures.left c.in_default.not-Went;
     }

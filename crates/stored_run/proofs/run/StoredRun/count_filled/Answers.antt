@@ -38,14 +38,14 @@ loop-piece-init g c =
       lengths = refl;
       untouched = refl;
       disk = λ told want is. stores_none c.runs_follow.ensures.give want (own_in v gid) (own_in v gid) (d.state v.disk)
-          (c.tells_kept.ensures.wants_are.sound gid want is) (grown_none (own_in v gid));
+          (c.tells_stored.ensures.wants_are.sound gid want is) (grown_none (own_in v gid));
     }
 
 pub count_if_filled-requires-clause-unlisted : goal.count_if_filled-requires-clause-unlisted
 count_if_filled-requires-clause-unlisted g c want kept =
     let v = c.args.self.now in
     let gid = c.args.gid in
-    let facts = going_facts v.machine.start v.machine.past v.wants.items gid c.tells_kept.ensures.wants_are c.requires.going in
+    let facts = going_facts v.machine.start v.machine.past v.wants.items gid c.tells_stored.ensures.wants_are c.requires.going in
     subst (λ (w : Want). w.info_hash ≡ None)
     (same_Some facts.want want (sym (c.loop-piece.invariant.on.wants gid facts.want facts.kept) ∙ kept))
     (c.requires.unlisted facts.want facts.kept)
@@ -122,7 +122,7 @@ loop-piece-preserved g c =
     let told = c.count_if_filled.ensures in
     let next : place - first + 1 ≡ place + 1 - first = omega (arith, low) in
     let on = continues_on (place - first) 1 v m n was.on told.on in
-    let facts = going_facts v.machine.start v.machine.past v.wants.items gid c.tells_kept.ensures.wants_are c.requires.going in
+    let facts = going_facts v.machine.start v.machine.past v.wants.items gid c.tells_stored.ensures.wants_are c.requires.going in
     let grown = grown_by (λ at. AllRightPhase at facts.has.download was.so.0) v m (place - first) (d.faults v.disk)
     (d.faults m.disk) Went was.on (was.so.2 facts.has.download facts.has.added) gid in
     record {
@@ -139,7 +139,7 @@ loop-piece-preserved g c =
           (d.state n.disk) was.on grown
           (grown_step d.faults gid run row v m n place (place - first) marked was.on told.on.start was.lengths among mark was.so
           c.count_if_filled.result told.counted told.same told.on)
-          c.tells_kept-in-loop-piece.ensures was.going is (was.disk is) (told.disk is);
+          c.tells_stored-in-loop-piece.ensures was.going is (was.disk is) (told.disk is);
     }
 
 pub returns : goal.returns

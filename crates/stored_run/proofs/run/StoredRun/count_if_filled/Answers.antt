@@ -13,7 +13,7 @@ find-requires-clause-may g c =
     let v = c.args.self.now in
     let m = v.machine in
     let gid = c.args.gid in
-    let run = c.tells_kept.ensures in
+    let run = c.tells_stored.ensures in
     let going = c.requires.going in
     let facts = going_facts m.start m.past v.wants.items gid run.wants_are going in
     let w = opened_want m.start m.past v.wants.items gid run.wants_are going.opened in
@@ -38,7 +38,7 @@ returns-then-marked-clause-disk g c told want is =
     let v = c.args.self.now in
     let own = own_in v c.args.gid in
     let disk = g.D.Disk.state v.disk in
-    stores_none c.runs_follow.ensures.give want own own disk (c.tells_kept.ensures.wants_are.sound c.args.gid want is)
+    stores_none c.runs_follow.ensures.give want own own disk (c.tells_stored.ensures.wants_are.sound c.args.gid want is)
     (grown_none own)
 
 pub returns-then-not-is_full-clause-disk : goal.returns-then-not-is_full-clause-disk
@@ -46,7 +46,7 @@ returns-then-not-is_full-clause-disk g c told want is =
     let v = c.args.self.now in
     let own = own_in v c.args.gid in
     let disk = g.D.Disk.state v.disk in
-    stores_none c.runs_follow.ensures.give want own own disk (c.tells_kept.ensures.wants_are.sound c.args.gid want is)
+    stores_none c.runs_follow.ensures.give want own own disk (c.tells_stored.ensures.wants_are.sound c.args.gid want is)
     (grown_none own)
 
 pub returns-clause-counted : goal.returns-clause-counted

@@ -1,14 +1,12 @@
 use Rattle.std.proofs.Common.{arith, subst, sym}
-use Rattle.dl_kinds.specs.declared.gid.Gid.{Gid}
 use Rattle.engine_turns.specs.ClaimRows.{DeliverRow}
 use Rattle.machine_core.specs.MachineViews.{StandsNowhere, StandsUnder}
 use Rattle.stored_run.specs.Deliveries.{Delivers}
-use Rattle.stored_run.specs.Steps.{EndsGid}
-use Rattle.stored_run.specs.Views.{own_in}
 use Rattle.stored_run.proofs.Claimed.{claim_goes}
 use Rattle.stored_run.proofs.Delivered.{blocks_of_delivery, delivered_row, delivery_going, match_false, match_true, undelivered_row}
-use Rattle.stored_run.proofs.Doing.{continues_none, continues_wider, ends_stored, grown_none, stores_none}
+use Rattle.stored_run.proofs.Doing.{continues_none, continues_wider}
 use Rattle.stored_run.proofs.Losses.{no_home_row}
+use Rattle.stored_run.proofs.Leaving.{leaves_still}
 use Rattle.stored_run.proofs.run.StoredRun.deliver.Goals as goal
 
 pub returns-in_default-clause-row : goal.returns-in_default-clause-row
@@ -20,27 +18,9 @@ pub returns-in_default-clause-on : goal.returns-in_default-clause-on
 returns-in_default-clause-on g c =
     continues_wider 0 98 c.args.self.now c.args.self.now (omega arith) (continues_none c.args.self.now)
 
-pub returns-in_default-clause-disk : goal.returns-in_default-clause-disk
-returns-in_default-clause-disk g c told gid home want is =
-    let v = c.args.self.now in
-    let own = own_in v gid in
-    let disk = g.D.Disk.state v.disk in
-    ends_stored want own own disk disk
-    (stores_none c.runs_follow.ensures.give want own own disk (c.tells_kept.ensures.wants_are.sound gid want is)
-    (grown_none own))
-
 pub returns-then-not-is_delivery-clause-on : goal.returns-then-not-is_delivery-clause-on
 returns-then-not-is_delivery-clause-on g c =
     continues_wider 0 98 c.args.self.now c.args.self.now (omega arith) (continues_none c.args.self.now)
-
-pub returns-then-not-is_delivery-clause-disk : goal.returns-then-not-is_delivery-clause-disk
-returns-then-not-is_delivery-clause-disk g c told gid home want is =
-    let v = c.args.self.now in
-    let own = own_in v gid in
-    let disk = g.D.Disk.state v.disk in
-    ends_stored want own own disk disk
-    (stores_none c.runs_follow.ensures.give want own own disk (c.tells_kept.ensures.wants_are.sound gid want is)
-    (grown_none own))
 
 pub is_delivery-requires : goal.is_delivery-requires
 is_delivery-requires g c =
@@ -54,7 +34,7 @@ returns-then-not-is_delivery-clause-row g c =
     let gid = c.in-Some.gid in
     let granted = c.in-Some.granted in
     let found = subst (λ w. StandsUnder w.machine c.args.claim gid granted) c.self.view_is c.in-Some.ensures.found in
-    let goes = claim_goes c.runs_follow.ensures v.machine.start v.machine.past gid granted c.tells_kept.ensures.legal
+    let goes = claim_goes c.runs_follow.ensures v.machine.start v.machine.past gid granted c.tells_stored.ensures.legal
     found.stands in
     undelivered_row v gid granted c.args.claim c.args.run c.args.bytes.now _ goes.download goes.added found.stands found.id_is
     (match_false c.is_delivery.result (Delivers v gid granted c.args.run c.args.bytes.now)
@@ -68,7 +48,7 @@ deliver_blocks-requires-clause-going g c =
     let found = subst (λ w. StandsUnder w.machine c.args.claim gid granted) c.self.view_is c.in-Some.ensures.found in
     let delivers = match_true c.is_delivery.result (Delivers v gid granted c.args.run c.args.bytes.now)
     (¬ Delivers v gid granted c.args.run c.args.bytes.now) c.if-not-is_delivery.false c.is_delivery.ensures in
-    delivery_going c.runs_follow.ensures v.machine.start v.machine.past gid granted c.args.run c.tells_kept.ensures.legal
+    delivery_going c.runs_follow.ensures v.machine.start v.machine.past gid granted c.args.run c.tells_stored.ensures.legal
     found.stands (blocks_of_delivery _ granted c.args.run c.args.bytes.now delivers)
 
 pub deliver_blocks-requires-clause-stands : goal.deliver_blocks-requires-clause-stands
@@ -90,19 +70,24 @@ returns-clause-row g c =
     let gid = c.in-Some.gid in
     let granted = c.in-Some.granted in
     let found = subst (λ w. StandsUnder w.machine c.args.claim gid granted) c.self.view_is c.in-Some.ensures.found in
-    let goes = claim_goes c.runs_follow.ensures v.machine.start v.machine.past gid granted c.tells_kept.ensures.legal
+    let goes = claim_goes c.runs_follow.ensures v.machine.start v.machine.past gid granted c.tells_stored.ensures.legal
     found.stands in
     let delivers = match_true c.is_delivery.result (Delivers v gid granted c.args.run c.args.bytes.now)
     (¬ Delivers v gid granted c.args.run c.args.bytes.now) c.if-not-is_delivery.false c.is_delivery.ensures in
     delivered_row v c.deliver_blocks.new.self gid granted c.args.claim c.args.run c.args.bytes.now _ _ c.deliver_blocks.result
     goes.download goes.added found.stands found.id_is delivers (c.deliver_blocks.ensures.row goes.download goes.added)
 
-pub returns-clause-disk : goal.returns-clause-disk
-returns-clause-disk g c told gid home =
+pub returns-in_default-clause-leaves : goal.returns-in_default-clause-leaves
+returns-in_default-clause-leaves g c told =
     let d = g.D.Disk in
     let v = c.args.self.now in
-    let n = c.deliver_blocks.new.self in
-    let found = subst (λ w. StandsUnder w.machine c.args.claim c.in-Some.gid c.in-Some.granted) c.self.view_is
-    c.in-Some.ensures.found in
-    subst (λ (h : Gid). EndsGid h v n (d.state v.disk) (d.state n.disk))
-    (sym (found.one gid home.0 home.1.stands home.1.id_is).0) (c.deliver_blocks.ensures.disk told)
+    leaves_still c.runs_follow.ensures d.tells (d.faults v.disk) v (d.state v.disk) c.tells_stored.ensures told
+
+pub returns-then-not-is_delivery-clause-leaves : goal.returns-then-not-is_delivery-clause-leaves
+returns-then-not-is_delivery-clause-leaves g c told =
+    let d = g.D.Disk in
+    let v = c.args.self.now in
+    leaves_still c.runs_follow.ensures d.tells (d.faults v.disk) v (d.state v.disk) c.tells_stored.ensures told
+
+pub returns-clause-leaves : goal.returns-clause-leaves
+returns-clause-leaves g c told = c.deliver_blocks.ensures.leaves told

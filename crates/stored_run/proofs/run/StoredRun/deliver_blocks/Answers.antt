@@ -7,12 +7,18 @@ use Rattle.stored_run.proofs.Delivered.{delivery_of, kept_row}
 use Rattle.stored_run.proofs.Failing.{opened_want}
 use Rattle.stored_run.proofs.PlainEvents.{back_to}
 use Rattle.stored_run.proofs.RunParts.{parts_fit}
+use Rattle.stored_run.proofs.Endings.{going_facts}
+use Rattle.stored_run.proofs.Findings.{gid_found}
+use Rattle.stored_run.proofs.Leaving.{leaves_one}
+use Rattle.stored_run.proofs.OfOne.{IsOwnEvent, delivery_in, own_all, part_others}
+use Rattle.engine_turns.specs.ClaimRows.{DeliveryPhase}
+use Rattle.stored_run.specs.Steps.{turn_from}
 use Rattle.stored_run.proofs.run.StoredRun.deliver_blocks.Goals as goal
 
 pub new_blocks-open_runs-requires-clause-bounded : goal.new_blocks-open_runs-requires-clause-bounded
 new_blocks-open_runs-requires-clause-bounded g c =
     let v = c.args.self.now in
-    let kept = c.tells_kept.ensures in
+    let kept = c.tells_stored.ensures in
     let of = delivery_of c.runs_follow.ensures v c.args.gid c.args.claim c.args.run c.args.bytes.now kept.wants_are kept.legal
     c.requires.going c.requires.stands.stands c.requires.delivery in
     let w = opened_want v.machine.start v.machine.past v.wants.items c.args.gid kept.wants_are c.requires.going.opened in
@@ -65,3 +71,22 @@ returns-clause-row g c download added =
     c.kept_unless_starved.result download added are (ap (λ k. c.args.run.count - k) c.block_count-open.ensures.sum)
     c.land_and_follow-counted.ensures.counted c.kept_unless_starved.ensures
     (c.land_and_follow-counted.ensures.did download added)
+
+pub returns-clause-leaves : goal.returns-clause-leaves
+returns-clause-leaves g c told =
+    let d = g.D.Disk in
+    let v = c.args.self.now in
+    let n = c.land_and_follow-counted.new.self in
+    let gid = c.args.gid in
+    let runs = c.new_blocks-open_runs.result in
+    let does = c.land_and_follow-counted.ensures in
+    let facts = going_facts v.machine.start v.machine.past v.wants.items gid c.tells_stored.ensures.wants_are
+    c.requires.going in
+    let download = facts.has.download in
+    let added = facts.has.added in
+    let all = own_all download gid (gid_found v.machine.start v.machine.past gid download added) in
+    leaves_one c.runs_follow.ensures d.tells (d.faults v.disk) v n (d.state v.disk) (d.state n.disk) c.tells_stored.ensures
+    told gid c.requires.going (does.disk told) (does.left told) does.on.wants
+    (part_others (λ at. DeliveryPhase at v.machine.past download c.args.claim runs) v n _ (d.faults v.disk)
+    (d.faults n.disk) c.land_and_follow-counted.result.1 gid does.on (does.did download added)
+    (delivery_in (IsOwnEvent gid) (turn_from v (d.faults v.disk)) download all v.machine.past c.args.claim runs))

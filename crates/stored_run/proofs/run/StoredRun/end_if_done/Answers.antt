@@ -1,4 +1,4 @@
-use Rattle.std.proofs.Common.{Bool, arith, subst, sym}
+use Rattle.std.proofs.Common.{Bool, arith, refl, subst, sym}
 use Rattle.std.specs.Prelude.{MatchBool}
 use Rattle.dl_kinds.specs.declared.gid.Gid.{Gid}
 use Rattle.engine_turns.specs.Phases.{CompletionPhase, IfElse, IsWantedVerified, NoEvent}
@@ -8,6 +8,7 @@ use Rattle.stored_run.specs.Steps.{DoesPart, turn_from}
 use Rattle.stored_run.specs.Views.{own_in}
 use Rattle.stored_run.proofs.Doing.{continues_none, continues_wider, did_by, did_else, did_if, did_nothing, ends_stored, grown_none, stores_none}
 use Rattle.stored_run.proofs.Findings.{gid_found}
+use Rattle.stored_run.proofs.Left.{going_left}
 use Rattle.stored_run.proofs.run.StoredRun.end_if_done.Goals as goal
 
 pub complete-requires-clause-done : goal.complete-requires-clause-done
@@ -57,5 +58,15 @@ returns-else-is_done-clause-disk g c told want is =
     let own = own_in v c.args.gid in
     let disk = g.D.Disk.state v.disk in
     ends_stored want own own disk disk
-    (stores_none c.runs_follow.ensures.give want own own disk (c.tells_kept.ensures.wants_are.sound c.args.gid want is)
+    (stores_none c.runs_follow.ensures.give want own own disk (c.tells_stored.ensures.wants_are.sound c.args.gid want is)
     (grown_none own))
+
+pub returns-else-is_done-clause-left : goal.returns-else-is_done-clause-left
+returns-else-is_done-clause-left g c told =
+    let d = g.D.Disk in
+    let v = c.args.self.now in
+    going_left c.runs_follow.ensures d.tells (d.faults v.disk) (d.state v.disk) v.machine.start v.machine.past v.wants.items
+    v.now c.args.gid c.tells_stored.ensures told c.requires.going
+
+pub returns-else-is_done-clause-payload : goal.returns-else-is_done-clause-payload
+returns-else-is_done-clause-payload g c told want kept = refl

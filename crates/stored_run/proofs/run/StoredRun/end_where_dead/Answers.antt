@@ -1,8 +1,10 @@
-use Rattle.std.proofs.Common.{◌≡◌, false, true, refl, ◌∙◌, ap, subst, arith, ◌∷◌}
+use Rattle.std.proofs.Common.{◌≡◌, false, true, refl, sym, ◌∙◌, ap, subst, arith, ◌∷◌}
 use Rattle.dl_history.specs.OwnEvents.{Halts}
 use Rattle.dl_history.specs.PayloadParts.{is_ended}
 use Rattle.engine_turns.specs.Phases.{DeadPhase}
 use Rattle.engine_turns.specs.declared.outcome.Outcome.TheVariants.{Over, Went}
+use Rattle.machine_core.specs.OwnParts.{own_of}
+use Rattle.machine_core.specs.RunLegal.{MayFollow}
 use Rattle.machine_core.specs.Reads.{HasNoDeadMark, IsDeadPiece}
 use Rattle.machine_core.specs.declared.ends.End.TheVariants as end
 use Rattle.machine_core.specs.declared.events.Event.{Event}
@@ -10,7 +12,9 @@ use Rattle.machine_core.specs.declared.events.Event.TheVariants.{Ended}
 use Rattle.stored_run.specs.Steps.{turn_from}
 use Rattle.stored_run.specs.Stored.{AreWantsKept}
 use Rattle.stored_run.specs.declared.run.StoredView.{StoredView}
-use Rattle.stored_run.specs.Views.{own_in}
+use Rattle.stored_run.specs.Views.{IsGoing, own_in}
+use Rattle.stored_run.proofs.Endings.{going_facts, unended}
+use Rattle.stored_run.proofs.Left.{ended_left, held_stored}
 use Rattle.stored_run.proofs.Doing.{grown_none, part_event, part_none, stores_none}
 use Rattle.stored_run.proofs.Kept.{halts}
 use Rattle.stored_run.proofs.Losses.{dead_may, dead_none, dead_over}
@@ -70,3 +74,26 @@ returns-in-Some-clause-stores g c told =
     disk_still _ _ c.self.view_is c.runs_follow.ensures g.D.Disk.state c.ended.new.self.start c.ended.new.self.past
     c.args.gid c.self.invariant.wants_are (Ended c.args.gid (end.Dead c.args.piece c.in-Some.mark)) came.start_is
     (came.past_is ∙ ap (λ (x : Event). x ∷ m.past) came.is)
+
+pub returns-in-Some-clause-left : goal.returns-in-Some-clause-left
+returns-in-Some-clause-left g c goes over told want kept =
+    let d = g.D.Disk in
+    let m = c.self.inside.machine in
+    let came = c.ended.ensures.event in
+    let n = c.ended.new.self in
+    let gid = c.args.gid in
+    let how = end.Dead c.args.piece c.in-Some.mark in
+    let items = c.self.inside.wants.items in
+    let laws = c.runs_follow.ensures in
+    let disk = d.state c.self.inside.disk in
+    let past_is = came.past_is ∙ ap (λ (x : Event). x ∷ m.past) came.is in
+    let may = subst (λ (x : Event). MayFollow m.start m.past x) came.is came.may in
+    let going = subst (λ (v : StoredView _). IsGoing v gid) (sym c.self.view_is) goes in
+    let facts = going_facts m.start m.past items gid c.self.invariant.wants_are going in
+    ended_left laws d.tells (d.faults c.self.inside.disk) disk disk m.start n.start m.past n.past items
+    c.self.inside.now gid how facts.want c.self.invariant came.start_is past_is may facts.kept
+    (held_stored facts.want (own_of m.start m.past gid) disk (c.self.invariant.stored told gid facts.want going facts.kept))
+    (unended laws m.start m.past gid c.self.invariant.legal going) (λ same. absurd cc) want kept
+
+pub returns-in-None-clause-left : goal.returns-in-None-clause-left
+returns-in-None-clause-left g c goes over = absurd (over refl)

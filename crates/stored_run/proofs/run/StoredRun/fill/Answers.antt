@@ -32,7 +32,7 @@ returns-then-not-has_digests-clause-counted g c =
     let d = g.D.Disk in
     let v = c.args.self.now in
     let n = c.count_filled.new.self in
-    let facts = going_facts v.machine.start v.machine.past v.wants.items c.args.gid c.tells_kept.ensures.wants_are
+    let facts = going_facts v.machine.start v.machine.past v.wants.items c.args.gid c.tells_stored.ensures.wants_are
     c.requires.going in
     let counted = c.count_filled.ensures.did facts.has.download facts.has.added in
     landed_none (λ at. AllRightPhase at facts.has.download counted.pieces) v n (d.faults v.disk) (d.faults n.disk) Went
@@ -47,4 +47,4 @@ returns-else-not-has_digests-clause-disk g c told want is =
     let v = c.args.self.now in
     let own = own_in v c.args.gid in
     stores_none c.runs_follow.ensures.give want own own (g.D.Disk.state v.disk)
-    (c.tells_kept.ensures.wants_are.sound c.args.gid want is) (grown_none own)
+    (c.tells_stored.ensures.wants_are.sound c.args.gid want is) (grown_none own)

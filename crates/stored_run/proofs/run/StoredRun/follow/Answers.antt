@@ -21,7 +21,7 @@ returns-clause-did g c download added before marks =
     let gid = c.args.gid in
     let fills = c.fill.ensures.did download added in
     let last = last_within v.machine.start v.machine.past v.wants.items gid c.args.run c.plan_laws.ensures.of_pieces
-    c.tells_kept.ensures.wants_are c.requires.going.opened c.requires.run in
+    c.tells_stored.ensures.wants_are c.requires.going.opened c.requires.run in
     let first = filled_since v a gid c.args.run c.args.full.now (d.faults v.disk) (d.faults a.disk) download before
     (gid_found v.machine.start v.machine.past gid download added) last marks fills in
     let there = added_still (λ at. filling_phase at download (is_listed download.subject) fills.pieces) v a 64
@@ -40,7 +40,7 @@ returns-clause-counted g c =
     let v = c.args.self.now in
     let a = c.fill.new.self in
     let n = c.end_or_save.new.self in
-    let here = going_facts a.machine.start a.machine.past a.wants.items c.args.gid c.tells_kept-2.ensures.wants_are
+    let here = going_facts a.machine.start a.machine.past a.wants.items c.args.gid c.tells_stored-2.ensures.wants_are
     c.fill.ensures.going in
     between_on 0 0 v.machine.past a.machine.past n.machine.past c.fill.ensures.counted
     (landed_none (λ at. EndingOr at here.has.download (DueSavePhase at here.has.download)) a n (d.faults a.disk)
@@ -54,9 +54,9 @@ returns-clause-disk g c told =
     let a = c.fill.new.self in
     let n = c.end_or_save.new.self in
     let gid = c.args.gid in
-    let before = going_facts v.machine.start v.machine.past v.wants.items gid c.tells_kept.ensures.wants_are
+    let before = going_facts v.machine.start v.machine.past v.wants.items gid c.tells_stored.ensures.wants_are
     c.requires.going in
-    let here = going_facts a.machine.start a.machine.past a.wants.items gid c.tells_kept-2.ensures.wants_are
+    let here = going_facts a.machine.start a.machine.past a.wants.items gid c.tells_stored-2.ensures.wants_are
     c.fill.ensures.going in
     let fills = c.fill.ensures.did before.has.download before.has.added in
     let first = grown_by (λ at. filling_phase at before.has.download (is_listed before.has.download.subject) fills.pieces) v a
@@ -65,4 +65,4 @@ returns-clause-disk g c told =
     (d.faults n.disk) c.end_or_save.result c.end_or_save.ensures.on
     (c.end_or_save.ensures.did here.has.download here.has.added) gid in
     ends_part d.tells (d.faults a.disk) v a n gid 64 (d.state v.disk) (d.state a.disk) (d.state n.disk) c.fill.ensures.on
-    first second c.tells_kept-2.ensures c.fill.ensures.going told (c.fill.ensures.disk told) (c.end_or_save.ensures.disk told)
+    first second c.tells_stored-2.ensures c.fill.ensures.going told (c.fill.ensures.disk told) (c.end_or_save.ensures.disk told)

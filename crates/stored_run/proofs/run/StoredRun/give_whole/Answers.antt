@@ -1,5 +1,3 @@
-use Rattle.stored_run.specs.Views.{own_in}
-use Rattle.stored_run.proofs.Doing.{ends_stored}
 use Rattle.stored_run.proofs.Grants.{ungiven_counted, ungiven_unread}
 use Rattle.stored_run.proofs.run.StoredRun.give_whole.Goals as goal
 
@@ -11,13 +9,6 @@ returns-then-has_digests-clause-row g c =
     ungiven_unread v c.read_whole.new.self c.args.gid c.args.piece (faults v.disk) (faults c.read_whole.new.self.disk) p.download
     p.added (c.has_digests.ensures.listed c.if-has_digests.true p.download p.added) c.read_whole.result
     c.read_whole.ensures.row
-
-pub returns-then-has_digests-clause-disk : goal.returns-then-has_digests-clause-disk
-returns-then-has_digests-clause-disk g c told want kept =
-    let v = c.args.self.now in
-    let n = c.read_whole.new.self in
-    ends_stored want (own_in v c.args.gid) (own_in n c.args.gid) (g.D.Disk.state v.disk) (g.D.Disk.state n.disk)
-    (c.read_whole.ensures.disk told want kept)
 
 pub returns-else-has_digests-clause-row : goal.returns-else-has_digests-clause-row
 returns-else-has_digests-clause-row g c =

@@ -14,13 +14,13 @@ use Rattle.stored_run.proofs.run.StoredRun.has_digests.Goals as goal
 pub unwrap-requires : goal.unwrap-requires
 unwrap-requires g c =
     let v = c.args.self.now in
-    let w = opened_want v.machine.start v.machine.past v.wants.items c.args.gid c.tells_kept.ensures.wants_are c.requires in
+    let w = opened_want v.machine.start v.machine.past v.wants.items c.args.gid c.tells_stored.ensures.wants_are c.requires in
     copied_some c.want.result w.want (c.want.ensures.value ∙ w.kept)
 
 pub returns : goal.returns
 returns g c =
     let v = c.args.self.now in
-    let w = opened_want v.machine.start v.machine.past v.wants.items c.args.gid c.tells_kept.ensures.wants_are c.requires in
+    let w = opened_want v.machine.start v.machine.past v.wants.items c.args.gid c.tells_stored.ensures.wants_are c.requires in
     let same = copied_is c.want.result c.unwrap.result w.want c.unwrap.ensures (c.want.ensures.value ∙ w.kept) in
     let here : is_some w.want.info_hash ≡ c.is_some.result =
     sym (ap (λ (x : Want). is_some x.info_hash) same) ∙ sym c.is_some.ensures in

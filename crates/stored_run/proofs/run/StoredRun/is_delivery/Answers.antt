@@ -21,7 +21,7 @@ plan_of-plan-requires g c =
     let claim = c.args.claim in
     let run = c.args.run in
     let laws = c.runs_follow.ensures in
-    let kept = c.tells_kept.ensures in
+    let kept = c.tells_stored.ensures in
     let blocks = match_true c.are_blocks_of.result (AreBlocksOf claim.run run) (¬ AreBlocksOf claim.run run)
     c.if-not-are_blocks_of.false c.are_blocks_of.ensures in
     (delivery_going laws m.start m.past c.args.gid claim run kept.legal c.requires blocks).opened
@@ -34,7 +34,7 @@ block_span-start-requires g c =
     let claim = c.args.claim in
     let run = c.args.run in
     let laws = c.runs_follow.ensures in
-    let kept = c.tells_kept.ensures in
+    let kept = c.tells_stored.ensures in
     let blocks = match_true c.are_blocks_of.result (AreBlocksOf claim.run run) (¬ AreBlocksOf claim.run run)
     c.if-not-are_blocks_of.false c.are_blocks_of.ensures in
     let w = c.plan_of-plan.ensures.plan in
@@ -51,7 +51,7 @@ overflow_add-run g c =
     let claim = c.args.claim in
     let run = c.args.run in
     let laws = c.runs_follow.ensures in
-    let kept = c.tells_kept.ensures in
+    let kept = c.tells_stored.ensures in
     let blocks = match_true c.are_blocks_of.result (AreBlocksOf claim.run run) (¬ AreBlocksOf claim.run run)
     c.if-not-are_blocks_of.false c.are_blocks_of.ensures in
     let w = c.plan_of-plan.ensures.plan in
@@ -69,7 +69,7 @@ block_span-last-requires g c =
     let claim = c.args.claim in
     let run = c.args.run in
     let laws = c.runs_follow.ensures in
-    let kept = c.tells_kept.ensures in
+    let kept = c.tells_stored.ensures in
     let blocks = match_true c.are_blocks_of.result (AreBlocksOf claim.run run) (¬ AreBlocksOf claim.run run)
     c.if-not-are_blocks_of.false c.are_blocks_of.ensures in
     let w = c.plan_of-plan.ensures.plan in
@@ -86,7 +86,7 @@ overflow_sub-len g c =
     let claim = c.args.claim in
     let run = c.args.run in
     let laws = c.runs_follow.ensures in
-    let kept = c.tells_kept.ensures in
+    let kept = c.tells_stored.ensures in
     let blocks = match_true c.are_blocks_of.result (AreBlocksOf claim.run run) (¬ AreBlocksOf claim.run run)
     c.if-not-are_blocks_of.false c.are_blocks_of.ensures in
     let w = c.plan_of-plan.ensures.plan in
@@ -114,7 +114,7 @@ returns g c =
     let claim = c.args.claim in
     let run = c.args.run in
     let laws = c.runs_follow.ensures in
-    let kept = c.tells_kept.ensures in
+    let kept = c.tells_stored.ensures in
     let blocks = match_true c.are_blocks_of.result (AreBlocksOf claim.run run) (¬ AreBlocksOf claim.run run)
     c.if-not-are_blocks_of.false c.are_blocks_of.ensures in
     let w = c.plan_of-plan.ensures.plan in

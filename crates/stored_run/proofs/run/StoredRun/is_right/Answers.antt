@@ -11,14 +11,14 @@ use Rattle.stored_run.proofs.run.StoredRun.is_right.Goals as goal
 pub unwrap-requires : goal.unwrap-requires
 unwrap-requires g c =
     let v = c.args.self.now in
-    let w = going_facts v.machine.start v.machine.past v.wants.items c.args.gid c.tells_kept.ensures.wants_are
+    let w = going_facts v.machine.start v.machine.past v.wants.items c.args.gid c.tells_stored.ensures.wants_are
     c.requires.going in
     copied_some c.want.result w.want (c.want.ensures.value ∙ w.kept)
 
 pub returns-clause-listed : goal.returns-clause-listed
 returns-clause-listed g c download added =
     let v = c.args.self.now in
-    let kept = c.tells_kept.ensures.wants_are in
+    let kept = c.tells_stored.ensures.wants_are in
     let w = going_facts v.machine.start v.machine.past v.wants.items c.args.gid kept c.requires.going in
     let same = copied_is c.want.result c.unwrap.result w.want c.unwrap.ensures (c.want.ensures.value ∙ w.kept) in
     let sound = kept.sound c.args.gid w.want w.kept in
@@ -30,7 +30,7 @@ returns-clause-listed g c download added =
 pub returns-clause-digest : goal.returns-clause-digest
 returns-clause-digest g c right want is listed =
     let v = c.args.self.now in
-    let kept = c.tells_kept.ensures.wants_are in
+    let kept = c.tells_stored.ensures.wants_are in
     let w = going_facts v.machine.start v.machine.past v.wants.items c.args.gid kept c.requires.going in
     let same = copied_is c.want.result c.unwrap.result w.want c.unwrap.ensures (c.want.ensures.value ∙ w.kept) in
     let one = same_Some w.want want (sym w.kept ∙ is) in

@@ -60,7 +60,7 @@ land_part-requires-clause-may g c =
     let claim = c.args.claim in
     let gid = c.args.gid in
     let so = landed_all v m gid claim (take n runs) (d.faults v.disk) (d.faults m.disk) was.on.start was.did in
-    let run = c.tells_kept-in-loop-place.ensures in
+    let run = c.tells_stored-in-loop-place.ensures in
     let facts = going_facts m.machine.start m.machine.past m.wants.items gid run.wants_are (so.going c.requires.going) in
     subst (λ (r : Run). MayFollow m.machine.start m.machine.past (Landed gid claim.id claim.mirror r m.now))
     (sym (run_there c.get.result part runs n c.get.ensures c.unwrap-part.ensures))
@@ -132,7 +132,7 @@ loop-place-init g c =
       did = did_nothing v.machine.past (d.faults v.disk) (d.faults v.disk) (omega arith);
       on = continues_none v;
       disk = λ told want is. stores_none c.runs_follow.ensures.give want (own_in v c.args.gid) (own_in v c.args.gid)
-          (d.state v.disk) (c.tells_kept.ensures.wants_are.sound c.args.gid want is) (grown_none (own_in v c.args.gid));
+          (d.state v.disk) (c.tells_stored.ensures.wants_are.sound c.args.gid want is) (grown_none (own_in v c.args.gid));
     }
 
 pub loop-place-preserved : goal.loop-place-preserved
@@ -168,7 +168,7 @@ loop-place-preserved g c =
       did = lands_next v m n' gid claim runs n part within there f f' f'' was.on was.did one;
       on = continues_on n 1 v m n' was.on c.land_part.ensures.on;
       disk = λ told. stores_part d.tells f' v m n' gid n (d.state v.disk) (d.state m.disk) (d.state n'.disk) was.on first
-          second c.tells_kept-in-loop-place.ensures (so.going c.requires.going) told (was.disk told) (c.land_part.ensures.disk told);
+          second c.tells_stored-in-loop-place.ensures (so.going c.requires.going) told (was.disk told) (c.land_part.ensures.disk told);
     }
 
 pub returns-in_default : goal.returns-in_default
@@ -199,7 +199,8 @@ returns-in_default g c =
       on = continues_wider (n + 1) (length runs) v n' (omega (arith, within))
           (continues_on n 1 v m n' was.on c.land_part.ensures.on);
       disk = λ told. stores_part d.tells f' v m n' gid n (d.state v.disk) (d.state m.disk) (d.state n'.disk) was.on first
-          second c.tells_kept-in-loop-place.ensures (so.going c.requires.going) told (was.disk told) (c.land_part.ensures.disk told);
+          second c.tells_stored-in-loop-place.ensures (so.going c.requires.going) told (was.disk told) (c.land_part.ensures.disk told);
+      left = λ over. c.land_part.ensures.left c.in_default.not-Went;
       counted = subst (λ k. LandedBetween k v.machine.past n'.machine.past) (sym was.counted)
           (counts_broken v m n' gid claim runs n part within there f f' f'' was.on was.did o c.in_default.not-Went
           c.land_part.ensures.did);
@@ -224,5 +225,6 @@ returns g c =
           was.did;
       on = continues_wider n (length runs) v m was.within was.on;
       disk = was.disk;
+      left = λ over. absurd (over refl);
       counted = subst (λ k. LandedBetween k v.machine.past m.machine.past) (sym was.counted) so.counted;
     }

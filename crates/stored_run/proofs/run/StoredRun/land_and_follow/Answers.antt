@@ -23,7 +23,7 @@ full_pieces-full-requires-clause-run g c =
     let claim = c.args.claim in
     let run = c.args.run in
     let runs = c.args.open_runs.now in
-    let kept = c.tells_kept.ensures in
+    let kept = c.tells_stored.ensures in
     let f = d.faults v.disk in
     let of = delivery_of c.runs_follow.ensures v gid claim run c.args.bytes.now kept.wants_are kept.legal c.requires.going
     c.requires.stands.stands c.requires.delivery in
@@ -37,7 +37,7 @@ land_all-counted-requires-clause-run g c =
     let claim = c.args.claim in
     let run = c.args.run in
     let runs = c.args.open_runs.now in
-    let kept = c.tells_kept.ensures in
+    let kept = c.tells_stored.ensures in
     let f = d.faults v.disk in
     let of = delivery_of c.runs_follow.ensures v gid claim run c.args.bytes.now kept.wants_are kept.legal c.requires.going
     c.requires.stands.stands c.requires.delivery in
@@ -52,7 +52,7 @@ follow-requires-clause-going g c =
     let claim = c.args.claim in
     let run = c.args.run in
     let runs = c.args.open_runs.now in
-    let kept = c.tells_kept.ensures in
+    let kept = c.tells_stored.ensures in
     let f = d.faults v.disk in
     let f' = d.faults m.disk in
     let of = delivery_of c.runs_follow.ensures v gid claim run c.args.bytes.now kept.wants_are kept.legal c.requires.going
@@ -64,7 +64,7 @@ follow-requires-clause-going g c =
     let w = opened_want v.machine.start v.machine.past v.wants.items gid kept.wants_are c.requires.going.opened in
     let last = last_within v.machine.start v.machine.past v.wants.items gid run c.plan_laws.ensures.of_pieces kept.wants_are
     c.requires.going.opened of in
-    let legal = c.runs_follow.ensures.legal m.machine.start m.machine.past gid c.tells_kept-in-Went.ensures.legal in
+    let legal = c.runs_follow.ensures.legal m.machine.start m.machine.past gid c.tells_stored-in-Went.ensures.legal in
     so.going c.requires.going
 
 pub follow-requires-clause-run : goal.follow-requires-clause-run
@@ -76,7 +76,7 @@ follow-requires-clause-run g c =
     let claim = c.args.claim in
     let run = c.args.run in
     let runs = c.args.open_runs.now in
-    let kept = c.tells_kept.ensures in
+    let kept = c.tells_stored.ensures in
     let f = d.faults v.disk in
     let f' = d.faults m.disk in
     let of = delivery_of c.runs_follow.ensures v gid claim run c.args.bytes.now kept.wants_are kept.legal c.requires.going
@@ -88,7 +88,7 @@ follow-requires-clause-run g c =
     let w = opened_want v.machine.start v.machine.past v.wants.items gid kept.wants_are c.requires.going.opened in
     let last = last_within v.machine.start v.machine.past v.wants.items gid run c.plan_laws.ensures.of_pieces kept.wants_are
     c.requires.going.opened of in
-    let legal = c.runs_follow.ensures.legal m.machine.start m.machine.past gid c.tells_kept-in-Went.ensures.legal in
+    let legal = c.runs_follow.ensures.legal m.machine.start m.machine.past gid c.tells_stored-in-Went.ensures.legal in
     then_run c.runs_follow.ensures v m gid claim run runs c.full_pieces-full.result so on.start w.plan legal of
     c.requires.open_runs c.full_pieces-full.ensures last
 
@@ -101,7 +101,7 @@ follow-requires-clause-unsettled g c =
     let claim = c.args.claim in
     let run = c.args.run in
     let runs = c.args.open_runs.now in
-    let kept = c.tells_kept.ensures in
+    let kept = c.tells_stored.ensures in
     let f = d.faults v.disk in
     let f' = d.faults m.disk in
     let of = delivery_of c.runs_follow.ensures v gid claim run c.args.bytes.now kept.wants_are kept.legal c.requires.going
@@ -113,7 +113,7 @@ follow-requires-clause-unsettled g c =
     let w = opened_want v.machine.start v.machine.past v.wants.items gid kept.wants_are c.requires.going.opened in
     let last = last_within v.machine.start v.machine.past v.wants.items gid run c.plan_laws.ensures.of_pieces kept.wants_are
     c.requires.going.opened of in
-    let legal = c.runs_follow.ensures.legal m.machine.start m.machine.past gid c.tells_kept-in-Went.ensures.legal in
+    let legal = c.runs_follow.ensures.legal m.machine.start m.machine.past gid c.tells_stored-in-Went.ensures.legal in
     then_unsettled c.runs_follow.ensures v m gid claim run runs c.full_pieces-full.result so on.start w.plan legal of
     c.requires.open_runs c.full_pieces-full.ensures last
 
@@ -131,7 +131,7 @@ returns-in-Went-clause-did g c download added =
     let claim = c.args.claim in
     let run = c.args.run in
     let runs = c.args.open_runs.now in
-    let kept = c.tells_kept.ensures in
+    let kept = c.tells_stored.ensures in
     let f = d.faults v.disk in
     let f' = d.faults m.disk in
     let of = delivery_of c.runs_follow.ensures v gid claim run c.args.bytes.now kept.wants_are kept.legal c.requires.going
@@ -143,7 +143,7 @@ returns-in-Went-clause-did g c download added =
     let w = opened_want v.machine.start v.machine.past v.wants.items gid kept.wants_are c.requires.going.opened in
     let last = last_within v.machine.start v.machine.past v.wants.items gid run c.plan_laws.ensures.of_pieces kept.wants_are
     c.requires.going.opened of in
-    let legal = c.runs_follow.ensures.legal m.machine.start m.machine.past gid c.tells_kept-in-Went.ensures.legal in
+    let legal = c.runs_follow.ensures.legal m.machine.start m.machine.past gid c.tells_stored-in-Went.ensures.legal in
     let n = c.follow.new.self in
     let gid_is = gid_found v.machine.start v.machine.past gid download added in
     let marks = then_marked c.runs_follow.ensures v m gid claim run runs c.full_pieces-full.result so on.start w.plan legal of
@@ -166,7 +166,7 @@ returns-in_default-clause-did g c download added =
     let claim = c.args.claim in
     let run = c.args.run in
     let runs = c.args.open_runs.now in
-    let kept = c.tells_kept.ensures in
+    let kept = c.tells_stored.ensures in
     let f = d.faults v.disk in
     let f' = d.faults m.disk in
     let of = delivery_of c.runs_follow.ensures v gid claim run c.args.bytes.now kept.wants_are kept.legal c.requires.going
@@ -202,7 +202,7 @@ returns-in_default-clause-disk g c told =
     let claim = c.args.claim in
     let run = c.args.run in
     let runs = c.args.open_runs.now in
-    let kept = c.tells_kept.ensures in
+    let kept = c.tells_stored.ensures in
     let f = d.faults v.disk in
     let f' = d.faults m.disk in
     let of = delivery_of c.runs_follow.ensures v gid claim run c.args.bytes.now kept.wants_are kept.legal c.requires.going
@@ -218,7 +218,7 @@ returns-in-Went-clause-disk g c told =
     let claim = c.args.claim in
     let run = c.args.run in
     let runs = c.args.open_runs.now in
-    let kept = c.tells_kept.ensures in
+    let kept = c.tells_stored.ensures in
     let f = d.faults v.disk in
     let f' = d.faults m.disk in
     let of = delivery_of c.runs_follow.ensures v gid claim run c.args.bytes.now kept.wants_are kept.legal c.requires.going
@@ -230,9 +230,9 @@ returns-in-Went-clause-disk g c told =
     let w = opened_want v.machine.start v.machine.past v.wants.items gid kept.wants_are c.requires.going.opened in
     let last = last_within v.machine.start v.machine.past v.wants.items gid run c.plan_laws.ensures.of_pieces kept.wants_are
     c.requires.going.opened of in
-    let legal = c.runs_follow.ensures.legal m.machine.start m.machine.past gid c.tells_kept-in-Went.ensures.legal in
+    let legal = c.runs_follow.ensures.legal m.machine.start m.machine.past gid c.tells_stored-in-Went.ensures.legal in
     let n = c.follow.new.self in
-    let here = going_facts m.machine.start m.machine.past m.wants.items gid c.tells_kept-in-Went.ensures.wants_are
+    let here = going_facts m.machine.start m.machine.past m.wants.items gid c.tells_stored-in-Went.ensures.wants_are
     (so.going c.requires.going) in
     let marks = then_marked c.runs_follow.ensures v m gid claim run runs c.full_pieces-full.result so on.start w.plan legal of
     c.requires.open_runs c.full_pieces-full.ensures last in
@@ -242,5 +242,11 @@ returns-in-Went-clause-disk g c told =
     (d.faults n.disk) c.follow.result c.follow.ensures.on
     (c.follow.ensures.did here.has.download here.has.added v.machine.past marks) gid in
     ends_part d.tells f' v m n gid _ (d.state v.disk) (d.state m.disk) (d.state n.disk) on first second
-    c.tells_kept-in-Went.ensures (so.going c.requires.going) told (c.land_all-counted.ensures.disk told)
+    c.tells_stored-in-Went.ensures (so.going c.requires.going) told (c.land_all-counted.ensures.disk told)
     (c.follow.ensures.disk told)
+
+pub returns-in_default-clause-left : goal.returns-in_default-clause-left
+returns-in_default-clause-left g c told = c.land_all-counted.ensures.left c.in_default.not-Went told
+
+pub returns-in-Went-clause-left : goal.returns-in-Went-clause-left
+returns-in-Went-clause-left g c told = c.follow.ensures.left told

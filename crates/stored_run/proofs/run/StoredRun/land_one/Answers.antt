@@ -24,7 +24,9 @@ use Rattle.stored_run.specs.Landings.{HasRunLen, IsOneUnder}
 use Rattle.stored_run.specs.Steps.{turn_from}
 use Rattle.stored_run.specs.Stored.{saved_listing}
 use Rattle.stored_run.proofs.Doing.{part_event, part_none, risen}
-use Rattle.stored_run.proofs.LandedRuns.{WritesLanding, kept_there, kept_within, landing_goes, landing_going, landing_one, landing_want, landed_kept, failed_kept, fault_may, holds_view, moved_to, own_next, run_len_of, starved_kept, stores_view, writes_same}
+use Rattle.stored_run.proofs.LandedRuns.{WritesLanding, kept_there, kept_within, landing_goes, landing_going, landing_one, landing_want, landed_kept, failed_kept, fault_may, holds_view, moved_to, own_next, run_len_of, starved_kept, still_stored, stores_view, writes_same}
+use Rattle.stored_run.proofs.Endings.{unended}
+use Rattle.stored_run.proofs.Left.{ended_left, going_left, held_stored}
 use Rattle.stored_run.proofs.Own.{own_legal}
 use Rattle.stored_run.proofs.PlainEvents.{back_to}
 use Rattle.stored_run.proofs.Written.{landing_run, landing_unlisted, stores_landing}
@@ -503,3 +505,87 @@ returns-in-Ok-clause-written g c went told =
     (c.as_ref.ensures.value ∙ entry) in
     holds_view g.D.Disk.state _ a.self.now (g.D.Disk.state c.write_held.new.disk) a.gid a.run a.bytes.now
     c.unwrap-want.result.now w.want c.self.view_is w.kept same (c.in-Ok.ensures.stands told)
+
+pub returns-in-Err-Disk-clause-left : goal.returns-in-Err-Disk-clause-left
+returns-in-Err-Disk-clause-left g c over told =
+    let a = c.args in
+    let r = c.self.inside in
+    let m = r.machine in
+    let laws = c.runs_follow.ensures in
+    let plans = c.plan_laws.ensures in
+    let may = back_to
+    (λ w. MayFollow w.machine.start w.machine.past (Landed a.gid a.claim.id a.claim.mirror a.run w.now)) _ _
+    c.self.view_is c.requires.may in
+    let w = landing_want laws plans.follow plans.of_pieces _ _ _ m.start m.past r.wants.items r.now c.self.invariant
+    a.gid a.claim.id a.claim.mirror a.run may in
+    let at = told_some (λ n. n ≡ place_in m.start m.past a.gid) c.place.result c.unwrap-place.result
+    c.unwrap-place.ensures c.place.ensures.first in
+    let entry = kept_there r.wants.items (place_in m.start m.past a.gid) w.want c.index.result.now w.kept
+    (c.index.ensures ∙ ap (λ n. get_or r.wants.items n c.index.result.now) at) in
+    let same = copied_is c.as_ref.result c.unwrap-want.result w.want c.unwrap-want.ensures
+    (c.as_ref.ensures.value ∙ entry) in
+    let land : MayOwn m.start m.past a.gid (Lands a.claim.id a.claim.mirror a.run) × IsLaterThan m.past r.now = may in
+    let own = own_of m.start m.past a.gid in
+    let legal = own_legal laws m.start m.past a.gid w.want c.self.invariant.legal w.has in
+    let none = landing_unlisted laws plans.follow plans.of_pieces w.want own w.sound legal a.claim.id a.claim.mirror a.run
+    land.0.may in
+    let done : IsTrue g.D.Disk.tells → WritesLanding w.want a.run own (g.D.Disk.state r.disk) (g.D.Disk.state c.write_held.new.disk) =
+    λ told. writes_same c.unwrap-want.result.now w.want a.run own _ _ same none (c.write_held.ensures.besides told)
+    (c.write_held.ensures.held told) (c.write_held.ensures.torn told) in
+    let more = c.write_held.ensures.cause.later in
+    let count = c.faults-count.result in
+    let came = c.ended.ensures.event in
+    let how = end.Disk count in
+    let past = came.past_is ∙ ap (λ (x : Event). x ∷ m.past) came.is in
+    let n = c.ended.new.self in
+    let old = g.D.Disk.state r.disk in
+    let new = g.D.Disk.state c.write_held.new.disk in
+    let going = landing_going laws plans.follow plans.of_pieces g.D.Disk.tells (g.D.Disk.faults r.disk)
+    (g.D.Disk.faults r.disk) old old m.start m.past r.wants.items r.now c.self.invariant (omega arith) a.gid a.claim.id
+    a.claim.mirror a.run may in
+    let stored = still_stored laws plans.follow plans.of_pieces _ _ _ _ _ m.start m.past r.wants.items r.now
+    c.self.invariant more a.gid a.claim.id a.claim.mirror a.run may w.want w.kept done told a.gid w.want going w.kept in
+    ended_left laws g.D.Disk.tells (g.D.Disk.faults r.disk) old new m.start n.start m.past n.past r.wants.items r.now
+    a.gid how w.want c.self.invariant came.start_is past
+    (subst (λ (x : Event). MayFollow m.start m.past x) came.is came.may) w.kept
+    (held_stored w.want own new stored) (unended laws m.start m.past a.gid c.self.invariant.legal going)
+    (λ same_end. absurd cc)
+
+pub returns-in-Err-NoMemory-clause-left : goal.returns-in-Err-NoMemory-clause-left
+returns-in-Err-NoMemory-clause-left g c over told =
+    let a = c.args in
+    let r = c.self.inside in
+    let m = r.machine in
+    let laws = c.runs_follow.ensures in
+    let plans = c.plan_laws.ensures in
+    let may = back_to
+    (λ w. MayFollow w.machine.start w.machine.past (Landed a.gid a.claim.id a.claim.mirror a.run w.now)) _ _
+    c.self.view_is c.requires.may in
+    let w = landing_want laws plans.follow plans.of_pieces _ _ _ m.start m.past r.wants.items r.now c.self.invariant
+    a.gid a.claim.id a.claim.mirror a.run may in
+    let at = told_some (λ n. n ≡ place_in m.start m.past a.gid) c.place.result c.unwrap-place.result
+    c.unwrap-place.ensures c.place.ensures.first in
+    let entry = kept_there r.wants.items (place_in m.start m.past a.gid) w.want c.index.result.now w.kept
+    (c.index.ensures ∙ ap (λ n. get_or r.wants.items n c.index.result.now) at) in
+    let same = copied_is c.as_ref.result c.unwrap-want.result w.want c.unwrap-want.ensures
+    (c.as_ref.ensures.value ∙ entry) in
+    let land : MayOwn m.start m.past a.gid (Lands a.claim.id a.claim.mirror a.run) × IsLaterThan m.past r.now = may in
+    let own = own_of m.start m.past a.gid in
+    let legal = own_legal laws m.start m.past a.gid w.want c.self.invariant.legal w.has in
+    let none = landing_unlisted laws plans.follow plans.of_pieces w.want own w.sound legal a.claim.id a.claim.mirror a.run
+    land.0.may in
+    let done : IsTrue g.D.Disk.tells → WritesLanding w.want a.run own (g.D.Disk.state r.disk) (g.D.Disk.state c.write_held.new.disk) =
+    λ told. writes_same c.unwrap-want.result.now w.want a.run own _ _ same none (c.write_held.ensures.besides told)
+    (c.write_held.ensures.held told) (c.write_held.ensures.torn told) in
+    let more = c.write_held.ensures.cause.later in
+    let old = g.D.Disk.state r.disk in
+    let new = g.D.Disk.state c.write_held.new.disk in
+    let going = landing_going laws plans.follow plans.of_pieces g.D.Disk.tells (g.D.Disk.faults r.disk)
+    (g.D.Disk.faults r.disk) old old m.start m.past r.wants.items r.now c.self.invariant (omega arith) a.gid a.claim.id
+    a.claim.mirror a.run may in
+    going_left laws g.D.Disk.tells (g.D.Disk.faults c.write_held.new.disk) new m.start m.past r.wants.items r.now a.gid
+    (starved_kept laws plans.follow plans.of_pieces _ _ _ _ _ m.start m.past r.wants.items r.now c.self.invariant more a.gid
+    a.claim.id a.claim.mirror a.run may w.want w.kept done) told going
+
+pub returns-in-Ok-clause-left : goal.returns-in-Ok-clause-left
+returns-in-Ok-clause-left g c over = absurd (over refl)

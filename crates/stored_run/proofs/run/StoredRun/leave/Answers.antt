@@ -2,11 +2,13 @@ use Rattle.std.proofs.Common.{◌≡◌, ◌≤◌, [], ◌∷◌, refl, sym, �
 use Rattle.machine_core.specs.RunLegal.{MayFollow, doors_left}
 use Rattle.machine_core.specs.declared.events.Event.TheVariants.{Left}
 use Rattle.stored_run.specs.Steps.{turn_from}
-use Rattle.stored_run.specs.Stored.{IsStoredWith}
+use Rattle.stored_run.specs.Stored.{IsStoredWith, IsStoredRun}
 use Rattle.stored_run.proofs.Doing.{fault_in, no_counts}
 use Rattle.stored_run.proofs.Doors.{leaves, leaves_none}
 use Rattle.stored_run.proofs.Kept.{after_event}
 use Rattle.stored_run.proofs.SaveOne.{appended, past_by}
+use Rattle.stored_run.proofs.Leaving.{leaves_door, leaves_still}
+use Rattle.stored_run.specs.declared.run.StoredView.{StoredView}
 use Rattle.stored_run.proofs.run.StoredRun.leave.Goals as goal
 
 pub invariant_of-self : goal.invariant_of-self
@@ -54,3 +56,17 @@ returns-clause-row g c =
       later = subst (λ r. g.D.Disk.faults r.disk ≤ g.D.Disk.faults c.self.inside.disk) c.self.view_is (omega arith);
       counts = fault_in Left (g.D.Disk.faults c.self.inside.disk) tt;
     }
+
+pub returns-then-doors-eq0-clause-leaves : goal.returns-then-doors-eq0-clause-leaves
+returns-then-doors-eq0-clause-leaves g c told =
+    let d = g.D.Disk in
+    let v = c.args.self.now in
+    let run = subst (λ (r : StoredView _). IsStoredRun d.tells (d.faults r.disk) (d.state r.disk) r) c.self.view_is
+    c.self.invariant in
+    leaves_still c.runs_follow.ensures d.tells (d.faults v.disk) v (d.state v.disk) run told
+
+pub returns-clause-leaves : goal.returns-clause-leaves
+returns-clause-leaves g c told =
+    let d = g.D.Disk in
+    leaves_door c.runs_follow.ensures d.tells d.faults d.state _ c.args.self.now c.left.new.self c.self.view_is
+    c.self.invariant told c.left.ensures.event

@@ -9,6 +9,9 @@ use Rattle.stored_run.specs.Telling.{loss_phase_of}
 use Rattle.stored_run.proofs.Claimed.{claim_goes}
 use Rattle.stored_run.proofs.Doing.{row_of}
 use Rattle.stored_run.proofs.Losses.{home_of_claim, lose_row, no_home_row}
+use Rattle.stored_run.proofs.Leaving.{leaves_still, leaves_told, loss_in}
+use Rattle.stored_run.specs.Stored.{IsStoredRun}
+use Rattle.stored_run.specs.declared.run.StoredView.{StoredView}
 use Rattle.stored_run.proofs.run.StoredRun.lose.Goals as goal
 
 pub returns-in_default-clause-row : goal.returns-in_default-clause-row
@@ -32,3 +35,27 @@ returns-clause-row g c =
     subst (λ id. OfClaim (turn_from v from) s id (LoseRow (turn_from v from) s c.args.mark) events Done) found.id_is
     (lose_row (turn_from v from) s v.machine.past events _ granted.id c.args.mark goes.download granted standing home
     phase))
+
+pub returns-in_default-clause-leaves : goal.returns-in_default-clause-leaves
+returns-in_default-clause-leaves g c told =
+    let d = g.D.Disk in
+    let v = c.args.self.now in
+    let run = subst (λ (r : StoredView _). IsStoredRun d.tells (d.faults r.disk) (d.state r.disk) r) c.self.view_is
+    c.self.invariant in
+    leaves_still c.runs_follow.ensures d.tells (d.faults v.disk) v (d.state v.disk) run told
+
+pub returns-clause-leaves : goal.returns-clause-leaves
+returns-clause-leaves g c told =
+    let d = g.D.Disk in
+    let v = c.args.self.now in
+    let n = c.lose_claim.new.self in
+    let gid = c.in-Some.gid in
+    let granted = c.in-Some.granted in
+    let run = subst (λ (r : StoredView _). IsStoredRun d.tells (d.faults r.disk) (d.state r.disk) r) c.self.view_is
+    c.self.invariant in
+    let found = subst (λ w. StandsUnder w.machine c.args.claim gid granted) c.self.view_is c.in-Some.ensures.found in
+    let goes = claim_goes c.runs_follow.ensures v.machine.start v.machine.past gid granted run.legal found.stands in
+    leaves_told c.runs_follow.ensures d.tells d.faults d.state (λ at. loss_phase_of at v.machine.past goes.download granted c.args.mark) v n _ (d.faults v.disk)
+    (d.faults n.disk) c.lose_claim.result run told c.lose_claim.ensures.on
+    (c.lose_claim.ensures.did goes.download goes.added)
+    (loss_in (turn_from v (d.faults v.disk)) v.machine.past goes.download granted c.args.mark _) c.lose_claim.ensures.disk

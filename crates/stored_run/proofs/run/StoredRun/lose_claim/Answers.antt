@@ -21,8 +21,8 @@ clear_sole-requires-clause-may g c sole =
     let m = v.machine in
     let laws = c.runs_follow.ensures in
     let piece = c.failing_piece-piece.result.0 in
-    let legal = c.tells_kept.ensures.legal in
-    let kept = c.tells_kept.ensures.wants_are in
+    let legal = c.tells_stored.ensures.legal in
+    let kept = c.tells_stored.ensures.wants_are in
     let e = Lost a.gid a.claim.id a.claim.mirror piece a.mark in
     told_so laws e v c.tell_loss.new.self c.tell_loss.ensures (λ s p ws. MayFollow s p (Cleared a.gid piece))
     (clear_may laws c.plan_laws.ensures.of_pieces m.start m.past v.wants.items kept a.gid a.claim a.mark
@@ -37,7 +37,7 @@ end_where_dead-requires-clause-going g c =
     let m = v.machine in
     let laws = c.runs_follow.ensures in
     let piece = c.failing_piece-piece.result.0 in
-    let legal = c.tells_kept.ensures.legal in
+    let legal = c.tells_stored.ensures.legal in
     let e = Lost a.gid a.claim.id a.claim.mirror piece a.mark in
     let goes = claim_goes laws m.start m.past a.gid a.claim legal c.requires.stands.stands in
     let then : ClaimGoes c.tell_loss.new.self.machine.start c.tell_loss.new.self.machine.past a.gid =
@@ -53,7 +53,7 @@ returns-clause-did g c download added =
     let laws = c.runs_follow.ensures in
     let piece = c.failing_piece-piece.result.0 in
     let sole = c.failing_piece-piece.result.1 in
-    let kept = c.tells_kept.ensures.wants_are in
+    let kept = c.tells_stored.ensures.wants_are in
     let e = Lost a.gid a.claim.id a.claim.mirror piece a.mark in
     let told = c.tell_loss.ensures in
     let same = ap (λ d. g.D.Disk.faults d) told.disk in
@@ -81,6 +81,6 @@ returns-clause-on g c =
     let v = a.self.now in
     let e = Lost a.gid a.claim.id a.claim.mirror c.failing_piece-piece.result.0 a.mark in
     continues_on 1 2 v c.tell_loss.new.self c.end_where_dead.new.self
-    (continues_event c.runs_follow.ensures e v c.tell_loss.new.self c.tell_loss.ensures c.tells_kept.ensures.wants_are)
+    (continues_event c.runs_follow.ensures e v c.tell_loss.new.self c.tell_loss.ensures c.tells_stored.ensures.wants_are)
     (continues_on 1 1 c.tell_loss.new.self c.clear_sole.new.self c.end_where_dead.new.self c.clear_sole.ensures.on
     c.end_where_dead.ensures.on)

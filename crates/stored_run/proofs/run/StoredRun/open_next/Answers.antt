@@ -1,6 +1,8 @@
-use Rattle.std.proofs.Common.{◌≡◌, ◌≤◌, Option, Some, arith, inl, inr, refl, subst, sym}
+use Rattle.std.proofs.Common.{◌≡◌, ◌≤◌, ◌∙◌, Option, Some, ap, arith, false, refl, subst, sym, true}
 use Rattle.std.specs.Prelude.{IfNone}
 use Rattle.control_file.specs.Wants.{IsWant}
+use Rattle.dl_history.specs.OwnEvents.{Halts}
+use Rattle.dl_history.specs.PayloadParts.{is_opened}
 use Rattle.machine_core.proofs.Here.{told_some}
 use Rattle.machine_core.specs.Claiming.{next_to_open}
 use Rattle.machine_core.specs.Clashes.{HasClash, IsClear, SharesNoName}
@@ -10,13 +12,16 @@ use Rattle.machine_core.specs.OwnParts.{own_of}
 use Rattle.machine_core.specs.RunLegal.{MayFollow}
 use Rattle.machine_core.specs.declared.ends.End.{End}
 use Rattle.machine_core.specs.declared.events.Event.TheVariants.{Ended}
-use Rattle.stored_run.specs.Opening.{IsToResume}
-use Rattle.stored_run.specs.Steps.{StoresEach}
+use Rattle.engine_turns.specs.declared.operations.Said.TheVariants.{Done, NoMemory}
+use Rattle.stored_run.specs.Opening.{IsToResume, OpensDisk}
 use Rattle.stored_run.specs.Views.{own_in}
 use Rattle.stored_run.specs.declared.run.StoredView.{StoredView}
-use Rattle.stored_run.proofs.Doing.{IsGrown, continues_none, continues_wider, grown_none, own_grows}
-use Rattle.stored_run.proofs.OpenNext.{before_opening, has_plan, ok_some}
-use Rattle.stored_run.proofs.OpenParts.{clash_count, clash_row, each_still, opened_row, starved_row}
+use Rattle.stored_run.proofs.Doing.{continues_none, continues_wider}
+use Rattle.stored_run.proofs.Kept.{own_at}
+use Rattle.stored_run.proofs.OfOne.{all_own}
+use Rattle.stored_run.proofs.OpenDisk.{opens_none_of, other_opened}
+use Rattle.stored_run.proofs.OpenNext.{before_opening, has_plan, ok_some, unopened_next}
+use Rattle.stored_run.proofs.OpenParts.{clash_count, clash_row, opened_row, starved_row}
 use Rattle.stored_run.proofs.PlainEvents.{continues_event, told_so}
 use Rattle.stored_run.proofs.run.StoredRun.open_next.Goals as goal
 
@@ -26,16 +31,6 @@ returns-in_default-clause-row g c = starved_row c.args.self.now c.args.gid (g.D.
 pub returns-in_default-clause-on : goal.returns-in_default-clause-on
 returns-in_default-clause-on g c =
     continues_wider 0 3 c.args.self.now c.args.self.now (omega arith) (continues_none c.args.self.now)
-
-pub returns-in_default-clause-disk : goal.returns-in_default-clause-disk
-returns-in_default-clause-disk g c told = inl refl
-
-pub returns-in_default-clause-each : goal.returns-in_default-clause-each
-returns-in_default-clause-each g c told =
-    let d = g.D.Disk in
-    let v = c.args.self.now in
-    each_still c.runs_follow.ensures d.tells (d.faults v.disk) v v (d.state v.disk) (d.state v.disk) c.args.gid
-    c.tells_kept.ensures told (λ h. grown_none (own_in v h))
 
 pub end_unopened-requires-clause-may : goal.end_unopened-requires-clause-may
 end_unopened-requires-clause-may g c =
@@ -74,22 +69,7 @@ returns-in-Some-clause-on g c =
     let n = c.end_unopened.new.self in
     continues_wider 1 3 v n (omega arith)
     (continues_event c.runs_follow.ensures (Ended c.args.gid c.in-Some.end) v n c.end_unopened.ensures
-    c.tells_kept.ensures.wants_are)
-
-pub returns-in-Some-clause-disk : goal.returns-in-Some-clause-disk
-returns-in-Some-clause-disk g c told = inl c.end_unopened.ensures.disk
-
-pub returns-in-Some-clause-each : goal.returns-in-Some-clause-each
-returns-in-Some-clause-each g c told =
-    let d = g.D.Disk in
-    let v = c.args.self.now in
-    let n = c.end_unopened.new.self in
-    let e = Ended c.args.gid c.in-Some.end in
-    subst (λ x. StoresEach v n (d.state v.disk) (d.state x)) (sym c.end_unopened.ensures.disk)
-    (each_still c.runs_follow.ensures d.tells (d.faults v.disk) v n (d.state v.disk) (d.state v.disk) c.args.gid
-    c.tells_kept.ensures told
-    (λ h. told_so c.runs_follow.ensures e v n c.end_unopened.ensures (λ s past ws. IsGrown (own_in v h) (own_of s past h))
-    (own_grows v.machine.start e v.machine.past h)))
+    c.tells_stored.ensures.wants_are)
 
 pub open_one-requires-clause-to_open : goal.open_one-requires-clause-to_open
 open_one-requires-clause-to_open g c =
@@ -128,9 +108,6 @@ returns-in-Ok-Some-clause-row g c =
     has_then.added (clear_then has_then.download has_then.added) c.done_unless_starved.ensures
     (c.open_one.ensures.did has_then.download has_then.added)
 
-pub returns-in-Ok-Some-clause-disk : goal.returns-in-Ok-Some-clause-disk
-returns-in-Ok-Some-clause-disk g c told = inr (c.in-Ok-Some.want, c.open_one.ensures.disk told)
-
 pub returns-in_default-make_want-clause-row : goal.returns-in_default-make_want-clause-row
 returns-in_default-make_want-clause-row g c =
     starved_row c.args.self.now c.args.gid (g.D.Disk.faults c.args.self.now.disk)
@@ -139,12 +116,40 @@ pub returns-in_default-make_want-clause-on : goal.returns-in_default-make_want-c
 returns-in_default-make_want-clause-on g c =
     continues_wider 0 3 c.args.self.now c.args.self.now (omega arith) (continues_none c.args.self.now)
 
-pub returns-in_default-make_want-clause-disk : goal.returns-in_default-make_want-clause-disk
-returns-in_default-make_want-clause-disk g c told = inl refl
-
-pub returns-in_default-make_want-clause-each : goal.returns-in_default-make_want-clause-each
-returns-in_default-make_want-clause-each g c told =
+pub returns-in_default-clause-leaves : goal.returns-in_default-clause-leaves
+returns-in_default-clause-leaves g c told =
     let d = g.D.Disk in
     let v = c.args.self.now in
-    each_still c.runs_follow.ensures d.tells (d.faults v.disk) v v (d.state v.disk) (d.state v.disk) c.args.gid
-    c.tells_kept.ensures told (λ h. grown_none (own_in v h))
+    opens_none_of c.runs_follow.ensures d.tells (d.faults v.disk) v v (d.state v.disk) c.tells_stored.ensures told
+    (λ h goes. refl) c.args.gid NoMemory
+    (unopened_next c.runs_follow.ensures v c.args.gid c.tells_stored.ensures.legal c.requires.next)
+
+pub returns-in-Some-clause-leaves : goal.returns-in-Some-clause-leaves
+returns-in-Some-clause-leaves g c told =
+    let d = g.D.Disk in
+    let v = c.args.self.now in
+    let n = c.end_unopened.new.self in
+    let gid = c.args.gid in
+    let e = Ended gid c.in-Some.end in
+    let unopened = unopened_next c.runs_follow.ensures v gid c.tells_stored.ensures.legal c.requires.next in
+    subst (λ x. OpensDisk gid v n Done (d.state v.disk) (d.state x)) (sym c.end_unopened.ensures.disk)
+    (opens_none_of c.runs_follow.ensures d.tells (d.faults v.disk) v n (d.state v.disk) c.tells_stored.ensures told
+    (λ h goes.
+    let apart = other_opened gid h (own_in v) unopened goes.opened in
+    told_so c.runs_follow.ensures e v n c.end_unopened.ensures (λ s past ws. own_of s past h ≡ own_in v h)
+    ((all_own gid).ended c.in-Some.end v.machine.start v.machine.past h apart))
+    gid Done
+    (told_so c.runs_follow.ensures e v n c.end_unopened.ensures (λ s past ws. is_opened (own_of s past gid) ≡ false)
+    (ap is_opened (own_at gid (Halts true) (own_in v gid)) ∙ unopened)))
+
+pub returns-in-Ok-Some-clause-leaves : goal.returns-in-Ok-Some-clause-leaves
+returns-in-Ok-Some-clause-leaves g c told =
+    c.open_one.ensures.leaves told c.done_unless_starved.result c.done_unless_starved.ensures
+
+pub returns-in_default-make_want-clause-leaves : goal.returns-in_default-make_want-clause-leaves
+returns-in_default-make_want-clause-leaves g c told =
+    let d = g.D.Disk in
+    let v = c.args.self.now in
+    opens_none_of c.runs_follow.ensures d.tells (d.faults v.disk) v v (d.state v.disk) c.tells_stored.ensures told
+    (λ h goes. refl) c.args.gid NoMemory
+    (unopened_next c.runs_follow.ensures v c.args.gid c.tells_stored.ensures.legal c.requires.next)

@@ -8,13 +8,13 @@ use Rattle.stored_run.proofs.run.StoredRun.plan_of.Goals as goal
 pub unwrap-requires : goal.unwrap-requires
 unwrap-requires g c =
     let v = c.args.self.now in
-    let w = opened_want v.machine.start v.machine.past v.wants.items c.args.gid c.tells_kept.ensures.wants_are c.requires in
+    let w = opened_want v.machine.start v.machine.past v.wants.items c.args.gid c.tells_stored.ensures.wants_are c.requires in
     copied_some c.want.result w.want (c.want.ensures.value ∙ w.kept)
 
 pub returns : goal.returns
 returns g c =
     let v = c.args.self.now in
-    let w = opened_want v.machine.start v.machine.past v.wants.items c.args.gid c.tells_kept.ensures.wants_are c.requires in
+    let w = opened_want v.machine.start v.machine.past v.wants.items c.args.gid c.tells_stored.ensures.wants_are c.requires in
     let same = copied_is c.want.result c.unwrap.result w.want c.unwrap.ensures (c.want.ensures.value ∙ w.kept) in
     record {
       total = ap (λ (x : Want). x.plan.total) same ∙ sym (ap (λ (l : PayloadLengths). l.total) w.lengths);

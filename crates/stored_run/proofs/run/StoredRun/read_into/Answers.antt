@@ -1,4 +1,4 @@
-use Rattle.std.proofs.Common.{◌≡◌, ◌<◌, ◌^◌, ◌∙◌, ◌∷◌, [], Some, ap, arith, subst, sym, true}
+use Rattle.std.proofs.Common.{refl, ◌≡◌, ◌<◌, ◌^◌, ◌∙◌, ◌∷◌, [], Some, ap, arith, subst, sym, true}
 use Rattle.dl_history.specs.OwnEvents.{Halts}
 use Rattle.engine_turns.specs.Phases.{AfterDisk}
 use Rattle.engine_turns.specs.declared.outcome.Outcome.TheVariants.{Over}
@@ -21,9 +21,10 @@ use Rattle.stored_run.specs.Steps.{turn_from}
 use Rattle.stored_run.specs.Views.{IsGoing, kept_want_of}
 use Rattle.stored_run.specs.declared.run.StoredView.{StoredView}
 use Rattle.stored_run.proofs.Doing.{grown_none}
-use Rattle.stored_run.proofs.Endings.{ended_own, fault_ends, going_facts, may_fail, plain_kept, rose_of, same_of}
+use Rattle.stored_run.proofs.Endings.{ended_own, fault_ends, going_facts, may_fail, plain_kept, rose_of, same_of, unended}
 use Rattle.stored_run.proofs.Kept.{halts}
-use Rattle.stored_run.proofs.Single.{read_run}
+use Rattle.stored_run.proofs.Left.{ended_left, going_left, held_stored}
+use Rattle.stored_run.proofs.Single.{read_run, stored_read}
 use Rattle.stored_run.proofs.Steady.{disk_read, grown_to, one_did}
 use Rattle.stored_run.proofs.WantPlaces.{piece_of_want, place_some, want_is, want_some, want_within}
 use Rattle.stored_run.proofs.run.StoredRun.read_into.Goals as goal
@@ -214,3 +215,44 @@ returns-in-Ok-clause-still g c went told =
     let d = g.D.Disk in
     subst (λ (v : StoredView _). IsSame (d.state v.disk).seen (d.state c.read_piece.new.disk).seen) c.self.view_is
     (c.read_piece.ensures.looks told).stays.seen
+
+pub returns-in-Err-Disk-clause-left : goal.returns-in-Err-Disk-clause-left
+returns-in-Err-Disk-clause-left g c over told want kept =
+    let d = g.D.Disk in
+    let m = c.self.inside.machine in
+    let came = c.ended.ensures.event in
+    let n = c.ended.new.self in
+    let gid = c.args.gid in
+    let how = end.Disk c.faults-count.result in
+    let items = c.self.inside.wants.items in
+    let laws = c.runs_follow.ensures in
+    let old = d.state c.self.inside.disk in
+    let new = d.state c.read_piece.new.disk in
+    let past_is = came.past_is ∙ ap (λ (x : Event). x ∷ m.past) came.is in
+    let may = subst (λ (x : Event). MayFollow m.start m.past x) came.is came.may in
+    let going = subst (λ (v : StoredView _). IsGoing v gid) (sym c.self.view_is) c.requires.going in
+    let facts = going_facts m.start m.past items gid c.self.invariant.wants_are going in
+    let stored = stored_read facts.want (own_of m.start m.past gid) old new (c.read_piece.ensures.looks told).stays
+    (c.self.invariant.stored told gid facts.want going facts.kept) in
+    ended_left laws d.tells (d.faults c.self.inside.disk) old new m.start n.start m.past n.past items
+    c.self.inside.now gid how facts.want c.self.invariant came.start_is past_is may facts.kept
+    (held_stored facts.want (own_of m.start m.past gid) new stored)
+    (unended laws m.start m.past gid c.self.invariant.legal going) (λ same. absurd cc) want kept
+
+pub returns-in-Err-NoMemory-clause-left : goal.returns-in-Err-NoMemory-clause-left
+returns-in-Err-NoMemory-clause-left g c over told =
+    let d = g.D.Disk in
+    let m = c.self.inside.machine in
+    let old = d.state c.self.inside.disk in
+    let new = d.state c.read_piece.new.disk in
+    let going = subst (λ (v : StoredView _). IsGoing v c.args.gid) (sym c.self.view_is) c.requires.going in
+    going_left c.runs_follow.ensures d.tells (d.faults c.read_piece.new.disk) new m.start m.past c.self.inside.wants.items
+    c.self.inside.now c.args.gid
+    (read_run d.tells (d.faults c.self.inside.disk) (d.faults c.read_piece.new.disk) old new m.start m.past
+    c.self.inside.wants.items c.self.inside.now c.self.invariant
+    (sym (same_of _ _ c.read_piece.result c.in-Err-NoMemory.field-0 c.read_piece.ensures.cause c.in-Err-NoMemory.is
+    c.in-Err-NoMemory.field-0-is)) (λ told. (c.read_piece.ensures.looks told).stays))
+    told going
+
+pub returns-in-Ok-clause-left : goal.returns-in-Ok-clause-left
+returns-in-Ok-clause-left g c over = absurd (over refl)

@@ -1,5 +1,5 @@
-use Rattle.std.proofs.Common.{◌≡◌, ◌<◌, ◌≤◌, [], ◌∷◌, ◌∙◌, ap, arith, length, refl, subst, sym, true, false}
-use Rattle.std.specs.Prelude.{IfSome}
+use Rattle.std.proofs.Common.{◌≡◌, ◌<◌, ◌≤◌, ◌⊎◌, ⊎_elim, inl, inr, [], ◌∷◌, ◌∙◌, ap, arith, length, refl, subst, sym, true, false}
+use Rattle.std.specs.Prelude.{IfSome, IsSome, IsTrue}
 use Rattle.dl_history.specs.OwnEvents.{Halts}
 use Rattle.dl_history.specs.PayloadParts.{is_opened}
 use Rattle.engine_turns.specs.Phases.{OpeningPhase}
@@ -10,7 +10,8 @@ use Rattle.machine_core.specs.OwnParts.{own_of}
 use Rattle.machine_core.specs.Reads.{downloads_in}
 use Rattle.machine_core.specs.RunLegal.{MayFollow, disk_fault_of}
 use Rattle.machine_core.specs.declared.events.Event.TheVariants.{Ended, Opened as OpenedEvent}
-use Rattle.stored_run.specs.Opening.{IsRefusedSince, IsToResume, OpensOn, is_checked_of}
+use Rattle.resume_core.specs.Refusals.{open_refusal}
+use Rattle.stored_run.specs.Opening.{IsDiskEnd, IsRefusedSince, IsToResume, OpensOn, is_checked_of}
 use Rattle.stored_run.specs.Steps.{turn_from}
 use Rattle.stored_run.specs.Views.{own_in}
 use Rattle.stored_run.specs.declared.run.StoredView.{StoredView}
@@ -18,7 +19,7 @@ use Rattle.stored_run.proofs.Doing.{continues_none, continues_wider, part_event,
 use Rattle.stored_run.proofs.EachSaved.{told_of}
 use Rattle.stored_run.proofs.Kept.{own_at}
 use Rattle.stored_run.proofs.OpenNext.{err_some, ok_holds}
-use Rattle.stored_run.proofs.OpenParts.{continues_still, just_still, on_still, opens_none, opens_still, own_still, part_still, place_low, place_there, still_on}
+use Rattle.stored_run.proofs.OpenParts.{continues_still, ended_failed, finds_still, on_still, opens_none, opens_still, own_still, part_still, place_low, place_there, still_on}
 use Rattle.stored_run.proofs.PlainEvents.{continues_event, told_so}
 use Rattle.stored_run.proofs.run.StoredRun.resume_one.Goals as goal
 
@@ -139,7 +140,7 @@ returns-in-Ok-open_as-clause-opened g c went =
     let b = c.resume_want.new.self in
     let still = still_on v a b c.hold_place.ensures.still c.resume_want.ensures.still in (
       c.in-Ok.opened,
-      λ told. just_still v a c.hold_place.ensures.still d.state c.hold_place.ensures.disk c.args.gid c.args.want
+      λ told. finds_still v a c.hold_place.ensures.still d.state c.hold_place.ensures.disk c.args.gid c.args.want
           c.in-Ok.opened (c.in-Ok.ensures.opened told),
       opens_still v b still c.args.gid c.args.want c.in-Ok.opened c.open_as.new.self c.in-Ok-open_as.ensures.came,
     )
@@ -241,7 +242,7 @@ returns-in-Err-Some-clause-on g c =
     let n = c.end_unopened.new.self in
     continues_still v b (still_on v a b c.hold_place.ensures.still c.resume_want.ensures.still) 1 n
     (continues_event c.runs_follow.ensures (Ended c.args.gid c.in-Err-Some.end) b n c.end_unopened.ensures
-    c.tells_kept-in-Err-Some.ensures.wants_are)
+    c.tells_stored-in-Err-Some.ensures.wants_are)
 
 pub returns-in-Err-Some-clause-disk : goal.returns-in-Err-Some-clause-disk
 returns-in-Err-Some-clause-disk g c told =
@@ -266,6 +267,23 @@ returns-in-Err-Some-clause-shut g c stopped =
     (λ s past ws. is_opened (own_of s past gid) ≡ false)
     (ap is_opened (own_at gid (Halts true) (own_in b gid))
     ∙ (ap is_opened (own_still v b still gid) ∙ c.requires.to_open.before.opening.unopened))
+
+pub returns-in-Err-Some-clause-reason : goal.returns-in-Err-Some-clause-reason
+returns-in-Err-Some-clause-reason g c over told =
+    let d = g.D.Disk in
+    let v = c.args.self.now in
+    let a = c.hold_place.new.self in
+    let b = c.resume_want.new.self in
+    let n = c.end_unopened.new.self in
+    let gid = c.args.gid in
+    let how = c.in-Err-Some.end in
+    let reason = err_some (λ h. IsTrue d.tells → IsDiskEnd h ⊎ IsSome (open_refusal c.args.want (d.state a.disk).seen))
+    c.resume_want.result c.in-Err-Some.field-0 how c.in-Err-Some.is c.in-Err-Some.field-0-is c.resume_want.ensures.reason in
+    ⊎_elim
+    (λ (fails : IsDiskEnd how). inl (ended_failed n gid how b.machine.past c.end_unopened.ensures.past fails))
+    (λ (is : IsSome (open_refusal c.args.want (d.state a.disk).seen)).
+    inr (subst (λ x. IsSome (open_refusal c.args.want (d.state x).seen)) c.hold_place.ensures.disk is))
+    (reason told)
 
 pub returns-clause-did : goal.returns-clause-did
 returns-clause-did g c =

@@ -1,10 +1,12 @@
-use Rattle.std.proofs.Common.{⊎_elim, arith, refl, subst, sym}
-use Rattle.std.specs.Prelude.{IfSome}
+use Rattle.std.proofs.Common.{◌⊎◌, ⊎_elim, arith, refl, subst, sym}
+use Rattle.std.specs.Prelude.{IfSome, IsSome, IsTrue}
 use Rattle.machine_core.specs.RunLegal.{MayFollow}
 use Rattle.machine_core.specs.declared.events.Event.TheVariants.{Ended}
-use Rattle.stored_run.specs.Opening.{IsRefusedSince, IsToResume, OpensOn, is_checked_of}
+use Rattle.resume_core.specs.Openings.{OpensJust, is_compared}
+use Rattle.resume_core.specs.Refusals.{open_refusal}
+use Rattle.stored_run.specs.Opening.{FindsJust, IsDiskEnd, IsRefusedSince, IsToResume, OpensOn, is_checked_of}
 use Rattle.stored_run.specs.declared.run.StoredView.{StoredView}
-use Rattle.stored_run.proofs.OpenNext.{refusal_count, refusal_may, refusal_since, rose_open}
+use Rattle.stored_run.proofs.OpenNext.{refusal_count, refusal_may, refusal_reason, refusal_since, refused_some, rose_open}
 use Rattle.stored_run.proofs.Openings.{apart_opening, resumed_kept}
 use Rattle.stored_run.proofs.run.StoredRun.resume_want.Goals as goal
 
@@ -35,7 +37,25 @@ returns-clause-disk g c told =
       gives = c.resume.ensures.gives told;
       pieces = c.resume.ensures.pieces told;
       whole = c.resume.ensures.whole told;
+      over_whole = c.resume.ensures.over_whole told;
+      refusable = c.resume.ensures.refusable told;
     }))
+
+pub returns-clause-opened : goal.returns-clause-opened
+returns-clause-opened g c =
+    let d = g.D.Disk in
+    let u = c.self.inside in
+    let a = c.args in
+    ⊎_elim
+    (λ ok. rw ok.result-is
+    (λ told.
+    subst (λ (v : StoredView _). FindsJust c.args.self.now a.gid a.want.now (d.state v.disk) ok.in-Ok.opened) c.self.view_is
+    (record {
+      allowed = (ok.in-Ok.ensures.refuses told).opened;
+      just = subst (λ b. OpensJust (is_compared a.want.now b) a.want.now (d.state u.disk).seen ok.in-Ok.opened)
+          c.is_checked-check.ensures (ok.in-Ok.ensures.opened told);
+    })))
+    (λ bad. rw bad.result-is tt) c.match-resume.branch-raw
 
 pub returns-clause-listed : goal.returns-clause-listed
 returns-clause-listed g c =
@@ -79,4 +99,19 @@ returns-clause-fault g c =
     (λ bad. rw bad.result-is
     (refusal_count c.args.gid (d.faults c.resume.new.disk) bad.faults-faults.result bad.in-Err.err bad.end_of.result
     bad.end_of.ensures (omega (arith, bad.faults-faults.ensures))))
+    c.match-resume.branch-raw
+
+pub returns-clause-reason : goal.returns-clause-reason
+returns-clause-reason g c =
+    let d = g.D.Disk in
+    let u = c.self.inside in
+    let a = c.args in
+    ⊎_elim (λ ok. rw ok.result-is tt)
+    (λ bad. rw bad.result-is
+    (subst
+    (λ (v : StoredView _). IfSome bad.end_of.result
+    (λ how. IsTrue d.tells → IsDiskEnd how ⊎ IsSome (open_refusal a.want.now (d.state v.disk).seen))) c.self.view_is
+    (refusal_reason bad.faults-faults.result bad.in-Err.err bad.end_of.result bad.end_of.ensures
+    (λ told is. refused_some (open_refusal a.want.now (d.state u.disk).seen) bad.in-Err.err
+    ((bad.in-Err.ensures.refuses told).refused is)))))
     c.match-resume.branch-raw

@@ -12,7 +12,7 @@ loop-at-init g c =
     let gids = c.args.gids.now in
     record {
       told = told_none gids v (d.faults v.disk);
-      sofar = sofar_none c.runs_follow.ensures d.tells (d.faults v.disk) gids v (d.state v.disk) c.tells_kept.ensures
+      sofar = sofar_none c.runs_follow.ensures d.tells (d.faults v.disk) gids v (d.state v.disk) c.tells_stored.ensures
           c.requires.stored;
     }
 
@@ -26,7 +26,7 @@ save_next-requires-clause-may g c =
     let gid = slice_index_or gids c.loop-at.at none in
     let there : slice_get gids c.loop-at.at ≡ Some gid = slice_get-get_or gids c.loop-at.at none (omega arith) in
     next_may c.runs_follow.ensures d.tells (d.faults now.disk) gids c.loop-at.at v now (d.state v.disk) (d.state now.disk)
-    c.requires.may c.requires.stored c.tells_kept-in-loop-at.ensures c.loop-at.invariant.sofar gid there
+    c.requires.may c.requires.stored c.tells_stored-in-loop-at.ensures c.loop-at.invariant.sofar gid there
 
 pub save_next-requires-clause-stored : goal.save_next-requires-clause-stored
 save_next-requires-clause-stored g c =
@@ -38,7 +38,7 @@ save_next-requires-clause-stored g c =
     let gid = slice_index_or gids c.loop-at.at none in
     let there : slice_get gids c.loop-at.at ≡ Some gid = slice_get-get_or gids c.loop-at.at none (omega arith) in
     next_stored c.runs_follow.ensures d.tells (d.faults now.disk) gids c.loop-at.at v now (d.state v.disk) (d.state now.disk)
-    c.requires.may c.requires.stored c.tells_kept-in-loop-at.ensures c.loop-at.invariant.sofar gid there
+    c.requires.may c.requires.stored c.tells_stored-in-loop-at.ensures c.loop-at.invariant.sofar gid there
 
 pub returns-in-Starved-clause-did : goal.returns-in-Starved-clause-did
 returns-in-Starved-clause-did g c =
@@ -64,10 +64,10 @@ returns-in-Starved-clause-disk g c told =
     let gid = slice_index_or gids c.loop-at.at none in
     let there : slice_get gids c.loop-at.at ≡ Some gid = slice_get-get_or gids c.loop-at.at none (omega arith) in
     (sofar_next c.runs_follow.ensures d.tells (d.faults now.disk) gids c.loop-at.at v now (d.state v.disk) (d.state now.disk)
-    c.requires.may c.requires.stored c.tells_kept-in-loop-at.ensures c.loop-at.invariant.sofar gid there new
+    c.requires.may c.requires.stored c.tells_stored-in-loop-at.ensures c.loop-at.invariant.sofar gid there new
     (d.state new.disk) c.save_next.ensures.on c.save_next.ensures.wants
     (came_of now new gid (d.faults now.disk) (d.faults new.disk) c.save_next.result c.save_next.ensures.did)
-    c.save_next.ensures.disk).keeps told
+    c.save_next.ensures.disk c.save_next.ensures.held).keeps told
 
 pub loop-at-preserved : goal.loop-at-preserved
 loop-at-preserved g c =
@@ -84,10 +84,10 @@ loop-at-preserved g c =
           (d.faults new.disk) c.loop-at.invariant.sofar.on c.save_next.result c.save_next.ensures.did
           c.in_default.not-Starved;
       sofar = sofar_next c.runs_follow.ensures d.tells (d.faults now.disk) gids c.loop-at.at v now (d.state v.disk)
-          (d.state now.disk) c.requires.may c.requires.stored c.tells_kept-in-loop-at.ensures c.loop-at.invariant.sofar gid
+          (d.state now.disk) c.requires.may c.requires.stored c.tells_stored-in-loop-at.ensures c.loop-at.invariant.sofar gid
           there new (d.state new.disk) c.save_next.ensures.on c.save_next.ensures.wants
           (came_of now new gid (d.faults now.disk) (d.faults new.disk) c.save_next.result c.save_next.ensures.did)
-          c.save_next.ensures.disk;
+          c.save_next.ensures.disk c.save_next.ensures.held;
     }
 
 pub returns-clause-did : goal.returns-clause-did

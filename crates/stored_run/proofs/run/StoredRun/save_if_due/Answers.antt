@@ -10,18 +10,19 @@ use Rattle.stored_run.proofs.Doing.{continues_none, continues_wider, did_nothing
 use Rattle.stored_run.proofs.Endings.{may_save, stored_apart}
 use Rattle.stored_run.proofs.Findings.{gid_found}
 use Rattle.stored_run.proofs.Parts.{ends_stored_part}
+use Rattle.stored_run.proofs.Left.{going_left}
 use Rattle.stored_run.proofs.run.StoredRun.save_if_due.Goals as goal
 
 pub save_one-requires-clause-may : goal.save_one-requires-clause-may
 save_one-requires-clause-may g c =
     let v = c.args.self.now in
-    may_save c.runs_follow.ensures v.machine.start v.machine.past c.args.gid c.tells_kept.ensures.legal c.requires.going
+    may_save c.runs_follow.ensures v.machine.start v.machine.past c.args.gid c.tells_stored.ensures.legal c.requires.going
 
 pub save_one-requires-clause-stored : goal.save_one-requires-clause-stored
 save_one-requires-clause-stored g c told =
     let d = g.D.Disk in
     let v = c.args.self.now in
-    stored_apart d.tells (d.faults v.disk) (d.state v.disk) v c.args.gid c.tells_kept.ensures c.requires.going told
+    stored_apart d.tells (d.faults v.disk) (d.state v.disk) v c.args.gid c.tells_stored.ensures c.requires.going told
 
 pub returns-then-is_save_due-clause-did : goal.returns-then-is_save_due-clause-did
 returns-then-is_save_due-clause-did g c download added =
@@ -69,5 +70,12 @@ returns-else-is_save_due-clause-disk g c told want is =
     let own = own_in v c.args.gid in
     let disk = g.D.Disk.state v.disk in
     ends_stored want own own disk disk
-    (stores_none c.runs_follow.ensures.give want own own disk (c.tells_kept.ensures.wants_are.sound c.args.gid want is)
+    (stores_none c.runs_follow.ensures.give want own own disk (c.tells_stored.ensures.wants_are.sound c.args.gid want is)
     (grown_none own))
+
+pub returns-else-is_save_due-clause-left : goal.returns-else-is_save_due-clause-left
+returns-else-is_save_due-clause-left g c told =
+    let d = g.D.Disk in
+    let v = c.args.self.now in
+    going_left c.runs_follow.ensures d.tells (d.faults v.disk) (d.state v.disk) v.machine.start v.machine.past v.wants.items
+    v.now c.args.gid c.tells_stored.ensures told c.requires.going

@@ -1,6 +1,8 @@
 use Rattle.std.proofs.Common.{◌∙◌}
 use Rattle.engine_turns.specs.Phases.{SavePhase}
 use Rattle.stored_run.proofs.EachSaved.{part_roomier, stored_roomier, stores_room, stores_roomier}
+use Rattle.stored_run.specs.Views.{own_in}
+use Rattle.stored_run.proofs.Left.{held_stored}
 use Rattle.stored_run.proofs.run.StoredRun.save_next.Goals as goal
 
 pub save_one-requires-clause-stored : goal.save_one-requires-clause-stored
@@ -25,4 +27,14 @@ returns-then-make_room-clause-disk g c told =
 pub returns-else-make_room-clause-disk : goal.returns-else-make_room-clause-disk
 returns-else-make_room-clause-disk g c told =
     stores_room c.args.self.now c.make_room.new.self c.make_room.ensures.same c.runs_follow.ensures g.D.Disk.state
-    c.args.gid (c.tells_kept.ensures.wants_are.sound c.args.gid)
+    c.args.gid (c.tells_stored.ensures.wants_are.sound c.args.gid)
+
+pub returns-then-make_room-clause-held : goal.returns-then-make_room-clause-held
+returns-then-make_room-clause-held g c told = c.save_one.ensures.held told
+
+pub returns-else-make_room-clause-held : goal.returns-else-make_room-clause-held
+returns-else-make_room-clause-held g c told want kept =
+    let a = c.make_room.new.self in
+    let state = g.D.Disk.state in
+    held_stored want (own_in a c.args.gid) (state a.disk)
+    ((stored_roomier c.args.self.now a c.make_room.ensures.same state c.args.gid (c.requires.stored told)).stored want kept)

@@ -5,15 +5,22 @@ use Rattle.dl_history.specs.Accounts.{listing_of}
 use Rattle.dl_history.specs.OwnEvents.{Saves}
 use Rattle.dl_words.specs.Counts.{Rose}
 use Rattle.dl_history.specs.OwnLegal.{MaySave}
-use Rattle.durable_progress.specs.HeldSteps.{IsHeldNow}
+use Rattle.control_file.specs.declared.want.Want.{Want}
+use Rattle.durable_progress.specs.HeldSteps.{IsHeldNow, StaysHeldOrSaved}
 use Rattle.machine_core.specs.OwnParts.{own_of}
+use Rattle.machine_core.specs.RunLegal.{MayFollow}
 use Rattle.machine_core.specs.declared.ends.End.TheVariants as end
+use Rattle.machine_core.specs.declared.events.Event.{Event}
 use Rattle.machine_core.specs.declared.events.Event.TheVariants.{Ended, Saved}
+use Rattle.std.proofs.lemmas.Option.{same_Some}
+use Rattle.stored_run.specs.Leavings.{IsLeftHeld, IsLeftIn}
 use Rattle.resume_core.specs.Tables.{IsTableOf}
 use Rattle.stored_run.specs.Steps.{IsStoredApart, StoresOn, turn_from}
-use Rattle.stored_run.specs.Stored.{IsStoredWith}
+use Rattle.stored_run.specs.Stored.{IsStoredWith, saved_listing}
 use Rattle.stored_run.specs.Views.{kept_want_of, own_in}
 use Rattle.stored_run.proofs.Doing.{IsGrown, fault_in, grown_none, own_grows, risen}
+use Rattle.stored_run.proofs.Findings.{saved_own}
+use Rattle.stored_run.proofs.Left.{ended_left, held_ended, held_stored, held_told, left_of, left_told, not_complete, save_held}
 use Rattle.stored_run.proofs.Own.{own_legal}
 use Rattle.stored_run.proofs.SaveOne.{appended, kept_here, may_fail, may_save, past_by, progress_by, save_stores, saved_stored, table_fits, table_here, there_if_opened, unsaved_stored}
 use Rattle.stored_run.proofs.Touching.{calls_kept, ending_kept, event_kept}
@@ -266,3 +273,186 @@ returns-in-Err-NoMemory-clause-disk g c told other other_kept =
     (table_here c.table.result c.unwrap-table.result _ c.unwrap-table.ensures c.table.ensures.some)
     (c.save_held.ensures.held told) (c.save_held.ensures.besides told) (c.save_held.ensures.sound told)
     (grown_none (own_of m.start m.past gid))) other_kept
+
+pub returns-in-Ok-clause-left : goal.returns-in-Ok-clause-left
+returns-in-Ok-clause-left g c told =
+    let m = c.self.inside.machine in
+    let gid = c.args.gid in
+    let want = c.unwrap-want.result.now in
+    let items = c.self.inside.wants.items in
+    let kept = kept_here m items gid c.deref.result.now c.want_of.result c.unwrap-want.result c.deref.ensures.value
+    c.want_of.ensures c.unwrap-want.ensures in
+    let has = c.self.invariant.wants_are.has gid want kept in
+    let may : MaySave (own_of m.start m.past gid) = subst (λ r. MaySave (own_in r gid)) (sym c.self.view_is) c.requires.may in
+    let sound = c.self.invariant.wants_are.sound gid want kept in
+    let legal = own_legal c.runs_follow.ensures m.start m.past gid want c.self.invariant.legal has in
+    let there : IsTrue g.D.Disk.tells → IsStoredApart _ gid (g.D.Disk.state c.self.inside.disk) =
+    λ told. subst (λ r. IsStoredApart r gid (g.D.Disk.state r.disk)) (sym c.self.view_is) (c.requires.stored told) in
+    let stored = (there told).stored want kept in
+    let laws = c.runs_follow.ensures in
+    let old = g.D.Disk.state c.self.inside.disk in
+    let new = g.D.Disk.state c.save_held.new.disk in
+    let table = table_here c.table.result c.unwrap-table.result _ c.unwrap-table.ensures c.table.ensures.some
+    ∙ progress_by m gid want has in
+    let came = c.saved.ensures.event in
+    let n = c.saved.new.self in
+    let e = Saved gid c.self.inside.now in
+    let x = Saves c.self.inside.now in
+    let past = came.past_is ∙ ap (λ (y : Event). y ∷ m.past) came.is in
+    let held = held_stored want (x ∷ own_of m.start m.past gid) new
+    (saved_stored laws want (own_of m.start m.past gid) sound legal old new c.self.inside.now may
+    (subst (λ t. IsHeldNow want (listing_of t) new) table (c.in-Ok.ensures.saved told)) (c.save_held.ensures.payload told)
+    stored) in
+    left_told laws g.D.Disk.tells (g.D.Disk.faults c.self.inside.disk) old new m.start n.start m.past n.past items
+    c.self.inside.now gid e x want c.self.invariant came.start_is past (saved_own gid c.self.inside.now) kept held may.going
+
+pub returns-in-Ok-clause-held : goal.returns-in-Ok-clause-held
+returns-in-Ok-clause-held g c told =
+    let m = c.self.inside.machine in
+    let gid = c.args.gid in
+    let want = c.unwrap-want.result.now in
+    let items = c.self.inside.wants.items in
+    let kept = kept_here m items gid c.deref.result.now c.want_of.result c.unwrap-want.result c.deref.ensures.value
+    c.want_of.ensures c.unwrap-want.ensures in
+    let has = c.self.invariant.wants_are.has gid want kept in
+    let may : MaySave (own_of m.start m.past gid) = subst (λ r. MaySave (own_in r gid)) (sym c.self.view_is) c.requires.may in
+    let sound = c.self.invariant.wants_are.sound gid want kept in
+    let legal = own_legal c.runs_follow.ensures m.start m.past gid want c.self.invariant.legal has in
+    let there : IsTrue g.D.Disk.tells → IsStoredApart _ gid (g.D.Disk.state c.self.inside.disk) =
+    λ told. subst (λ r. IsStoredApart r gid (g.D.Disk.state r.disk)) (sym c.self.view_is) (c.requires.stored told) in
+    let stored = (there told).stored want kept in
+    let laws = c.runs_follow.ensures in
+    let old = g.D.Disk.state c.self.inside.disk in
+    let new = g.D.Disk.state c.save_held.new.disk in
+    let table = table_here c.table.result c.unwrap-table.result _ c.unwrap-table.ensures c.table.ensures.some
+    ∙ progress_by m gid want has in
+    let came = c.saved.ensures.event in
+    let n = c.saved.new.self in
+    let e = Saved gid c.self.inside.now in
+    let x = Saves c.self.inside.now in
+    let past = came.past_is ∙ ap (λ (y : Event). y ∷ m.past) came.is in
+    let held = held_stored want (x ∷ own_of m.start m.past gid) new
+    (saved_stored laws want (own_of m.start m.past gid) sound legal old new c.self.inside.now may
+    (subst (λ t. IsHeldNow want (listing_of t) new) table (c.in-Ok.ensures.saved told)) (c.save_held.ensures.payload told)
+    stored) in
+    held_told laws g.D.Disk.tells (g.D.Disk.faults c.self.inside.disk) old new m.start n.start m.past n.past items
+    c.self.inside.now gid e x want c.self.invariant came.start_is past (saved_own gid c.self.inside.now) kept held
+
+pub returns-in-Err-Disk-clause-left : goal.returns-in-Err-Disk-clause-left
+returns-in-Err-Disk-clause-left g c told =
+    let m = c.self.inside.machine in
+    let gid = c.args.gid in
+    let want = c.unwrap-want.result.now in
+    let items = c.self.inside.wants.items in
+    let kept = kept_here m items gid c.deref.result.now c.want_of.result c.unwrap-want.result c.deref.ensures.value
+    c.want_of.ensures c.unwrap-want.ensures in
+    let has = c.self.invariant.wants_are.has gid want kept in
+    let may : MaySave (own_of m.start m.past gid) = subst (λ r. MaySave (own_in r gid)) (sym c.self.view_is) c.requires.may in
+    let sound = c.self.invariant.wants_are.sound gid want kept in
+    let legal = own_legal c.runs_follow.ensures m.start m.past gid want c.self.invariant.legal has in
+    let there : IsTrue g.D.Disk.tells → IsStoredApart _ gid (g.D.Disk.state c.self.inside.disk) =
+    λ told. subst (λ r. IsStoredApart r gid (g.D.Disk.state r.disk)) (sym c.self.view_is) (c.requires.stored told) in
+    let stored = (there told).stored want kept in
+    let laws = c.runs_follow.ensures in
+    let old = g.D.Disk.state c.self.inside.disk in
+    let new = g.D.Disk.state c.save_held.new.disk in
+    let table = table_here c.table.result c.unwrap-table.result _ c.unwrap-table.ensures c.table.ensures.some
+    ∙ progress_by m gid want has in
+    let came = c.ended.ensures.event in
+    let n = c.ended.new.self in
+    let how = end.Disk c.faults-count.result in
+    let past = came.past_is ∙ ap (λ (y : Event). y ∷ m.past) came.is in
+    let held = save_held laws want (own_of m.start m.past gid) sound legal may old new stored
+    (c.save_held.ensures.payload told) (c.save_held.ensures.besides told).passes.later
+    (subst (λ t. StaysHeldOrSaved want (saved_listing want (own_of m.start m.past gid)) (listing_of t) old new) table
+    (c.save_held.ensures.held told (saved_listing want (own_of m.start m.past gid)))) in
+    ended_left laws g.D.Disk.tells (g.D.Disk.faults c.self.inside.disk) old new m.start n.start m.past n.past items
+    c.self.inside.now gid how want c.self.invariant came.start_is past
+    (subst (λ (y : Event). MayFollow m.start m.past y) came.is came.may) kept held may.going (λ same. absurd cc)
+
+pub returns-in-Err-Disk-clause-held : goal.returns-in-Err-Disk-clause-held
+returns-in-Err-Disk-clause-held g c told =
+    let m = c.self.inside.machine in
+    let gid = c.args.gid in
+    let want = c.unwrap-want.result.now in
+    let items = c.self.inside.wants.items in
+    let kept = kept_here m items gid c.deref.result.now c.want_of.result c.unwrap-want.result c.deref.ensures.value
+    c.want_of.ensures c.unwrap-want.ensures in
+    let has = c.self.invariant.wants_are.has gid want kept in
+    let may : MaySave (own_of m.start m.past gid) = subst (λ r. MaySave (own_in r gid)) (sym c.self.view_is) c.requires.may in
+    let sound = c.self.invariant.wants_are.sound gid want kept in
+    let legal = own_legal c.runs_follow.ensures m.start m.past gid want c.self.invariant.legal has in
+    let there : IsTrue g.D.Disk.tells → IsStoredApart _ gid (g.D.Disk.state c.self.inside.disk) =
+    λ told. subst (λ r. IsStoredApart r gid (g.D.Disk.state r.disk)) (sym c.self.view_is) (c.requires.stored told) in
+    let stored = (there told).stored want kept in
+    let laws = c.runs_follow.ensures in
+    let old = g.D.Disk.state c.self.inside.disk in
+    let new = g.D.Disk.state c.save_held.new.disk in
+    let table = table_here c.table.result c.unwrap-table.result _ c.unwrap-table.ensures c.table.ensures.some
+    ∙ progress_by m gid want has in
+    let came = c.ended.ensures.event in
+    let n = c.ended.new.self in
+    let how = end.Disk c.faults-count.result in
+    let past = came.past_is ∙ ap (λ (y : Event). y ∷ m.past) came.is in
+    let held = save_held laws want (own_of m.start m.past gid) sound legal may old new stored
+    (c.save_held.ensures.payload told) (c.save_held.ensures.besides told).passes.later
+    (subst (λ t. StaysHeldOrSaved want (saved_listing want (own_of m.start m.past gid)) (listing_of t) old new) table
+    (c.save_held.ensures.held told (saved_listing want (own_of m.start m.past gid)))) in
+    held_ended laws g.D.Disk.tells (g.D.Disk.faults c.self.inside.disk) old new m.start n.start m.past n.past items
+    c.self.inside.now gid how want c.self.invariant came.start_is past
+    (subst (λ (y : Event). MayFollow m.start m.past y) came.is came.may) kept held
+
+pub returns-in-Err-NoMemory-clause-left : goal.returns-in-Err-NoMemory-clause-left
+returns-in-Err-NoMemory-clause-left g c told =
+    let m = c.self.inside.machine in
+    let gid = c.args.gid in
+    let want = c.unwrap-want.result.now in
+    let items = c.self.inside.wants.items in
+    let kept = kept_here m items gid c.deref.result.now c.want_of.result c.unwrap-want.result c.deref.ensures.value
+    c.want_of.ensures c.unwrap-want.ensures in
+    let has = c.self.invariant.wants_are.has gid want kept in
+    let may : MaySave (own_of m.start m.past gid) = subst (λ r. MaySave (own_in r gid)) (sym c.self.view_is) c.requires.may in
+    let sound = c.self.invariant.wants_are.sound gid want kept in
+    let legal = own_legal c.runs_follow.ensures m.start m.past gid want c.self.invariant.legal has in
+    let there : IsTrue g.D.Disk.tells → IsStoredApart _ gid (g.D.Disk.state c.self.inside.disk) =
+    λ told. subst (λ r. IsStoredApart r gid (g.D.Disk.state r.disk)) (sym c.self.view_is) (c.requires.stored told) in
+    let stored = (there told).stored want kept in
+    let laws = c.runs_follow.ensures in
+    let old = g.D.Disk.state c.self.inside.disk in
+    let new = g.D.Disk.state c.save_held.new.disk in
+    let table = table_here c.table.result c.unwrap-table.result _ c.unwrap-table.ensures c.table.ensures.some
+    ∙ progress_by m gid want has in
+    let held = held_stored want (own_of m.start m.past gid) new
+    (unsaved_stored want (own_of m.start m.past gid) old new
+    (c.save_held.ensures.unmade (c.in-Err-NoMemory.is ∙ ap Err c.in-Err-NoMemory.field-0-is) told)
+    (c.save_held.ensures.payload told) stored) in
+    λ other is.
+    subst (λ (v : Want). IsLeftIn m.start m.past gid v new) (same_Some want other (sym kept ∙ is))
+    (left_of m.start m.past gid want new held (not_complete m.start m.past gid may.going))
+
+pub returns-in-Err-NoMemory-clause-held : goal.returns-in-Err-NoMemory-clause-held
+returns-in-Err-NoMemory-clause-held g c told =
+    let m = c.self.inside.machine in
+    let gid = c.args.gid in
+    let want = c.unwrap-want.result.now in
+    let items = c.self.inside.wants.items in
+    let kept = kept_here m items gid c.deref.result.now c.want_of.result c.unwrap-want.result c.deref.ensures.value
+    c.want_of.ensures c.unwrap-want.ensures in
+    let has = c.self.invariant.wants_are.has gid want kept in
+    let may : MaySave (own_of m.start m.past gid) = subst (λ r. MaySave (own_in r gid)) (sym c.self.view_is) c.requires.may in
+    let sound = c.self.invariant.wants_are.sound gid want kept in
+    let legal = own_legal c.runs_follow.ensures m.start m.past gid want c.self.invariant.legal has in
+    let there : IsTrue g.D.Disk.tells → IsStoredApart _ gid (g.D.Disk.state c.self.inside.disk) =
+    λ told. subst (λ r. IsStoredApart r gid (g.D.Disk.state r.disk)) (sym c.self.view_is) (c.requires.stored told) in
+    let stored = (there told).stored want kept in
+    let laws = c.runs_follow.ensures in
+    let old = g.D.Disk.state c.self.inside.disk in
+    let new = g.D.Disk.state c.save_held.new.disk in
+    let table = table_here c.table.result c.unwrap-table.result _ c.unwrap-table.ensures c.table.ensures.some
+    ∙ progress_by m gid want has in
+    let held = held_stored want (own_of m.start m.past gid) new
+    (unsaved_stored want (own_of m.start m.past gid) old new
+    (c.save_held.ensures.unmade (c.in-Err-NoMemory.is ∙ ap Err c.in-Err-NoMemory.field-0-is) told)
+    (c.save_held.ensures.payload told) stored) in
+    λ other is.
+    subst (λ (v : Want). IsLeftHeld v (own_of m.start m.past gid) new) (same_Some want other (sym kept ∙ is)) held

@@ -7,11 +7,14 @@ use Rattle.engine_turns.specs.declared.outcome.Outcome.{Outcome}
 use Rattle.engine_turns.specs.declared.outcome.Outcome.TheVariants.{Went}
 use Rattle.machine_core.specs.MachineViews.{MachineView, mark_spare_in}
 use Rattle.stored_run.specs.Settlings.{ReadsPieceOf}
-use Rattle.stored_run.specs.Steps.{DoesPart}
+use Rattle.stored_run.specs.Steps.{DoesPart, turn_from}
 use Rattle.stored_run.proofs.Doing.{continues_on, continues_wider}
 use Rattle.stored_run.proofs.Endings.{going_facts}
 use Rattle.stored_run.proofs.Parts.{added_still, ends_part, ends_stored_part, grown_by}
 use Rattle.stored_run.proofs.SealedPieces.{going_still, not_void, reads_one, reads_still, same_settled, seal_grown, seal_row, settled_still, unread_seal, unread_unsettled, void_other}
+use Rattle.stored_run.proofs.Leaving.{leaves_one}
+use Rattle.stored_run.proofs.OfOne.{IsOwnEvent, all_own, own_all, part_others, read_in, seal_others}
+use Rattle.stored_run.proofs.Findings.{gid_found}
 use Rattle.stored_run.proofs.run.StoredRun.seal.Goals as goal
 
 pub settle_if_same-requires-clause-going : goal.settle_if_same-requires-clause-going
@@ -40,7 +43,7 @@ settle_if_same-requires-clause-read g c told =
     let v = c.args.self.now in
     let a = c.read_into.new.self in
     let gid = c.args.gid in
-    let facts = going_facts v.machine.start v.machine.past v.wants.items gid c.tells_kept.ensures.wants_are c.requires.going in
+    let facts = going_facts v.machine.start v.machine.past v.wants.items gid c.tells_stored.ensures.wants_are c.requires.going in
     let reads = subst
     (λ (n : ℕ). ReadsPieceOf v gid n (d.state v.disk).seen c.read_into.new.into.items) c.piece.ensures
     (c.read_into.ensures.read c.in-Went.is told) in
@@ -66,8 +69,8 @@ returns-in-Went-clause-row g c =
 pub returns-in-Went-clause-on : goal.returns-in-Went-clause-on
 returns-in-Went-clause-on g c = continues_on 1 6 _ _ _ c.read_into.ensures.on c.settle_if_same.ensures.on
 
-pub returns-in-Went-clause-disk : goal.returns-in-Went-clause-disk
-returns-in-Went-clause-disk g c told =
+pub returns-in-Went-clause-leaves : goal.returns-in-Went-clause-leaves
+returns-in-Went-clause-leaves g c told =
     let d = g.D.Disk in
     let v = c.args.self.now in
     let a = c.read_into.new.self in
@@ -80,11 +83,20 @@ returns-in-Went-clause-disk g c told =
     c.read_into.ensures.on first c.runs_follow.ensures gid p.download p.added in
     let second = seal_grown d.faults v a n gid c.args.sealed.now c.deref.result.now p.download c.settle_if_same.result p.added
     c.read_into.ensures.on first (c.settle_if_same.ensures.came p.download there) 6 c.settle_if_same.ensures.on gid in
-    ends_part d.tells (d.faults a.disk) v a n gid 1 (d.state v.disk) (d.state a.disk) (d.state n.disk) c.read_into.ensures.on
+    let ends = ends_part d.tells (d.faults a.disk) v a n gid 1 (d.state v.disk) (d.state a.disk) (d.state n.disk) c.read_into.ensures.on
     (grown_by (λ at. AfterDisk at gid []) v a 1 (d.faults v.disk) (d.faults a.disk) Went c.read_into.ensures.on first gid)
-    second c.tells_kept-in-Went.ensures
+    second c.tells_stored-in-Went.ensures
     (going_still v a (c.read_into.ensures.same c.in-Went.is) gid c.args.sealed.now.piece c.requires.going) told
-    (c.read_into.ensures.disk told) (c.settle_if_same.ensures.disk told)
+    (c.read_into.ensures.disk told) (c.settle_if_same.ensures.disk told) in
+    let all = own_all p.download gid (gid_found v.machine.start v.machine.past gid p.download p.added) in
+    leaves_one c.runs_follow.ensures d.tells (d.faults v.disk) v n (d.state v.disk) (d.state n.disk) c.tells_stored.ensures
+    told gid c.requires.going ends (c.settle_if_same.ensures.left told)
+    (λ h w is. c.settle_if_same.ensures.on.wants h w (c.read_into.ensures.on.wants h w is))
+    (λ h apart.
+    seal_others a n gid c.args.sealed.now c.deref.result.now (d.faults a.disk) (d.faults n.disk) p.download
+    c.settle_if_same.result 6 all c.settle_if_same.ensures.on (c.settle_if_same.ensures.came p.download there) h apart
+    ∙ part_others (λ at. AfterDisk at gid []) v a 1 (d.faults v.disk) (d.faults a.disk) Went gid c.read_into.ensures.on
+    first (read_in (IsOwnEvent gid) (turn_from v (d.faults v.disk)) gid (all_own gid)) h apart)
 
 pub returns-in-Went-clause-settled : goal.returns-in-Went-clause-settled
 returns-in-Went-clause-settled g c told between =
@@ -112,7 +124,7 @@ returns-in-Went-clause-void g c told void other =
     let a = c.read_into.new.self in
     let gid = c.args.gid in
     let p = c.requires.piece in
-    let facts = going_facts v.machine.start v.machine.past v.wants.items gid c.tells_kept.ensures.wants_are c.requires.going in
+    let facts = going_facts v.machine.start v.machine.past v.wants.items gid c.tells_stored.ensures.wants_are c.requires.going in
     let first = subst (λ (o : Outcome). DoesPart (λ at. AfterDisk at gid []) v (d.faults v.disk) a (d.faults a.disk) o)
     c.in-Went.is c.read_into.ensures.did in
     let there = added_still (λ at. AfterDisk at gid []) v a 1 (d.faults v.disk) (d.faults a.disk) Went
@@ -139,12 +151,18 @@ pub returns-clause-on : goal.returns-clause-on
 returns-clause-on g c =
     continues_wider 1 7 c.args.self.now c.read_into.new.self (omega arith) c.read_into.ensures.on
 
-pub returns-clause-disk : goal.returns-clause-disk
-returns-clause-disk g c told =
+pub returns-clause-leaves : goal.returns-clause-leaves
+returns-clause-leaves g c told =
     let d = g.D.Disk in
     let v = c.args.self.now in
     let a = c.read_into.new.self in
-    ends_stored_part v a c.args.gid (d.state v.disk) (d.state a.disk) (c.read_into.ensures.disk told)
+    let gid = c.args.gid in
+    leaves_one c.runs_follow.ensures d.tells (d.faults v.disk) v a (d.state v.disk) (d.state a.disk) c.tells_stored.ensures
+    told gid c.requires.going (ends_stored_part v a gid (d.state v.disk) (d.state a.disk) (c.read_into.ensures.disk told))
+    (c.read_into.ensures.left c.in_default.not-Went told) c.read_into.ensures.on.wants
+    (part_others (λ at. AfterDisk at gid []) v a 1 (d.faults v.disk) (d.faults a.disk) c.read_into.result gid
+    c.read_into.ensures.on c.read_into.ensures.did
+    (read_in (IsOwnEvent gid) (turn_from v (d.faults v.disk)) gid (all_own gid)))
 
 pub returns-clause-settled : goal.returns-clause-settled
 returns-clause-settled g c told between =

@@ -1,4 +1,4 @@
-use Rattle.std.proofs.Common.{Bool, arith, subst, sym}
+use Rattle.std.proofs.Common.{Bool, arith, subst, sym, refl}
 use Rattle.dl_kinds.specs.declared.gid.Gid.{Gid}
 use Rattle.engine_turns.specs.Phases.{FindingPhase, WrongPhase, after_finding_phase}
 use Rattle.engine_turns.specs.declared.outcome.Outcome.TheVariants.{Went}
@@ -58,15 +58,21 @@ returns-else-right-clause-disk g c told =
     let n = c.undo.new.self in
     let gid = c.args.gid in
     let piece = c.args.piece in
-    let here = going_facts a.machine.start a.machine.past a.wants.items gid c.tells_kept.ensures.wants_are
+    let here = going_facts a.machine.start a.machine.past a.wants.items gid c.tells_stored.ensures.wants_are
     c.find.ensures.still in
     let first = grown_by (λ at. FindingPhase at gid piece c.args.right) v a 1 (d.faults v.disk) (d.faults a.disk)
     Went c.find.ensures.on c.find.ensures.did gid in
     let second = grown_by (λ at. WrongPhase at here.has.download piece) a n 3 (d.faults a.disk) (d.faults n.disk)
     c.undo.result c.undo.ensures.on (c.undo.ensures.did here.has.download here.has.added) gid in
     stores_part d.tells (d.faults a.disk) v a n gid 1 (d.state v.disk) (d.state a.disk) (d.state n.disk)
-    c.find.ensures.on first second c.tells_kept.ensures c.find.ensures.still told (c.find.ensures.disk told)
+    c.find.ensures.on first second c.tells_stored.ensures c.find.ensures.still told (c.find.ensures.disk told)
     (c.undo.ensures.disk told)
 
 pub returns-then-right-clause-untouched : goal.returns-then-right-clause-untouched
 returns-then-right-clause-untouched g c right = c.find.ensures.untouched
+
+pub returns-then-right-clause-left : goal.returns-then-right-clause-left
+returns-then-right-clause-left g c over = absurd (over refl)
+
+pub returns-else-right-clause-left : goal.returns-else-right-clause-left
+returns-else-right-clause-left g c over = c.undo.ensures.left over

@@ -33,15 +33,15 @@ returns-in-Went-clause-disk g c told =
     let n = c.end_if_done.new.self in
     let gid = c.args.gid in
     let going = c.settle.ensures.still c.in-Went.is in
-    let here = going_facts a.machine.start a.machine.past a.wants.items gid c.tells_kept-in-Went.ensures.wants_are going in
-    let before = going_facts v.machine.start v.machine.past v.wants.items gid c.tells_kept.ensures.wants_are
+    let here = going_facts a.machine.start a.machine.past a.wants.items gid c.tells_stored-in-Went.ensures.wants_are going in
+    let before = going_facts v.machine.start v.machine.past v.wants.items gid c.tells_stored.ensures.wants_are
     c.requires.going in
     let first = grown_by (λ at. SettlingPhase at before.has.download c.args.piece c.args.right) v a 4 (d.faults v.disk)
     (d.faults a.disk) c.settle.result c.settle.ensures.on (c.settle.ensures.did before.has.download before.has.added) gid in
     let second = grown_by (λ at. EndingOr at here.has.download NoEvent) a n 2 (d.faults a.disk) (d.faults n.disk)
     c.end_if_done.result c.end_if_done.ensures.on (c.end_if_done.ensures.did here.has.download here.has.added) gid in
     ends_part d.tells (d.faults a.disk) v a n gid 4 (d.state v.disk) (d.state a.disk) (d.state n.disk) c.settle.ensures.on
-    first second c.tells_kept-in-Went.ensures going told (c.settle.ensures.disk told) (c.end_if_done.ensures.disk told)
+    first second c.tells_stored-in-Went.ensures going told (c.settle.ensures.disk told) (c.end_if_done.ensures.disk told)
 
 pub returns-in_default : goal.returns-in_default
 returns-in_default g c =
@@ -54,4 +54,5 @@ returns-in_default g c =
           c.in_default.not-Went (c.settle.ensures.did download added);
       on = continues_wider 4 6 v a (omega arith) c.settle.ensures.on;
       disk = λ told. ends_stored_part v a c.args.gid (d.state v.disk) (d.state a.disk) (c.settle.ensures.disk told);
+      left = c.settle.ensures.left c.in_default.not-Went;
     }

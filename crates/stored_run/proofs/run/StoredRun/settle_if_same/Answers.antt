@@ -3,6 +3,7 @@ use Rattle.std.proofs.lemmas.Slice.Eq.{bytes_eq-Decides}
 use Rattle.stored_run.specs.Settlings.{ReadsPieceOf}
 use Rattle.stored_run.specs.Views.{own_in}
 use Rattle.stored_run.proofs.Doing.{continues_none, continues_wider, ends_stored, grown_none, stores_none}
+use Rattle.stored_run.proofs.Left.{going_left}
 use Rattle.stored_run.proofs.run.StoredRun.settle_if_same.Goals as goal
 
 pub settle_sealed-requires-clause-read : goal.settle_sealed-requires-clause-read
@@ -41,5 +42,12 @@ returns-else-are_sealed-clause-disk g c told want is =
     let own = own_in v c.args.gid in
     let disk = g.D.Disk.state v.disk in
     ends_stored want own own disk disk
-    (stores_none c.runs_follow.ensures.give want own own disk (c.tells_kept.ensures.wants_are.sound c.args.gid want is)
+    (stores_none c.runs_follow.ensures.give want own own disk (c.tells_stored.ensures.wants_are.sound c.args.gid want is)
     (grown_none own))
+
+pub returns-else-are_sealed-clause-left : goal.returns-else-are_sealed-clause-left
+returns-else-are_sealed-clause-left g c told =
+    let d = g.D.Disk in
+    let v = c.args.self.now in
+    going_left c.runs_follow.ensures d.tells (d.faults v.disk) (d.state v.disk) v.machine.start v.machine.past v.wants.items
+    v.now c.args.gid c.tells_stored.ensures told c.requires.going

@@ -10,6 +10,9 @@ use Rattle.stored_run.specs.Steps.{turn_from}
 use Rattle.stored_run.proofs.Claimed.{claim_goes}
 use Rattle.stored_run.proofs.Doing.{row_of, row_of_none}
 use Rattle.stored_run.proofs.Losses.{blocks_row, home_of_claim, no_home_row, size_row}
+use Rattle.stored_run.proofs.Leaving.{leaves_still, leaves_told, telling_in}
+use Rattle.stored_run.specs.Stored.{IsStoredRun}
+use Rattle.stored_run.specs.declared.run.StoredView.{StoredView}
 use Rattle.stored_run.proofs.run.StoredRun.size.Goals as goal
 
 pub returns-in_default-clause-row : goal.returns-in_default-clause-row
@@ -51,3 +54,35 @@ returns-clause-row g c =
     subst (λ id. OfClaim (turn_from v from) s id (SizedRow (turn_from v from) s c.args.total) events Done) found.id_is
     (size_row (turn_from v from) s v.machine.past events _ granted.id c.args.total goes.download granted standing home
     probe phase))
+
+pub returns-in_default-clause-leaves : goal.returns-in_default-clause-leaves
+returns-in_default-clause-leaves g c told =
+    let d = g.D.Disk in
+    let v = c.args.self.now in
+    let run = subst (λ (r : StoredView _). IsStoredRun d.tells (d.faults r.disk) (d.state r.disk) r) c.self.view_is
+    c.self.invariant in
+    leaves_still c.runs_follow.ensures d.tells (d.faults v.disk) v (d.state v.disk) run told
+
+pub returns-then-granted-gt0-clause-leaves : goal.returns-then-granted-gt0-clause-leaves
+returns-then-granted-gt0-clause-leaves g c told =
+    let d = g.D.Disk in
+    let v = c.args.self.now in
+    let run = subst (λ (r : StoredView _). IsStoredRun d.tells (d.faults r.disk) (d.state r.disk) r) c.self.view_is
+    c.self.invariant in
+    leaves_still c.runs_follow.ensures d.tells (d.faults v.disk) v (d.state v.disk) run told
+
+pub returns-clause-leaves : goal.returns-clause-leaves
+returns-clause-leaves g c told =
+    let d = g.D.Disk in
+    let v = c.args.self.now in
+    let n = c.size_claim.new.self in
+    let gid = c.in-Some.gid in
+    let granted = c.in-Some.granted in
+    let run = subst (λ (r : StoredView _). IsStoredRun d.tells (d.faults r.disk) (d.state r.disk) r) c.self.view_is
+    c.self.invariant in
+    let found = subst (λ w. StandsUnder w.machine c.args.claim gid granted) c.self.view_is c.in-Some.ensures.found in
+    let goes = claim_goes c.runs_follow.ensures v.machine.start v.machine.past gid granted run.legal found.stands in
+    leaves_told c.runs_follow.ensures d.tells d.faults d.state (λ at. TellingPhase goes.download granted c.args.total) v n _ (d.faults v.disk)
+    (d.faults n.disk) c.size_claim.result run told c.size_claim.ensures.on
+    (c.size_claim.ensures.did goes.download goes.added)
+    (telling_in goes.download granted c.args.total) c.size_claim.ensures.disk

@@ -15,7 +15,7 @@ pub end_where_too_long-requires-clause-goes : goal.end_where_too_long-requires-c
 end_where_too_long-requires-clause-goes g c =
     let a = c.args in
     let m = a.self.now.machine in
-    let legal = c.tells_kept.ensures.legal in
+    let legal = c.tells_stored.ensures.legal in
     let goes = claim_goes c.runs_follow.ensures m.start m.past a.gid a.claim legal c.requires.stands.stands in
     let e = Sized a.gid a.claim.id a.total in
     told_so c.runs_follow.ensures e a.self.now c.tell_size.new.self c.tell_size.ensures
@@ -29,7 +29,7 @@ returns-clause-did g c download added =
     let laws = c.runs_follow.ensures in
     let e = Sized a.gid a.claim.id a.total in
     let told = c.tell_size.ensures in
-    let kept = c.tells_kept.ensures.wants_are in
+    let kept = c.tells_stored.ensures.wants_are in
     let same = ap (λ d. g.D.Disk.faults d) told.disk in
     let added_then = told_so laws e a.self.now c.tell_size.new.self told
     (λ s p ws. download_in s p a.gid ≡ Some download) (laws.downloads m.start m.past e a.gid download added) in
@@ -44,7 +44,7 @@ pub returns-clause-on : goal.returns-clause-on
 returns-clause-on g c =
     let a = c.args in
     let laws = c.runs_follow.ensures in
-    let kept = c.tells_kept.ensures.wants_are in
+    let kept = c.tells_stored.ensures.wants_are in
     continues_on 1 1 a.self.now c.tell_size.new.self c.end_where_too_long.new.self
     (continues_event laws (Sized a.gid a.claim.id a.total) a.self.now c.tell_size.new.self c.tell_size.ensures kept)
     c.end_where_too_long.ensures.on

@@ -6,9 +6,10 @@ use Rattle.engine_turns.specs.Phases.{SavesPhase}
 use Rattle.engine_turns.specs.declared.operations.Said.TheVariants.{NoMemory}
 use Rattle.engine_turns.specs.declared.outcome.Outcome.TheVariants.{Starved}
 use Rattle.machine_core.specs.RunLegal.{is_stop}
-use Rattle.stored_run.specs.Saves.{AreSavable, AreStoredApart, SavesKeep}
+use Rattle.stored_run.specs.Saves.{AreSavable, AreStoredApart, SavesDisk}
 use Rattle.stored_run.specs.Steps.{DoesPart}
-use Rattle.stored_run.proofs.AfterTelling.{goes_after, may_all, none_each, row_here, saved_each, stored_all}
+use Rattle.stored_run.proofs.AfterSaves.{halted_leaves, saved_leaves, stop_incomplete}
+use Rattle.stored_run.proofs.AfterTelling.{goes_after, may_all, row_here, stored_all}
 use Rattle.stored_run.proofs.CallSaves.{last_are, last_once, last_some, last_went_on}
 use Rattle.stored_run.proofs.EachSaved.{between_stop}
 use Rattle.stored_run.proofs.SavedRows.{saves_starved, stop_row}
@@ -20,10 +21,10 @@ save_all-requires-clause-may g c =
     let v = c.args.self.now in
     let mid = c.tell_stop.new.self in
     let laws = c.runs_follow.ensures in
-    let run = c.tells_kept.ensures in
+    let run = c.tells_stored.ensures in
     let came = c.tell_stop.ensures in
     let between = between_stop laws (list_any is_stop v.machine.past) v mid run.wants_are came in
-    let legal = c.tells_kept-2.ensures.legal in
+    let legal = c.tells_stored-2.ensures.legal in
     let due = c.in-Ok.due.items in
     let those = c.in-Ok.ensures.those in
     subst (λ (gids : List Gid). AreSavable mid gids) (sym c.deref.ensures.value)
@@ -36,10 +37,10 @@ save_all-requires-clause-stored g c told =
     let v = c.args.self.now in
     let mid = c.tell_stop.new.self in
     let laws = c.runs_follow.ensures in
-    let run = c.tells_kept.ensures in
+    let run = c.tells_stored.ensures in
     let came = c.tell_stop.ensures in
     let between = between_stop laws (list_any is_stop v.machine.past) v mid run.wants_are came in
-    let legal = c.tells_kept-2.ensures.legal in
+    let legal = c.tells_stored-2.ensures.legal in
     let due = c.in-Ok.due.items in
     subst (λ (gids : List Gid). AreStoredApart mid gids (d.state mid.disk)) (sym c.deref.ensures.value)
     (stored_all laws d.tells d.faults d.state v mid run (stop_events (list_any is_stop v.machine.past)) came between due
@@ -52,10 +53,10 @@ returns-in-Ok-clause-row g c =
     let mid = c.tell_stop.new.self in
     let new = c.save_all.new.self in
     let laws = c.runs_follow.ensures in
-    let run = c.tells_kept.ensures in
+    let run = c.tells_stored.ensures in
     let came = c.tell_stop.ensures in
     let between = between_stop laws (list_any is_stop v.machine.past) v mid run.wants_are came in
-    let legal = c.tells_kept-2.ensures.legal in
+    let legal = c.tells_stored-2.ensures.legal in
     let due = c.in-Ok.due.items in
     row_here laws d.tells d.faults d.state v mid run (stop_events (list_any is_stop v.machine.past)) came between StopRow new
     (d.faults new.disk) c.done_unless_starved.result
@@ -66,21 +67,26 @@ returns-in-Ok-clause-row g c =
     c.deref.ensures.value c.save_all.ensures.did)
     c.done_unless_starved.ensures)
 
-pub returns-in-Ok-clause-disk : goal.returns-in-Ok-clause-disk
-returns-in-Ok-clause-disk g c told =
+pub returns-in-Ok-clause-leaves : goal.returns-in-Ok-clause-leaves
+returns-in-Ok-clause-leaves g c told =
     let d = g.D.Disk in
     let v = c.args.self.now in
     let mid = c.tell_stop.new.self in
     let new = c.save_all.new.self in
     let laws = c.runs_follow.ensures in
-    let run = c.tells_kept.ensures in
+    let run = c.tells_stored.ensures in
     let came = c.tell_stop.ensures in
     let between = between_stop laws (list_any is_stop v.machine.past) v mid run.wants_are came in
-    let legal = c.tells_kept-2.ensures.legal in
+    let legal = c.tells_stored-2.ensures.legal in
     let due = c.in-Ok.due.items in
-    saved_each laws d.tells d.faults d.state v mid run (stop_events (list_any is_stop v.machine.past)) came between due
-    (last_went_on laws v mid legal came between due c.in-Ok.ensures.those) new told
-    (subst (λ (gids : List Gid). SavesKeep gids mid new (d.state mid.disk) (d.state new.disk)) c.deref.ensures.value
+    saved_leaves laws d.tells d.faults d.state v mid run (stop_events (list_any is_stop v.machine.past)) came between
+    (stop_incomplete (list_any is_stop v.machine.past)) told due
+    (last_went_on laws v mid legal came between due c.in-Ok.ensures.those) new (d.faults mid.disk)
+    (d.faults new.disk) c.save_all.result
+    (subst
+    (λ (gids : List Gid). DoesPart (λ at. SavesPhase at gids) mid (d.faults mid.disk) new (d.faults new.disk) c.save_all.result)
+    c.deref.ensures.value c.save_all.ensures.did)
+    (subst (λ (gids : List Gid). SavesDisk gids mid new (d.state mid.disk) (d.state new.disk)) c.deref.ensures.value
     (c.save_all.ensures.disk told))
 
 pub returns-in-Err-clause-row : goal.returns-in-Err-clause-row
@@ -89,25 +95,26 @@ returns-in-Err-clause-row g c =
     let v = c.args.self.now in
     let mid = c.tell_stop.new.self in
     let laws = c.runs_follow.ensures in
-    let run = c.tells_kept.ensures in
+    let run = c.tells_stored.ensures in
     let came = c.tell_stop.ensures in
     let between = between_stop laws (list_any is_stop v.machine.past) v mid run.wants_are came in
-    let some = last_some laws v mid c.tells_kept-2.ensures.legal came between c.in-Err.ensures.some in
+    let some = last_some laws v mid c.tells_stored-2.ensures.legal came between c.in-Err.ensures.some in
     row_here laws d.tells d.faults d.state v mid run (stop_events (list_any is_stop v.machine.past)) came between StopRow mid
     (d.faults mid.disk) NoMemory
     (stop_row v mid mid (d.faults mid.disk) (d.faults mid.disk) Starved NoMemory some.0 came some.1
     (saves_starved mid (d.faults mid.disk) some.0 some.2) refl)
 
-pub returns-in-Err-clause-disk : goal.returns-in-Err-clause-disk
-returns-in-Err-clause-disk g c told =
+pub returns-in-Err-clause-leaves : goal.returns-in-Err-clause-leaves
+returns-in-Err-clause-leaves g c told =
     let d = g.D.Disk in
     let v = c.args.self.now in
     let mid = c.tell_stop.new.self in
     let laws = c.runs_follow.ensures in
-    let run = c.tells_kept.ensures in
+    let run = c.tells_stored.ensures in
     let came = c.tell_stop.ensures in
-    none_each laws d.tells d.faults d.state v mid run (stop_events (list_any is_stop v.machine.past)) came
-    (between_stop laws (list_any is_stop v.machine.past) v mid run.wants_are came) told
+    halted_leaves laws d.tells d.faults d.state v mid run (stop_events (list_any is_stop v.machine.past)) came
+    (between_stop laws (list_any is_stop v.machine.past) v mid run.wants_are came)
+    (stop_incomplete (list_any is_stop v.machine.past)) told
 
 pub returns-in-Ok-clause-on : goal.returns-in-Ok-clause-on
 returns-in-Ok-clause-on g c =
@@ -115,7 +122,7 @@ returns-in-Ok-clause-on g c =
     let v = c.args.self.now in
     let mid = c.tell_stop.new.self in
     let laws = c.runs_follow.ensures in
-    let run = c.tells_kept.ensures in
+    let run = c.tells_stored.ensures in
     let came = c.tell_stop.ensures in
     let between = between_stop laws (list_any is_stop v.machine.past) v mid run.wants_are came in
     goes_after laws d.tells d.faults d.state v mid run (stop_events (list_any is_stop v.machine.past)) came between
@@ -125,4 +132,4 @@ pub returns-in-Err-clause-on : goal.returns-in-Err-clause-on
 returns-in-Err-clause-on g c =
     let v = c.args.self.now in
     (between_stop c.runs_follow.ensures (list_any is_stop v.machine.past) v c.tell_stop.new.self
-    c.tells_kept.ensures.wants_are c.tell_stop.ensures).on
+    c.tells_stored.ensures.wants_are c.tell_stop.ensures).on

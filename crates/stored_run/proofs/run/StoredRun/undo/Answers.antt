@@ -56,9 +56,9 @@ returns-in-Went-clause-disk g c told =
     let gid = c.args.gid in
     let piece = c.args.piece in
     let laws = c.runs_follow.ensures in
-    let here = going_facts a.machine.start a.machine.past a.wants.items gid c.tells_kept.ensures.wants_are
+    let here = going_facts a.machine.start a.machine.past a.wants.items gid c.tells_stored.ensures.wants_are
     (c.unlist.ensures.still c.in-Went.is).going in
-    let then = going_facts b.machine.start b.machine.past b.wants.items gid c.tells_kept-in-Went.ensures.wants_are
+    let then = going_facts b.machine.start b.machine.past b.wants.items gid c.tells_stored-in-Went.ensures.wants_are
     c.clear.ensures.still in
     let first = grown_by (λ at. UnlistingPhase at gid piece) v a 1 (d.faults v.disk) (d.faults a.disk)
     c.unlist.result c.unlist.ensures.on c.unlist.ensures.did gid in
@@ -67,10 +67,10 @@ returns-in-Went-clause-disk g c told =
     let third = grown_by (λ at. DeadPhase at then.has.download piece) b n 1 (d.faults b.disk) (d.faults n.disk)
     c.end_where_dead.result c.end_where_dead.ensures.on (c.end_where_dead.ensures.did then.has.download then.has.added) gid in
     stores_part d.tells (d.faults a.disk) v a n gid 1 (d.state v.disk) (d.state a.disk) (d.state n.disk)
-    c.unlist.ensures.on first (grown_on (own_in a gid) (own_in b gid) (own_in n gid) second third) c.tells_kept.ensures
+    c.unlist.ensures.on first (grown_on (own_in a gid) (own_in b gid) (own_in n gid) second third) c.tells_stored.ensures
     (c.unlist.ensures.still c.in-Went.is).going told (c.unlist.ensures.disk told)
     (stores_part d.tells (d.faults b.disk) a b n gid 1 (d.state a.disk) (d.state b.disk) (d.state n.disk)
-    c.clear.ensures.on second third c.tells_kept-in-Went.ensures c.clear.ensures.still told (c.clear.ensures.disk told)
+    c.clear.ensures.on second third c.tells_stored-in-Went.ensures c.clear.ensures.still told (c.clear.ensures.disk told)
     (c.end_where_dead.ensures.stores told))
 
 pub returns-in_default : goal.returns-in_default
@@ -90,5 +90,9 @@ returns-in_default g c =
           c.unlist.result) (sym gid_is) c.unlist.ensures.did);
       on = continues_wider 1 3 v a (omega arith) c.unlist.ensures.on;
       disk = c.unlist.ensures.disk;
+      left = c.unlist.ensures.left;
       still = λ went. absurd (c.in_default.not-Went went);
     }
+
+pub returns-in-Went-clause-left : goal.returns-in-Went-clause-left
+returns-in-Went-clause-left g c over = c.end_where_dead.ensures.left c.clear.ensures.still over

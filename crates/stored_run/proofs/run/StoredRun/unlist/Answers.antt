@@ -1,4 +1,4 @@
-use Rattle.std.proofs.Common.{arith, subst, sym}
+use Rattle.std.proofs.Common.{arith, subst, sym, refl}
 use Rattle.engine_turns.specs.Phases.{IfElse, NoEvent, SavePhase}
 use Rattle.machine_core.specs.Reads.{IsPieceUnlisted, IsUnlistedIn}
 use Rattle.machine_core.specs.RunLegal.{IsLegal}
@@ -89,3 +89,9 @@ returns-else-lists-clause-disk g c told want is =
     c.self.invariant.wants_are in
     stores_none c.runs_follow.ensures.give want (own_in v c.args.gid) (own_in v c.args.gid) (g.D.Disk.state v.disk)
     (kept.sound c.args.gid want is) (grown_none (own_in v c.args.gid))
+
+pub returns-then-lists-clause-left : goal.returns-then-lists-clause-left
+returns-then-lists-clause-left g c over = c.save_one.ensures.left
+
+pub returns-else-lists-clause-left : goal.returns-else-lists-clause-left
+returns-else-lists-clause-left g c over = absurd (over refl)

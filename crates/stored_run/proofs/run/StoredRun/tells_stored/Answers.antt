@@ -1,7 +1,7 @@
 use Rattle.std.proofs.Common.{subst}
 use Rattle.stored_run.specs.Stored.{IsStoredRun}
 use Rattle.stored_run.specs.declared.run.StoredView.{StoredView}
-use Rattle.stored_run.proofs.run.StoredRun.tells_kept.Goals as goal
+use Rattle.stored_run.proofs.run.StoredRun.tells_stored.Goals as goal
 
 pub returns : goal.returns
 returns g c =
