@@ -6,16 +6,13 @@ use Rattle.dl_kinds.specs.declared.claims.Claim.{Claim}
 use Rattle.dl_kinds.specs.declared.gid.Gid.{Gid}
 use Rattle.dl_kinds.specs.declared.marks.Mark.{Mark}
 use Rattle.dl_kinds.specs.declared.runs.Run.{Run}
-use Rattle.dl_history.specs.PayloadParts.{is_sole_in}
-use Rattle.machine_core.specs.OwnParts.{own_of}
 use Rattle.machine_core.specs.RunLegal.{doors_left, is_stop}
 use Rattle.machine_core.specs.Starts.{Download}
 use Rattle.machine_core.specs.declared.events.Event.{Event}
-use Rattle.machine_core.specs.declared.events.Event.TheVariants.{Cleared, Ended, Left, Lost, Saved, Sized, Stopped}
-use Rattle.machine_core.specs.declared.ends.End.TheVariants as end
+use Rattle.machine_core.specs.declared.events.Event.TheVariants.{Left, Stopped}
 use Rattle.engine_turns.specs.CallRows.{LeaveRow, StopRow, left_events, stop_events}
-use Rattle.engine_turns.specs.ClaimRows.{DeliverRow, DueSavePhase, IsSaveDue, LoseRow, SizedRow, filled_phase, lost_piece, sole_phase}
-use Rattle.engine_turns.specs.Phases.{AllRightPhase, AndThen, DeadPhase, EndingOr, IfElse, IsRisen, IsSaveOrFault, JustEnd, JustEvent, LandingsPhase, NoEvent, SavePhase, SavesPhase, SettlingPhase, TurnStart}
+use Rattle.engine_turns.specs.ClaimRows.{DeliverRow, LoseRow, SizedRow}
+use Rattle.engine_turns.specs.Phases.{IsSaveOrFault, SavesPhase, TurnStart}
 use Rattle.engine_turns.specs.Told.{history_after}
 use Rattle.engine_turns.specs.Standings.{AnswersOnly, AnswersUnlessStarved, OfClaim, RunStanding}
 use Rattle.engine_turns.specs.declared.operations.Said.{Said}
@@ -23,7 +20,8 @@ use Rattle.engine_turns.specs.declared.operations.Said.TheVariants.{Done, Void}
 use Rattle.engine_turns.specs.declared.outcome.Outcome.{Outcome}
 use Rattle.engine_turns.specs.declared.outcome.Outcome.TheVariants.{Went, Over, Starved}
 use Rattle.engine_core.proofs.Letting.{lets_go}
-use Rattle.engine_core.proofs.Calm.{AreCalm, IsCalm, is_call, one_event, calm_by, calm_dead, calm_end, calm_ending, calm_event, calm_if, calm_landings, calm_none, calm_save, calm_settling, calm_then, no_events}
+use Rattle.engine_core.proofs.Calm.{AreCalm, calm_owned, calm_owned_event, is_call, no_events, one_event}
+use Rattle.engine_core.proofs.Owned.{owned_deliver, owned_lose, owned_save_event, owned_sized}
 
 -- no call is among the events of the row, and its answer lets nothing go
 abbrev pub IsCalmRow : (List Event → Said → Type 0) → Type 0
@@ -45,66 +43,26 @@ calm_claim at s id Row calm events said is = ⊎_elim (λ none. calm_only Void r
     (λ (home : (download : Download) × (claim : Claim) × _ × Row download claim events said).
     calm home.0 home.1 events said home.3) is
 
-sole_calm : (gid : Gid) (piece : ℕ) (sole : Bool) → IsCalm (sole_phase gid piece sole)
-sole_calm gid piece true = calm_event (Cleared gid piece) refl
-sole_calm gid piece false = calm_none
-
+-- of one download
 pub calm_lose : (at : TurnStart) (s : RunStanding) (mark : Mark) (download : Download) (claim : Claim)
     → IsCalmRow (LoseRow at s mark download claim)
 calm_lose at s mark download claim events said is =
-    let piece = lost_piece at.start s.past download.gid claim in
-    let sole = is_sole_in (own_of at.start s.past download.gid) piece in (
-      calm_then (JustEvent (Lost download.gid claim.id claim.mirror piece mark))
-          (AndThen (sole_phase download.gid piece sole) (DeadPhase at download piece))
-          (calm_event (Lost download.gid claim.id claim.mirror piece mark) refl)
-          (calm_then (sole_phase download.gid piece sole) (DeadPhase at download piece) (sole_calm download.gid piece sole)
-          (calm_dead at download piece)) s.past events is.0 is.1,
-      ap lets_go is.2,
-    )
+    (calm_owned download.gid events (owned_lose at s mark download claim events said is), ap lets_go is.2)
 
 pub calm_sized : (at : TurnStart) (s : RunStanding) (total : ℕ) (download : Download) (claim : Claim)
     → IsCalmRow (SizedRow at s total download claim)
-calm_sized at s total download claim events said is = ⊎_elim
-    (λ told. (
-      calm_then (JustEvent (Sized download.gid claim.id total))
-          (IfElse _ (JustEnd (Ended download.gid (end.TooLarge total))) NoEvent)
-          (calm_event (Sized download.gid claim.id total) refl)
-          (calm_if _ (JustEnd (Ended download.gid (end.TooLarge total))) NoEvent
-          (calm_end (Ended download.gid (end.TooLarge total)) refl) calm_none) s.past events told.1.0 told.1.1,
-      ap lets_go told.1.2,
-    ))
-    (λ void. calm_only Void refl events said void.1) is
-
-right_calm : (at : TurnStart) (download : Download) (pieces : List ℕ) → IsCalm (AllRightPhase at download pieces)
-right_calm at download [] = calm_none
-right_calm at download (piece ∷ pieces) =
-    calm_then (SettlingPhase at download piece true) (AllRightPhase at download pieces)
-    (calm_settling at download piece true) (right_calm at download pieces)
-
-filled_calm : (at : TurnStart) (before : List Event) (download : Download) (listed : Bool)
-    → IsCalm (filled_phase at before download listed)
-filled_calm at before download true past events o is = calm_none past events o is
-filled_calm at before download false past events o is = right_calm at download is.0 past events o is.2
-
-due_calm : (at : TurnStart) (download : Download) → IsCalm (DueSavePhase at download)
-due_calm at download =
-    calm_by (λ past. IfElse (IsSaveDue at past download) (SavePhase at download.gid) NoEvent)
-    (λ past. calm_if (IsSaveDue at past download) (SavePhase at download.gid) NoEvent (calm_save at download.gid) calm_none)
+calm_sized at s total download claim events said is = (
+  calm_owned download.gid events (owned_sized at s total download claim events said is),
+  ⊎_elim (λ told. ap lets_go told.1.2) (λ void. ap lets_go void.1.1) is,
+)
 
 pub calm_deliver : (at : TurnStart) (s : RunStanding) (run : Run) (bytes : List ℕ) (download : Download) (claim : Claim)
     → IsCalmRow (DeliverRow at s run bytes download claim)
-calm_deliver at s run bytes download claim events said is = ⊎_elim
-    (λ (kept : _ × _).
-    let here = kept.1 in (
-      calm_then (LandingsPhase at download.gid claim.id claim.mirror here.runs)
-          (AndThen (filled_phase at s.past download _) (EndingOr at download (DueSavePhase at download)))
-          (calm_landings at download.gid claim.id claim.mirror here.runs)
-          (calm_then (filled_phase at s.past download _) (EndingOr at download (DueSavePhase at download))
-          (filled_calm at s.past download _)
-          (calm_ending at download (DueSavePhase at download) (due_calm at download))) s.past events here.outcome here.is,
-      unless_starved _ here.outcome said refl here.answer,
-    ))
-    (λ (void : _ × _). calm_only Void refl events said void.1) is
+calm_deliver at s run bytes download claim events said is = (
+  calm_owned download.gid events (owned_deliver at s run bytes download claim events said is),
+  ⊎_elim (λ (kept : _ × _). unless_starved _ kept.1.outcome said refl kept.1.answer)
+      (λ (void : _ × _). ap lets_go void.1.1) is,
+)
 
 -- ---- saves, and doors
 
@@ -113,13 +71,9 @@ pub saves_calm : (at : TurnStart) (gids : List Gid) (past events : List Event) (
 saves_calm at [] past events o is = no_events events is.0
 saves_calm at (gid ∷ gids) past events o is = ⊎_elim
     (λ (saves : (e : Event) × (rest : List Event) × (events ≡ e ∷ rest) × IsSaveOrFault at gid e × SavesPhase at gids (e ∷ past) rest o).
-    subst AreCalm (sym saves.2) (All-cons (λ (x : Event). is_call x ≡ false) saves.0 saves.1 (one saves.0 saves.3)
+    subst AreCalm (sym saves.2) (All-cons (λ (x : Event). is_call x ≡ false) saves.0 saves.1 (calm_owned_event gid saves.0 (owned_save_event at gid saves.0 saves.3).gid_is)
     (saves_calm at gids (saves.0 ∷ past) saves.1 o saves.4)))
     (λ (none : (events ≡ []) × (o ≡ Starved)). no_events events none.0) is
-  where
-    one : (e : Event) → IsSaveOrFault at gid e → is_call e ≡ false
-    one e is = ⊎_elim (λ (saved : e ≡ Saved gid at.now). ap is_call saved)
-        (λ (fault : (count : ℕ) × IsRisen at count × (e ≡ Ended gid (end.Disk count))). ap is_call fault.2) is
 
 stop_calm : (stopped : Bool) → AreCalm (stop_events stopped)
 stop_calm true = no_events [] refl

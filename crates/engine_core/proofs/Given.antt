@@ -9,15 +9,14 @@ use Rattle.machine_core.specs.RunLegal.{is_listed}
 use Rattle.machine_core.specs.Starts.{Download, RunStart}
 use Rattle.machine_core.specs.declared.ends.End.TheVariants as end
 use Rattle.machine_core.specs.declared.events.Event.{Event}
-use Rattle.machine_core.specs.declared.events.Event.TheVariants.{Claimed, Ended}
+use Rattle.machine_core.specs.declared.events.Event.TheVariants.{Ended}
 use Rattle.machine_core.specs.declared.handed.Handed.{Handed}
-use Rattle.machine_core.specs.declared.offers.Offer.{Offer}
 use Rattle.machine_core.specs.declared.offers.Offer.TheVariants as offer
 use Rattle.rate_limits.specs.Shared.{levels_taken}
 use Rattle.rate_tokens.specs.declared.bucket.Take.TheVariants.{Go}
 use Rattle.engine_turns.specs.Levels.{downloads_of, spent_by}
-use Rattle.engine_turns.specs.NextRows.{CountsAsRight, IsFaulted, OfferRow, whole_row}
-use Rattle.engine_turns.specs.Phases.{EndingOr, NoEvent, SettlingPhase, TurnStart}
+use Rattle.engine_turns.specs.NextRows.{IsFaulted, whole_row}
+use Rattle.engine_turns.specs.Phases.{TurnStart}
 use Rattle.engine_turns.specs.RunTurns.{IsAnswered, answer_before}
 use Rattle.engine_turns.specs.Standings.{AnswersOnly, RunStanding}
 use Rattle.engine_turns.specs.Told.{handed_by, history_after, is_taken, moment_of_operation, seals_handed}
@@ -34,8 +33,9 @@ use Rattle.engine_core.specs.Giving.{GivenRow, MakesRow, UnopenedRow}
 use Rattle.engine_core.specs.Handing.{IsUnsettled}
 use Rattle.engine_core.specs.Performing.{HandsUnsettled, Performs}
 use Rattle.engine_core.specs.declared.state.EngineState.{EngineState}
-use Rattle.engine_core.proofs.Calm.{AreCalm, StaysUncalled, calm_ending, calm_none, calm_settling, calm_then, no_events, one_event, stays_uncalled}
-use Rattle.engine_core.proofs.CalmRows.{calm_only, unless_starved}
+use Rattle.engine_core.proofs.Calm.{AreCalm, StaysUncalled, calm_owned, no_events, stays_uncalled}
+use Rattle.engine_core.proofs.CalmRows.{IsCalmRow, calm_only, unless_starved}
+use Rattle.engine_core.proofs.Owned.{owned_counted, owned_faulted, owned_offer}
 use Rattle.engine_core.proofs.Handings.{filter_all}
 use Rattle.engine_core.proofs.Letting.{lets_go}
 use Rattle.engine_core.proofs.Levels.{levels_stay}
@@ -188,51 +188,29 @@ module _ {D : Type 0} (op : Operation) (Row : TurnStart → RunStanding → List
 
 -- ---- rows that bring no call
 
-calm_unread : (gid : Gid) (at : TurnStart) (s : RunStanding) (events : List Event) (said : Said)
-    → UnreadRow gid at s events said → AreCalm events × (lets_go said ≡ false)
+calm_unread : (gid : Gid) (at : TurnStart) (s : RunStanding) → IsCalmRow (UnreadRow gid at s)
 calm_unread gid at s events said is = ⊎_elim
     (λ (faulted : IsFaulted at gid events said).
-    (one_event (Ended gid (end.Disk faulted.0.0)) events refl faulted.0.2, ap lets_go faulted.1))
+    (calm_owned gid events (owned_faulted gid at events said faulted), ap lets_go faulted.1))
     (λ (starved : AnswersOnly NoMemory events said). calm_only NoMemory refl events said starved) is
 
-calm_counted : (at : TurnStart) (s : RunStanding) (download : Download) (piece : ℕ) (events : List Event) (said : Said)
-    → CountsAsRight at s download piece events said → AreCalm events × (lets_go said ≡ false)
-calm_counted at s download piece events said is = (
-  calm_then (SettlingPhase at download piece true) (EndingOr at download NoEvent) (calm_settling at download piece true)
-      (calm_ending at download NoEvent calm_none) s.past events is.0 is.1,
+calm_ungiven_by : (listed : Bool) (at : TurnStart) (s : RunStanding) (download : Download) (piece : ℕ)
+    → IsCalmRow (ungiven_row at s download piece listed)
+calm_ungiven_by true at s download piece events said is = calm_unread download.gid at s events said is
+calm_ungiven_by false at s download piece events said is = (
+  calm_owned download.gid events (owned_counted at s download piece events said is),
   unless_starved Done is.0 said refl is.2,
 )
 
-calm_ungiven_by : (listed : Bool) (at : TurnStart) (s : RunStanding) (download : Download) (piece : ℕ)
-    (events : List Event) (said : Said) → ungiven_row at s download piece listed events said
-    → AreCalm events × (lets_go said ≡ false)
-calm_ungiven_by true at s download piece events said is = calm_unread download.gid at s events said is
-calm_ungiven_by false at s download piece events said is = calm_counted at s download piece events said is
-
-pub calm_ungiven : (gid : Gid) (piece : ℕ) (at : TurnStart) (s : RunStanding) (events : List Event) (said : Said)
-    → UngivenRow gid piece at s events said → AreCalm events × (lets_go said ≡ false)
+pub calm_ungiven : (gid : Gid) (piece : ℕ) (at : TurnStart) (s : RunStanding) → IsCalmRow (UngivenRow gid piece at s)
 calm_ungiven gid piece at s events said is =
     calm_ungiven_by (is_listed is.0.subject) at s is.0 piece events said is.2
-
-calm_whole : (listed : Bool) (at : TurnStart) (s : RunStanding) (download : Download) (piece : ℕ) (events : List Event)
-    (said : Said) → whole_row at s download piece listed events said → AreCalm events
-calm_whole true at s download piece events said is = ⊎_elim (λ hash. no_events events hash.is.0)
-    (λ unread. (calm_unread download.gid at s events said unread).0) is
-calm_whole false at s download piece events said is = (calm_counted at s download piece events said is).0
-
-calm_offer : (o : Offer) (at : TurnStart) (s : RunStanding) (worker : ℕ) (download : Download) (events : List Event)
-    (said : Said) → OfferRow at s worker download o events said → AreCalm events
-calm_offer (offer.Whole piece) at s worker download events said is =
-    calm_whole (is_listed download.subject) at s download piece events said is
-calm_offer (offer.Blocks mirror run victim) at s worker download events said is =
-    one_event (Claimed download.gid _) events refl is.claimed
-calm_offer (offer.Probe mirror) at s worker download events said is =
-    one_event (Claimed download.gid _) events refl is.claimed
 
 pub calm_unopened : (worker : ℕ) (at : TurnStart) (s : RunStanding) (events : List Event) (said : Said)
     → UnopenedRow worker at s events said → AreCalm events
 calm_unopened worker at s events said is = ⊎_elim (λ (none : AnswersOnly NoMemory events said). no_events events none.0)
-    (λ given. ⊎_elim (λ one. calm_offer one.offer at s worker one.download events said one.row)
+    (λ given. ⊎_elim
+    (λ one. calm_owned one.download.gid events (owned_offer one.offer at s worker one.download events said one.row))
     (λ idle. ⊎_elim (λ held. no_events events held.2.0) (λ rest. no_events events rest.1.0) idle) given) is
 
 -- ---- a full piece

@@ -1,5 +1,5 @@
 -- Answers that let nothing go: no piece is handed out, and no bytes are let through.
-use Rattle.std.proofs.Common.{◌≡◌, Bool, true, false, None, List, [], refl, sym, ap, subst}
+use Rattle.std.proofs.Common.{◌≡◌, ℕ, Bool, true, false, None, List, [], length, refl, sym, ap, ◌∙◌, subst}
 use Rattle.std.specs.Prelude.{◌&&◌, All}
 use Rattle.std.proofs.lemmas.List.Elements.{All-nil}
 use Rattle.machine_core.specs.Reads.{is_finished_in}
@@ -47,16 +47,22 @@ nothing_spent start past op Finished none = refl
 nothing_spent start past op (JournalFull count) none = refl
 nothing_spent start past op NoMemory none = refl
 
--- what is answered before an operation lets nothing go
-pub front_lets_none : (asks needs : Bool) (start : RunStart) (past : List Event) (said : Said)
-    → IsBrokenOff (answer_to asks needs start past) said → lets_go said ≡ false
-front_lets_none asks needs start past said is =
+-- what holds of Finished, JournalFull and NoMemory holds of what is answered before an operation
+pub front_none : (f : Said → Bool) → f Finished ≡ false → ((count : ℕ) → f (JournalFull count) ≡ false)
+    → f NoMemory ≡ false → (asks needs : Bool) (start : RunStart) (past : List Event) (said : Said)
+    → IsBrokenOff (answer_to asks needs start past) said → f said ≡ false
+front_none f finished full memory asks needs start past said is =
     by (asks && is_finished_in start past) (needs && is_nearly_full past) refl refl
   where
-    by : (a b : Bool) → (asks && is_finished_in start past) ≡ a → (needs && is_nearly_full past) ≡ b → lets_go said ≡ false
-    by true b finished full = let said_is = (rw finished at is) in ap lets_go said_is
-    by false true finished full = let said_is = (rw full at (rw finished at is)) in ap lets_go said_is
-    by false false finished full = let said_is = (rw full at (rw finished at is)) in ap lets_go said_is
+    by : (a b : Bool) → (asks && is_finished_in start past) ≡ a → (needs && is_nearly_full past) ≡ b → f said ≡ false
+    by true b at_end nearly = let said_is = (rw at_end at is) in ap f said_is ∙ finished
+    by false true at_end nearly = let said_is = (rw nearly at (rw at_end at is)) in ap f said_is ∙ full (length past)
+    by false false at_end nearly = let said_is = (rw nearly at (rw at_end at is)) in ap f said_is ∙ memory
+
+-- it lets nothing go
+pub front_lets_none : (asks needs : Bool) (start : RunStart) (past : List Event) (said : Said)
+    → IsBrokenOff (answer_to asks needs start past) said → lets_go said ≡ false
+front_lets_none = front_none lets_go refl (λ count. refl) refl
 
 -- .. and what it hands out, of which there is nothing, meets any condition
 pub none_out : (P : Handed → Type 0) (said : Said) → lets_go said ≡ false → All P (handed_by said)

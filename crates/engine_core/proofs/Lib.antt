@@ -1,4 +1,5 @@
 pub mod Letting
+pub mod Owned
 pub mod Calm
 pub mod CalmRows
 pub mod Downloads
@@ -16,3 +17,15 @@ pub mod Allowing
 pub mod Granted
 pub mod Nexts
 pub mod Sealed
+pub mod Gone
+pub mod Promising
+pub mod Keeping
+pub mod LeftOver
+pub mod Ending
+pub mod Opened
+pub mod Turned
+pub mod TurnCases
+pub mod Marks
+pub mod PromisesOn
+pub mod Alike
+pub mod DiskTaken

@@ -1,14 +1,13 @@
 -- What a worker is answered that asks what it is to do.
-use Rattle.std.proofs.Common.{◌≡◌, inl, inr, ⊎_elim, ◌⊎◌, ℕ, false, Some, None, List, ◌++◌, refl, sym, ap, ◌∙◌, subst, arith}
+use Rattle.std.proofs.Common.{◌≡◌, inl, inr, ⊎_elim, ℕ, Some, None, List, ◌++◌, refl, sym, ap, ◌∙◌, subst, arith}
 use Rattle.dl_kinds.specs.declared.gid.Gid.{Gid}
 use Rattle.machine_core.specs.Claiming.{next_to_open}
 use Rattle.machine_core.specs.RunLegal.{download_in}
 use Rattle.machine_core.specs.Starts.{Download, RunStart}
 use Rattle.machine_core.specs.declared.events.Event.{Event}
-use Rattle.machine_core.specs.declared.events.Event.TheVariants.{Ended}
 use Rattle.machine_core.specs.declared.handed.Handed.{Handed}
 use Rattle.engine_turns.specs.NextRows.{IsClashed, IsOpeningTurn, OpenRow}
-use Rattle.engine_turns.specs.Phases.{EndingOr, NoEvent, OpeningPhase, TurnStart}
+use Rattle.engine_turns.specs.Phases.{TurnStart}
 use Rattle.engine_turns.specs.RunTurns.{IsAnswered}
 use Rattle.engine_turns.specs.Standings.{AnswersOnly, RunStanding}
 use Rattle.engine_turns.specs.declared.operations.Operation.{Operation}
@@ -18,6 +17,7 @@ use Rattle.engine_turns.specs.Levels.{spent_by}
 use Rattle.engine_turns.specs.declared.operations.Grant.TheVariants.{Fetch, Hash, Probe}
 use Rattle.engine_turns.specs.declared.operations.Said.TheVariants.{Allow, Done, Finished, Grant, Hold, Idle, JournalFull, Kept, NoMemory, Replied, Void}
 use Rattle.dl_kinds.specs.declared.runs.Moment.{Moment}
+use Rattle.stored_run.specs.Opening.{OpenNextRow}
 use Rattle.stored_run.specs.Steps.{DoesRow, turn_from}
 use Rattle.stored_run.proofs.PlainEvents.{gid_added}
 use Rattle.engine_core.specs.Engines.{KeepsRates, past_of, standing_of, start_of}
@@ -26,8 +26,9 @@ use Rattle.engine_core.specs.Buckets.{HasRates, LevelsGoOn}
 use Rattle.engine_core.specs.Handing.{IsUnsettled}
 use Rattle.engine_core.specs.Giving.{MakesRow, UnopenedRow}
 use Rattle.engine_core.specs.declared.state.EngineState.{EngineState}
-use Rattle.engine_core.proofs.Calm.{AreCalm, calm_ending, calm_none, calm_opening, calm_then, one_event}
-use Rattle.engine_core.proofs.CalmRows.{calm_only, unless_starved}
+use Rattle.engine_core.proofs.Calm.{AreCalm, calm_of}
+use Rattle.engine_core.proofs.CalmRows.{IsCalmRow, calm_only, unless_starved}
+use Rattle.engine_core.proofs.Owned.{of_open}
 use Rattle.engine_core.proofs.Given.{calm_unopened, gives_unspent}
 use Rattle.engine_core.proofs.Letting.{lets_go, none_out, nothing_handed, nothing_spent}
 
@@ -63,26 +64,15 @@ rest_calm worker at s events said is = calm_unopened worker at s events said is.
 
 -- ---- a download is opened
 
-pub calm_open : (at : TurnStart) (s : RunStanding) (download : Download) (events : List Event) (said : Said)
-    → OpenRow at s download events said → AreCalm events × (lets_go said ≡ false)
-calm_open at s download events said is = ⊎_elim
-    (λ (clashed : IsClashed at s download events said).
-    (one_event (Ended download.gid clashed.0) events refl clashed.2, ap lets_go clashed.3))
-    (λ (opening : _ × IsOpeningTurn at s download events said).
-    let turn = opening.1 in (
-      calm_then (OpeningPhase at download.gid) (EndingOr at download NoEvent) (calm_opening at download.gid)
-          (calm_ending at download NoEvent calm_none) s.past events turn.0 turn.1,
-      unless_starved Done turn.0 said refl turn.2,
-    )) is
+pub calm_open : (at : TurnStart) (s : RunStanding) (download : Download) → IsCalmRow (OpenRow at s download)
+calm_open at s download events said is = (
+  calm_of download.gid events (of_open at s download events said is),
+  ⊎_elim (λ (clashed : IsClashed at s download events said). ap lets_go clashed.3)
+      (λ (opening : _ × IsOpeningTurn at s download events said).
+      unless_starved Done opening.1.0 said refl opening.1.2) is,
+)
 
--- it is opened, or no event comes for want of memory
-abbrev pub OpensRow : Gid → TurnStart → RunStanding → List Event → Said → Type 0
-OpensRow gid at s events said =
-    AnswersOnly NoMemory events said
-    ⊎ ((download : Download) × (download_in at.start s.past gid ≡ Some download) × OpenRow at s download events said)
-
-calm_opens : (gid : Gid) (at : TurnStart) (s : RunStanding) (events : List Event) (said : Said)
-    → OpensRow gid at s events said → AreCalm events × (lets_go said ≡ false)
+calm_opens : (gid : Gid) (at : TurnStart) (s : RunStanding) → IsCalmRow (OpenNextRow gid at s)
 calm_opens gid at s events said is = ⊎_elim
     (λ (starved : AnswersOnly NoMemory events said). calm_only NoMemory refl events said starved)
     (λ (one : (download : Download) × (download_in at.start s.past gid ≡ Some download) × OpenRow at s download events said).
@@ -90,7 +80,7 @@ calm_opens gid at s events said is = ⊎_elim
 
 -- .. of the download that is to be opened next
 abbrev pub FirstRow : Gid → TurnStart → RunStanding → List Event → Said → Type 0
-FirstRow gid at s events said = (next_to_open at.start s.past ≡ Some gid) × OpensRow gid at s events said
+FirstRow gid at s events said = (next_to_open at.start s.past ≡ Some gid) × OpenNextRow gid at s events said
 
 pub first_calm : (gid : Gid) (at : TurnStart) (s : RunStanding) (events : List Event) (said : Said)
     → FirstRow gid at s events said → AreCalm events
@@ -110,7 +100,7 @@ first_answers gid worker now at s events said is = ⊎_elim
     }))) is.1
 
 pub first_given : {D : Type 0} (op : Operation) (gid : Gid) (old new : EngineState D) (f f' : ℕ) (said : Said)
-    → next_to_open (start_of old) (past_of old) ≡ Some gid → DoesRow (OpensRow gid) old.run f new.run f' said
+    → next_to_open (start_of old) (past_of old) ≡ Some gid → DoesRow (OpenNextRow gid) old.run f new.run f' said
     → start_of new ≡ start_of old → new.run.now ≡ old.run.now → new.handed ≡ old.handed → new.limits ≡ old.limits
     → KeepsRates old → MakesRow op (FirstRow gid) old f new f' said
 first_given op gid old new f f' said is row start now handed limits rates =

@@ -10,16 +10,15 @@ use Rattle.dl_kinds.specs.declared.runs.Moment.{Moment}
 use Rattle.piece_table.specs.declared.giver.Giver.TheVariants.{Nobody}
 use Rattle.machine_core.specs.Offers.{is_handed, is_handed_out}
 use Rattle.machine_core.specs.OwnParts.{own_of}
-use Rattle.machine_core.specs.Reads.{is_finished_in}
 use Rattle.machine_core.specs.RunLegal.{IsLegal, known_lengths}
 use Rattle.machine_core.specs.RunSteps.{AccountsMatchRuns}
 use Rattle.machine_core.specs.Starts.{RunStart}
 use Rattle.machine_core.specs.declared.events.Event.{Event}
 use Rattle.machine_core.specs.declared.handed.Handed.{Handed}
 use Rattle.verify_piece.specs.Seals.{PieceBytes}
-use Rattle.engine_turns.specs.Phases.{AfterDisk, AndThen, EndingOr, NoEvent, SettlingPhase, TurnStart}
-use Rattle.engine_turns.specs.RunTurns.{answer_to, is_nearly_full}
-use Rattle.engine_turns.specs.SealRows.{IsSettled, SealRow, has_listed_digest}
+use Rattle.engine_turns.specs.Phases.{TurnStart}
+use Rattle.engine_turns.specs.RunTurns.{answer_to}
+use Rattle.engine_turns.specs.SealRows.{IsSettled, SealRow}
 use Rattle.engine_turns.specs.Standings.{AnswersOnly, RunStanding}
 use Rattle.engine_turns.specs.Told.{is_taken, seals_handed}
 use Rattle.engine_turns.specs.declared.operations.Operation.TheVariants.{Seal}
@@ -32,9 +31,10 @@ use Rattle.stored_run.proofs.Claimed.{active_goes_on}
 use Rattle.engine_core.specs.Beginning.{IsBrokenOff}
 use Rattle.engine_core.specs.Handing.{IsOut, handed_but}
 use Rattle.engine_core.specs.Performing.{handed_after}
-use Rattle.engine_core.proofs.Calm.{AreCalm, calm_disk, calm_ending, calm_none, calm_settling, calm_then, no_events}
-use Rattle.engine_core.proofs.CalmRows.{calm_only, unless_starved}
-use Rattle.engine_core.proofs.Letting.{lets_go, nothing_handed}
+use Rattle.engine_core.proofs.Calm.{calm_owned}
+use Rattle.engine_core.proofs.CalmRows.{IsCalmRow, calm_only, unless_starved}
+use Rattle.engine_core.proofs.Owned.{owned_settled}
+use Rattle.engine_core.proofs.Letting.{front_none, lets_go, nothing_handed}
 
 -- ---- the piece among those that are out
 
@@ -48,7 +48,7 @@ one_out P p (h ∷ hs) is all = by (p h) refl (one_out P p hs)
     by true here rest = (h, All-head P h hs all, here)
     by false here rest = rest (rw here at is) (All-tail P h hs all)
 
-handed_is : (gid : Gid) (piece : ℕ) (h : Handed) → is_handed gid piece h ≡ true → h ≡ record { gid = gid; piece = piece }
+pub handed_is : (gid : Gid) (piece : ℕ) (h : Handed) → is_handed gid piece h ≡ true → h ≡ record { gid = gid; piece = piece }
 handed_is gid piece h is =
     let both = and_parts (h.gid.0 == gid.0) (h.piece == piece) is in
     let same : h.gid ≡ gid = ap (λ (n : ℕ). record { 0 = n }) (eqb-true h.gid.0 gid.0 both.0) in
@@ -145,18 +145,12 @@ but_none gid piece taken (h ∷ hs) none =
 
 -- ---- the row
 
-pub calm_sealed : (at : TurnStart) (gid : Gid) (sealed : PieceBytes) (s : RunStanding) (events : List Event) (said : Said)
-    → SealedRow gid sealed at s events said → AreCalm events × (lets_go said ≡ false)
+pub calm_sealed : (at : TurnStart) (gid : Gid) (sealed : PieceBytes) (s : RunStanding)
+    → IsCalmRow (SealedRow gid sealed at s)
 calm_sealed at gid sealed s events said is = ⊎_elim
     (λ (void : AnswersOnly Void events said). calm_only Void refl events said void)
-    (λ (settled : IsSettled at s gid sealed events said).
-    let d = settled.download in (
-      calm_then (AfterDisk at d.gid [])
-          (AndThen (SettlingPhase at d sealed.piece (has_listed_digest d.subject sealed)) (EndingOr at d NoEvent))
-          (calm_disk at d.gid [] (no_events [] refl))
-          (calm_then (SettlingPhase at d sealed.piece (has_listed_digest d.subject sealed)) (EndingOr at d NoEvent)
-          (calm_settling at d sealed.piece (has_listed_digest d.subject sealed)) (calm_ending at d NoEvent calm_none)) s.past events
-          settled.outcome settled.is,
+    (λ (settled : IsSettled at s gid sealed events said). (
+      calm_owned settled.download.gid events (owned_settled at s gid sealed events said settled),
       unless_starved Done settled.outcome said refl settled.answer,
     )) is
 
@@ -181,10 +175,4 @@ but_taken gid piece taken hs is =
 
 pub front_takes_none : (asks needs : Bool) (start : RunStart) (past : List Event) (said : Said)
     → IsBrokenOff (answer_to asks needs start past) said → is_taken said ≡ false
-front_takes_none asks needs start past said is =
-    by (asks && is_finished_in start past) (needs && is_nearly_full past) refl refl
-  where
-    by : (a b : Bool) → (asks && is_finished_in start past) ≡ a → (needs && is_nearly_full past) ≡ b → is_taken said ≡ false
-    by true b finished full = let said_is = (rw finished at is) in ap is_taken said_is
-    by false true finished full = let said_is = (rw full at (rw finished at is)) in ap is_taken said_is
-    by false false finished full = let said_is = (rw full at (rw finished at is)) in ap is_taken said_is
+front_takes_none = front_none is_taken refl (λ count. refl) refl

@@ -1,6 +1,6 @@
 -- An operation that is performed is the next turn, and what is kept stands for all turns with it.
-use Rattle.std.proofs.Common.{◌≡◌, ◌≤◌, ℕ, Bool, true, false, List, [], ◌∷◌, ◌++◌, drop, length, map, reverse, refl, sym, ap, ◌∙◌, subst}
-use Rattle.std.specs.Prelude.{◌&&◌, ◌||◌, All, Contains, filter, max, not}
+use Rattle.std.proofs.Common.{◌≡◌, ◌≤◌, ℕ, Bool, true, false, List, [], ◌∷◌, ◌++◌, drop, length, map, reverse, refl, sym, ap, ◌∙◌, subst, arith}
+use Rattle.std.specs.Prelude.{◌&&◌, ◌||◌, IsTrue, All, Contains, filter, max, not}
 use Rattle.std.specs.List.{list_any}
 use Rattle.std.proofs.lemmas.List.{length-reverse, reverse-append}
 use Rattle.std.proofs.lemmas.List.Elements.{All-weaker, filter_agree}
@@ -11,19 +11,29 @@ use Rattle.machine_core.specs.declared.events.Event.{Event}
 use Rattle.machine_core.specs.declared.events.Event.TheVariants.{Ended}
 use Rattle.machine_core.specs.declared.handed.Handed.{Handed}
 use Rattle.rate_tokens.specs.Level.{Level}
-use Rattle.turn_desk.specs.Turns.{turn_of}
+use Rattle.turn_desk.specs.Turns.{IsLater, ServesTurn, StartsWith, turn_of}
+use Rattle.dl_disk.specs.State.{DiskState}
+use Rattle.engine_turns.specs.TurnLaws.{HandedAreActive}
+use Rattle.machine_core.specs.RunLegal.{IsLegal}
+use Rattle.stored_run.specs.RunFollows.{RunFollows}
+use Rattle.stored_run.specs.Stored.{IsStoredRun}
+use Rattle.stored_run.specs.declared.run.StoredView.{StoredView}
+use Rattle.engine_core.specs.Disks.{LeavesTurn}
+use Rattle.engine_core.specs.Durable.{KeepsPromises}
+use Rattle.engine_core.proofs.DiskTaken.{keeps_promises, turn_later}
 use Rattle.turn_desk.specs.declared.turn.Stamp.{Stamp}
 use Rattle.engine_turns.specs.Levels.{downloads_of, level_of_download, level_on, overall_rate, own_levels, spent_by}
 use Rattle.engine_turns.specs.Phases.{TurnStart}
 use Rattle.engine_turns.specs.RunTurns.{IsAnswered, IsTurnAnswered, MayComeAfter, answer_before, brought_bytes, ties_turn, turn_start}
 use Rattle.engine_turns.specs.Standings.{RunStanding, standing_after}
 use Rattle.engine_turns.specs.Told.{RunTurn, handed_by, handed_in, history_after, history_of, is_taken, latest_moment, moment_of_operation, seals_handed, settles_handed, stays_out}
+use Rattle.engine_turns.specs.declared.operations.Answer.{Answer}
 use Rattle.engine_turns.specs.declared.operations.Operation.{Operation}
 use Rattle.engine_turns.specs.declared.operations.Said.{Said}
 use Rattle.engine_core.specs.Buckets.{HasRates, own_levels_on}
-use Rattle.engine_core.specs.Engines.{IsEngineState, KeepsRates, StandsAfter, TakesTurn, past_of, standing_of, stands_for, start_of}
+use Rattle.engine_core.specs.Engines.{IsEngineState, KeepsRates, StandsAfter, entries_of, moment_told, past_of, stamp_of, standing_of, stands_for, start_of}
 use Rattle.engine_core.specs.Handing.{IsOut, IsUnsettled, stays_handed}
-use Rattle.engine_core.specs.Performing.{Performs}
+use Rattle.engine_core.specs.Performing.{Performs, PerformsTurn}
 use Rattle.engine_core.specs.declared.state.EngineState.{EngineState}
 use Rattle.engine_core.proofs.Downloads.{downloads_grow, each_found}
 use Rattle.engine_core.proofs.Handings.{filter_twice}
@@ -41,25 +51,26 @@ joined false s k = refl
 
 -- ---- the whole
 
-module _ {D : Type 0} (op : Operation) (said : Said) (back : List ℕ) (f f' : ℕ) (old mid new : EngineState D)
+module _ {D : Type 0} (tells : Bool) (state : D → DiskState) (op : Operation) (said : Said) (back : List ℕ) (f f' : ℕ)
+    (old mid new : EngineState D)
     (done : Performs op old f mid f' said) (run : new.run ≡ mid.run) (limits : new.limits ≡ mid.limits)
     (handed : new.handed.pieces
     ≡ filter (stays_handed (start_of mid) (past_of mid) (drop (length (reverse (past_of old))) (reverse (past_of mid)))) mid.handed.pieces)
     (back_is : back ≡ brought_bytes op) (turns : List RunTurn) (pass : ℕ) (m m' : Stamp) (faults : m.faults ≡ f)
-    (faults_after : m'.faults ≡ f') (stands : stands_for old turns) where
+    (faults_after : m'.faults ≡ f') (stands : stands_for tells state old turns) where
   abbrev pub told : List RunTurn
   told = reverse turns
 
   abbrev pub t : RunTurn
   t = turn_of pass turns op (record { said = said; back = back }) (reverse (past_of old)) m (reverse (past_of new)) m'
 
-  past_is : past_of old ≡ history_of told
+  pub past_is : past_of old ≡ history_of told
   past_is = ap (λ (s : RunStanding). s.past) stands.is
 
   same_past : past_of new ≡ past_of mid
   same_past = ap (λ r. r.machine.past) run
 
-  same_start : start_of new ≡ start_of old
+  pub same_start : start_of new ≡ start_of old
   same_start = ap (λ r. r.machine.start) run ∙ done.answers.start
 
   events_are : t.events ≡ done.answers.events
@@ -79,7 +90,7 @@ module _ {D : Type 0} (op : Operation) (said : Said) (back : List ℕ) (f f' : �
       (subst (λ (a : TurnStart). IsAnswered a (standing_of old) op done.answers.events said (answer_before (start_of old) (past_of old) op)) at_is
       done.answers.answered)))
 
-  may_come : MayComeAfter (start_of old) told t
+  pub may_come : MayComeAfter (start_of old) told t
   may_come = record {
     back = back_is;
     answered = answered;
@@ -90,7 +101,7 @@ module _ {D : Type 0} (op : Operation) (said : Said) (back : List ℕ) (f f' : �
 
   -- ---- after it
 
-  past_after : past_of new ≡ history_of (t ∷ told)
+  pub past_after : past_of new ≡ history_of (t ∷ told)
   past_after =
       same_past ∙ (done.answers.grown ∙ (ap (λ (p : List Event). history_after p done.answers.events) past_is
       ∙ ap (history_after (history_of told)) (sym events_are)))
@@ -158,27 +169,54 @@ module _ {D : Type 0} (op : Operation) (said : Said) (back : List ℕ) (f f' : �
       ∙ (sym (turn_levels (start_of old) t told ds grows.more (each_found ds) grows.fresh)
       ∙ ap (map (level_of_download (start_of old) (t ∷ told))) (sym grows.is)))
 
-  stands_then : StandsAfter new (t ∷ told)
-  stands_then = record {
+  -- what the disk is to keep by all of them
+  abbrev KeepsAll : Type 0
+  KeepsAll = IsTrue tells → KeepsPromises (start_of old) (t ∷ told) (state new.run.disk)
+
+  stands_then : KeepsAll → StandsAfter tells state new (t ∷ told)
+  stands_then keeps = record {
     now = ap (λ r. r.now.0) run ∙ now_is;
     is = standing_is ∙ ap (λ (s : RunStart). standing_after s (t ∷ told)) (sym same_start);
+    disk = λ told_is.
+        subst (λ (s : RunStart). KeepsPromises s (t ∷ told) (state new.run.disk)) (sym same_start) (keeps told_is);
   }
     where
       standing_is : standing_of new ≡ standing_after (start_of old) (t ∷ told)
       standing_is i = record { past = past_after i; handed = handed_are i; overall = overall_after i; own = own_after i }
 
-  pub serves : ties_turn (start_of old) turns t × stands_for new (turns ++ t ∷ [])
-  serves = (may_come, subst (StandsAfter new) (sym (reverse-append turns (t ∷ []))) stands_then)
+  pub serves : KeepsAll → ties_turn (start_of old) turns t × stands_for tells state new (turns ++ t ∷ [])
+  serves keeps = (may_come, subst (StandsAfter tells state new) (sym (reverse-append turns (t ∷ []))) (stands_then keeps))
 
--- ---- a method that takes one turn
+-- ---- what serves an operation
 
-module _ {D : Type 0} (faults : D → ℕ) (op : Operation) (said : Said) (old inside mid new : EngineState D) (from : ℕ)
-    (seen : inside ≡ old) (did : Performs op inside (faults inside.run.disk) mid (faults mid.run.disk) said)
+-- time goes on where it is told
+times_later : (tells : Bool) (a b : DiskState) → (IsTrue tells → a.moment ≤ b.moment) → moment_told tells a ≤ moment_told tells b
+times_later true a b later = later refl
+times_later false a b later = omega arith
+
+-- the operation and its answer are one turn more
+pub record TurnTaken {D : Type 0} (tells : Bool) (state : D → DiskState) (faults : D → ℕ) (op : Operation)
+    (old new : EngineState D) (answer : Answer) : Type 0 where
+  pub start : start_of new ≡ start_of old
+  pub entries : StartsWith (entries_of new) (entries_of old)
+  pub mark : IsLater (stamp_of tells state faults old) (stamp_of tells state faults new)
+  pub turn : ServesTurn ties_turn (stands_for tells state) start_of entries_of (stamp_of tells state faults) old op answer new
+
+module _ {D : Type 0} (tells : Bool) (state : D → DiskState) (faults : D → ℕ) (op : Operation) (said : Said)
+    (old inside mid new : EngineState D) (from : ℕ) (seen : inside ≡ old)
+    (did : PerformsTurn tells state faults op inside mid said)
     (from_is : from ≡ length (reverse (past_of inside))) (run : new.run ≡ mid.run) (limits : new.limits ≡ mid.limits)
     (handed : new.handed.pieces
     ≡ filter (stays_handed (start_of mid) (past_of mid) (drop from (reverse (past_of mid)))) mid.handed.pieces) where
   done_since : Performs op old (faults old.run.disk) mid (faults mid.run.disk) said
-  done_since = subst (λ (e : EngineState D). Performs op e (faults e.run.disk) mid (faults mid.run.disk) said) seen did
+  done_since =
+      subst (λ (e : EngineState D). Performs op e (faults e.run.disk) mid (faults mid.run.disk) said) seen did.performs
+
+  -- what it did to the disk
+  left_since : IsTrue tells → LeavesTurn state op old new said
+  left_since told_is =
+      subst (λ (r : StoredView D). LeavesTurn state op old (record new { run = r }) said) (sym run)
+      (subst (λ (e : EngineState D). LeavesTurn state op e mid said) seen (did.disk told_is))
 
   handed_since : new.handed.pieces
       ≡ filter (stays_handed (start_of mid) (past_of mid) (drop (length (reverse (past_of old))) (reverse (past_of mid)))) mid.handed.pieces
@@ -187,9 +225,14 @@ module _ {D : Type 0} (faults : D → ℕ) (op : Operation) (said : Said) (old i
       ∙ ap (λ (n : ℕ). filter (stays_handed (start_of mid) (past_of mid) (drop n (reverse (past_of mid)))) mid.handed.pieces)
       (from_is ∙ ap (λ (e : EngineState D). length (reverse (past_of e))) seen)
 
-  pub takes_turn : TakesTurn faults op old new said
-  takes_turn =
+  pub takes_turn : (laws : RunFollows) → HandedAreActive
+      → IsStoredRun tells (faults old.run.disk) (state old.run.disk) old.run → IsLegal (start_of new) (past_of new)
+      → (back : List ℕ) → back ≡ brought_bytes op → TurnTaken tells state faults op old new (record { said = said; back = back })
+  takes_turn laws active was legal back back_is =
       let done = done_since in
+      let faults_later = subst (λ (n : ℕ). faults old.run.disk ≤ n) (sym (ap (λ r. faults r.disk) run)) done.answers.later in
+      let m : Stamp = stamp_of tells state faults old in
+      let m' : Stamp = stamp_of tells state faults new in
       record {
         start = ap (λ r. r.machine.start) run ∙ done.answers.start;
         entries = (
@@ -197,10 +240,27 @@ module _ {D : Type 0} (faults : D → ℕ) (op : Operation) (said : Said) (old i
           ap (λ r. reverse r.machine.past) run
               ∙ (ap reverse done.answers.grown ∙ in_order (past_of old) done.answers.events),
         );
-        faults_later = subst (λ (n : ℕ). faults old.run.disk ≤ n) (sym (ap (λ r. faults r.disk) run)) done.answers.later;
-        turn = λ turns pass is. serves op said (brought_bytes op) (faults old.run.disk) (faults mid.run.disk) old mid new done run
-            limits handed_since refl turns pass (record { time = 0; faults = faults old.run.disk })
-            (record { time = 0; faults = faults new.run.disk }) refl (ap (λ r. faults r.disk) run) is;
+        mark = (
+          times_later tells (state old.run.disk) (state new.run.disk)
+              (λ told_is. turn_later state op old new said (left_since told_is)),
+          faults_later,
+        );
+        turn = λ turns pass is.
+            serves tells state op said back (faults old.run.disk) (faults mid.run.disk) old mid new done run limits handed_since
+            back_is turns pass m m' refl (ap (λ r. faults r.disk) run) is
+            (λ told_is.
+            keeps_promises laws active tells told_is state faults old new (reverse turns)
+            (turn_of pass turns op (record { said = said; back = back }) (reverse (past_of old)) m (reverse (past_of new)) m')
+            (left_since told_is) was
+            (past_is tells state op said back (faults old.run.disk) (faults mid.run.disk) old mid new done run limits handed_since
+            back_is turns pass m m' refl (ap (λ r. faults r.disk) run) is)
+            (past_after tells state op said back (faults old.run.disk) (faults mid.run.disk) old mid new done run limits handed_since
+            back_is turns pass m m' refl (ap (λ r. faults r.disk) run) is)
+            (same_start tells state op said back (faults old.run.disk) (faults mid.run.disk) old mid new done run limits handed_since
+            back_is turns pass m m' refl (ap (λ r. faults r.disk) run) is) legal
+            (may_come tells state op said back (faults old.run.disk) (faults mid.run.disk) old mid new done run limits handed_since
+            back_is turns pass m m' refl (ap (λ r. faults r.disk) run) is)
+            (ap (λ (b : Bool). moment_told b (state old.run.disk)) told_is) (is.disk told_is));
       }
 
   -- and the buckets have their rates still

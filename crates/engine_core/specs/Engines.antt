@@ -1,18 +1,21 @@
 -- What an engine keeps of a run, and which turns it stands for.
-use Rattle.std.specs.Prelude.{◌≡◌, ◌≤◌, ℕ, All, List, [], reverse}
+use Rattle.std.specs.Prelude.{◌≡◌, ℕ, Bool, true, false, IsTrue, All, List, [], reverse}
+use Rattle.dl_disk.specs.State.{DiskState}
 use Rattle.machine_core.specs.Starts.{RunStart}
 use Rattle.machine_core.specs.declared.events.Event.{Event}
-use Rattle.turn_desk.specs.Turns.{ServesTurn, StartsWith}
 use Rattle.turn_desk.specs.declared.turn.Stamp.{Stamp}
-use Rattle.engine_turns.specs.RunTurns.{brought_bytes, ties_turn}
 use Rattle.engine_turns.specs.Standings.{RunStanding, standing_after}
 use Rattle.engine_turns.specs.Told.{RunTurn, latest_moment}
-use Rattle.engine_turns.specs.declared.operations.Operation.{Operation}
-use Rattle.engine_turns.specs.declared.operations.Said.{Said}
 use Rattle.option_set.specs.Values.{OptionValues}
 use Rattle.engine_core.specs.Buckets.{HasRates}
+use Rattle.engine_core.specs.Durable.{KeepsPromises}
 use Rattle.engine_core.specs.Handing.{IsOut}
 use Rattle.engine_core.specs.declared.state.EngineState.{EngineState}
+
+-- the moment of a disk that tells what it holds
+abbrev pub moment_told : Bool → DiskState → ℕ
+moment_told true disk = disk.moment
+moment_told false disk = 0
 
 module _ {D : Type 0} where
   abbrev pub start_of : EngineState D → RunStart
@@ -43,27 +46,21 @@ module _ {D : Type 0} where
     pub rates : KeepsRates e
     pub out : All (IsOut (start_of e) (past_of e)) e.handed.pieces
 
-  -- all that it goes by is what these turns tell, of which the newest is the first
+module _ {D : Type 0} (tells : Bool) (state : D → DiskState) where
+  -- All that it goes by is what these turns tell, of which the newest is the first; and where the disk tells what it holds,
+  -- it keeps what they promise, whenever a crash comes.
   pub record StandsAfter (e : EngineState D) (told : List RunTurn) : Type 0 where
     pub now : e.run.now.0 ≡ latest_moment told
     pub is : standing_of e ≡ standing_after (start_of e) told
+    pub disk : IsTrue tells → KeepsPromises (start_of e) told (state e.run.disk)
 
   -- .. with the oldest first, as a desk lists them
   abbrev pub stands_for : EngineState D → List RunTurn → Type 0
   stands_for e turns = StandsAfter e (reverse turns)
 
-  -- how often the disk failed
+  -- the moment of the disk, where it is told, and how often it failed
   abbrev pub stamp_of : (D → ℕ) → EngineState D → Stamp
-  stamp_of faults e = record { time = 0; faults = faults e.run.disk }
-
-  -- The operation and its answer are the next turn, whatever the turns before it were, and what is kept stands for all of
-  -- them with it.
-  pub record TakesTurn (faults : D → ℕ) (op : Operation) (old new : EngineState D) (said : Said) : Type 0 where
-    pub start : start_of new ≡ start_of old
-    pub entries : StartsWith (entries_of new) (entries_of old)
-    pub faults_later : faults old.run.disk ≤ faults new.run.disk
-    pub turn : ServesTurn ties_turn stands_for start_of entries_of (stamp_of faults) old op
-        (record { said = said; back = brought_bytes op }) new
+  stamp_of faults e = record { time = moment_told tells (state e.run.disk); faults = faults e.run.disk }
 
   -- no turn was taken
   pub record IsNewEngine (disk : D) (gids : ℕ) (global : OptionValues) (doors : ℕ) (e : EngineState D) : Type 0 where

@@ -1,5 +1,6 @@
 -- What a worker is given.
-use Rattle.std.specs.Prelude.{◌≡◌, ◌≤◌, ◌⊎◌, ℕ, true, All, Contains, List, Some, ◌++◌}
+use Rattle.std.specs.Prelude.{◌≡◌, ◌≤◌, ◌⊎◌, ℕ, Bool, IsTrue, true, All, Contains, List, Some, ◌++◌}
+use Rattle.dl_disk.specs.State.{DiskState}
 use Rattle.dl_kinds.specs.declared.gid.Gid.{Gid}
 use Rattle.engine_turns.specs.Levels.{spent_by}
 use Rattle.engine_turns.specs.NextRows.{IsHolding, IsIdling, IsOfferGiven, OfferRow}
@@ -22,6 +23,7 @@ use Rattle.machine_core.specs.declared.offers.Offered.TheVariants.{Next}
 use Rattle.stored_run.specs.Granting.{MayBeGiven}
 use Rattle.stored_run.specs.Steps.{turn_from}
 use Rattle.engine_core.specs.Buckets.{LevelsGoOn}
+use Rattle.engine_core.specs.Disks.{LeavesRun}
 use Rattle.engine_core.specs.Handing.{IsUnsettled}
 use Rattle.engine_core.specs.Engines.{KeepsRates, past_of, standing_of, start_of}
 use Rattle.engine_core.specs.declared.state.EngineState.{EngineState}
@@ -74,3 +76,9 @@ module _ {D : Type 0} where
     pub out : All (IsUnsettled (start_of old) (past_of old)) (handed_by said)
     pub levels : LevelsGoOn (start_of old) (past_of old) (past_of new)
         (spent_by (start_of old) (past_of old) op said) new.run.now.0 old.limits new.limits
+
+  -- .. and, where that is told, to the disk
+  pub record MakesTurn (tells : Bool) (state : D → DiskState) (faults : D → ℕ) (op : Operation)
+      (Row : TurnStart → RunStanding → List Event → Said → Type 0) (old new : EngineState D) (said : Said) : Type 0 where
+    pub makes : MakesRow op Row old (faults old.run.disk) new (faults new.run.disk) said
+    pub disk : IsTrue tells → LeavesRun state old.run new.run

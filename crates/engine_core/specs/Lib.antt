@@ -4,3 +4,6 @@ pub mod Beginning
 pub mod Performing
 pub mod Handing
 pub mod Giving
+pub mod Askings
+pub mod Durable
+pub mod Disks

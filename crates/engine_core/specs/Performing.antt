@@ -1,5 +1,6 @@
 -- What an operation does to a run, and what is answered.
-use Rattle.std.specs.Prelude.{◌≡◌, ◌≤◌, ◌&&◌, ℕ, max, not, All, Contains, List, ◌++◌, filter}
+use Rattle.std.specs.Prelude.{◌≡◌, ◌≤◌, ◌&&◌, ℕ, Bool, IsTrue, max, not, All, Contains, List, ◌++◌, filter}
+use Rattle.dl_disk.specs.State.{DiskState}
 use Rattle.dl_kinds.specs.declared.gid.Gid.{Gid}
 use Rattle.machine_core.specs.declared.ends.End.TheVariants as end
 use Rattle.machine_core.specs.declared.events.Event.{Event}
@@ -11,6 +12,7 @@ use Rattle.engine_turns.specs.Told.{handed_by, history_after, is_taken, moment_o
 use Rattle.engine_turns.specs.declared.operations.Operation.{Operation}
 use Rattle.engine_turns.specs.declared.operations.Said.{Said}
 use Rattle.engine_core.specs.Buckets.{LevelsGoOn}
+use Rattle.engine_core.specs.Disks.{LeavesTurn}
 use Rattle.engine_core.specs.Handing.{IsUnsettled}
 use Rattle.engine_core.specs.Engines.{KeepsRates, past_of, standing_of, start_of}
 use Rattle.engine_core.specs.declared.state.EngineState.{EngineState}
@@ -47,3 +49,9 @@ module _ {D : Type 0} where
     pub handed : new.handed.pieces ≡ handed_after op said old.handed.pieces
     pub out : HandsUnsettled old new
     pub rates : KeepsRates new
+
+-- What an operation does to a run and, where that is told, to its disk.
+pub record PerformsTurn {D : Type 0} (tells : Bool) (state : D → DiskState) (faults : D → ℕ) (op : Operation)
+    (old new : EngineState D) (said : Said) : Type 0 where
+  pub performs : Performs op old (faults old.run.disk) new (faults new.run.disk) said
+  pub disk : IsTrue tells → LeavesTurn state op old new said

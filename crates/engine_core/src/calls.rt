@@ -1,6 +1,6 @@
 // Calls of the console.
 ghost use Rattle.engine_core.specs.Engines.{KeepsRates};
-ghost use Rattle.engine_core.specs.Performing.{Performs};
+ghost use Rattle.engine_core.specs.Performing.{PerformsTurn};
 ghost use Rattle.engine_turns.specs.declared.operations.Operation.TheVariants as operation;
 ghost use Rattle.machine_core.specs.LawfulCalls.{IsLawful};
 
@@ -15,8 +15,8 @@ impl<D: Disk> EngineState<D> {
     pub(crate) fn call(&mut self, session: u32, call: Call, now: Moment) -> Said
         requires lawful { IsLawful call }
         requires rates { KeepsRates self.old }
-        ensures { Performs (operation.Call session call now) self.old (D.faults self.old.run.disk)
-            self.new (D.faults self.new.run.disk) result }
+        ensures { PerformsTurn D.tells D.state D.faults (operation.Call session call now)
+            self.old self.new result }
     {
         if let Err(said) = self.begin(false, now) {
             return said;

@@ -2,7 +2,7 @@
 ghost use Rattle.std.specs.Prelude.{◌≡◌};
 ghost use Rattle.engine_turns.specs.declared.operations.Operation.TheVariants as operation;
 ghost use Rattle.engine_core.specs.Engines.{KeepsRates};
-ghost use Rattle.engine_core.specs.Performing.{Performs};
+ghost use Rattle.engine_core.specs.Performing.{PerformsTurn};
 
 use crate::state::EngineState;
 use dl_disk::Disk;
@@ -14,8 +14,8 @@ impl<D: Disk> EngineState<D> {
     // Blocks of a claim came.
     pub(crate) fn deliver(&mut self, claim: u64, run: Run, bytes: &[u8], now: Moment) -> Said
         requires { KeepsRates self.old }
-        ensures { Performs (operation.Deliver claim run bytes.now now) self.old
-            (D.faults self.old.run.disk) self.new (D.faults self.new.run.disk) result }
+        ensures { PerformsTurn D.tells D.state D.faults (operation.Deliver claim run bytes.now now)
+            self.old self.new result }
     {
         match self.begin(false, now) {
             Ok(()) => self.run.deliver(claim, run, bytes),
@@ -26,8 +26,8 @@ impl<D: Disk> EngineState<D> {
     // How many more bytes of a claim may be fetched.
     pub(crate) fn more(&mut self, claim: u64, want: u32, now: Moment) -> Said
         requires { KeepsRates self.old }
-        ensures { Performs (operation.More claim want now) self.old (D.faults self.old.run.disk)
-            self.new (D.faults self.new.run.disk) result }
+        ensures { PerformsTurn D.tells D.state D.faults (operation.More claim want now)
+            self.old self.new result }
     {
         self.run.come_to(now);
         if let Some(said) = self.front(false, true) {
@@ -51,8 +51,8 @@ impl<D: Disk> EngineState<D> {
     // A claim failed.
     pub(crate) fn lose(&mut self, claim: u64, mark: Mark, now: Moment) -> Said
         requires { KeepsRates self.old }
-        ensures { Performs (operation.Lose claim mark now) self.old (D.faults self.old.run.disk)
-            self.new (D.faults self.new.run.disk) result }
+        ensures { PerformsTurn D.tells D.state D.faults (operation.Lose claim mark now)
+            self.old self.new result }
     {
         match self.begin(false, now) {
             Ok(()) => self.run.lose(claim, mark),
@@ -63,8 +63,8 @@ impl<D: Disk> EngineState<D> {
     // A probe told a length.
     pub(crate) fn size(&mut self, claim: u64, total: u64, now: Moment) -> Said
         requires { KeepsRates self.old }
-        ensures { Performs (operation.Sized claim total now) self.old (D.faults self.old.run.disk)
-            self.new (D.faults self.new.run.disk) result }
+        ensures { PerformsTurn D.tells D.state D.faults (operation.Sized claim total now)
+            self.old self.new result }
     {
         match self.begin(false, now) {
             Ok(()) => self.run.size(claim, total),
@@ -75,8 +75,7 @@ impl<D: Disk> EngineState<D> {
     // A door of the console closed.
     pub(crate) fn leave(&mut self) -> Said
         requires { KeepsRates self.old }
-        ensures { Performs operation.Leave self.old (D.faults self.old.run.disk)
-            self.new (D.faults self.new.run.disk) result }
+        ensures { PerformsTurn D.tells D.state D.faults operation.Leave self.old self.new result }
     {
         self.run.leave()
     }
@@ -84,8 +83,8 @@ impl<D: Disk> EngineState<D> {
     // The run is to stop.
     pub(crate) fn stop(&mut self, now: Moment) -> Said
         requires { KeepsRates self.old }
-        ensures { Performs (operation.Stop now) self.old (D.faults self.old.run.disk)
-            self.new (D.faults self.new.run.disk) result }
+        ensures { PerformsTurn D.tells D.state D.faults (operation.Stop now)
+            self.old self.new result }
     {
         self.run.come_to(now);
         self.run.stop()
@@ -94,8 +93,8 @@ impl<D: Disk> EngineState<D> {
     // Whether anything is left to do.
     pub(crate) fn pulse(&self) -> Said
         requires { KeepsRates self.now }
-        ensures { Performs operation.Pulse self.entry.now (D.faults self.entry.now.run.disk)
-            self.entry.now (D.faults self.entry.now.run.disk) result }
+        ensures { PerformsTurn D.tells D.state D.faults operation.Pulse
+            self.entry.now self.entry.now result }
     {
         match self.front(true, false) {
             Some(said) => said,

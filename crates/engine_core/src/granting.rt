@@ -1,8 +1,8 @@
 // What a worker is given.
 ghost use Rattle.std.specs.Prelude.{◌≡◌, ◌≤◌, ◌<◌, length, min};
 ghost use Rattle.engine_core.specs.Engines.{KeepsRates};
-ghost use Rattle.engine_core.specs.Giving.{GivenRow, MakesRow, MayGive, UnopenedRow};
-ghost use Rattle.engine_core.specs.Performing.{Performs};
+ghost use Rattle.engine_core.specs.Giving.{GivenRow, MakesTurn, MayGive, UnopenedRow};
+ghost use Rattle.engine_core.specs.Performing.{PerformsTurn};
 ghost use Rattle.engine_turns.specs.declared.operations.Operation.TheVariants as operation;
 ghost use Rattle.engine_turns.specs.declared.limits.TheConstants.{MAX_ALLOWANCE};
 ghost use Rattle.machine_core.specs.declared.offers.Offer.TheVariants as offer;
@@ -20,9 +20,8 @@ impl<D: Disk> EngineState<D> {
     // A full piece is handed out to be hashed; without a metainfo file it counts as right at once.
     fn give_whole(&mut self, worker: u32, gid: Gid, piece: u32) -> Said
         requires { MayGive self.old gid (offer.Whole piece) }
-        ensures { MakesRow (operation.Next worker self.old.run.now)
-            (GivenRow gid worker (offer.Whole piece)) self.old (D.faults self.old.run.disk)
-            self.new (D.faults self.new.run.disk) result }
+        ensures { MakesTurn D.tells D.state D.faults (operation.Next worker self.old.run.now)
+            (GivenRow gid worker (offer.Whole piece)) self.old self.new result }
     {
         match self.run.give_whole(gid, piece) {
             Ok(bytes) => {
@@ -60,9 +59,8 @@ impl<D: Disk> EngineState<D> {
         victim: Option<u64>,
     ) -> Said
         requires { MayGive self.old gid (offer.Blocks mirror run victim) }
-        ensures { MakesRow (operation.Next worker self.old.run.now)
-            (GivenRow gid worker (offer.Blocks mirror run victim)) self.old
-            (D.faults self.old.run.disk) self.new (D.faults self.new.run.disk) result }
+        ensures { MakesTurn D.tells D.state D.faults (operation.Next worker self.old.run.now)
+            (GivenRow gid worker (offer.Blocks mirror run victim)) self.old self.new result }
     {
         let place = self.run.machine().place(gid).unwrap();
         let Ok((claim, job)) = self.run.claim_blocks(gid, worker, mirror, run, victim) else {
@@ -80,9 +78,8 @@ impl<D: Disk> EngineState<D> {
     // A mirror is to be asked for the length of a payload.
     fn give_probe(&mut self, worker: u32, gid: Gid, mirror: u16) -> Said
         requires { MayGive self.old gid (offer.Probe mirror) }
-        ensures { MakesRow (operation.Next worker self.old.run.now)
-            (GivenRow gid worker (offer.Probe mirror)) self.old (D.faults self.old.run.disk)
-            self.new (D.faults self.new.run.disk) result }
+        ensures { MakesTurn D.tells D.state D.faults (operation.Next worker self.old.run.now)
+            (GivenRow gid worker (offer.Probe mirror)) self.old self.new result }
     {
         match self.run.claim_probe(gid, worker, mirror) {
             Ok((claim, url)) => Said::Grant(Grant::Probe { claim, gid, url }),
@@ -93,8 +90,8 @@ impl<D: Disk> EngineState<D> {
     // What was offered of a download is given.
     fn give(&mut self, worker: u32, gid: Gid, offer: Offer) -> Said
         requires { MayGive self.old gid offer }
-        ensures { MakesRow (operation.Next worker self.old.run.now) (GivenRow gid worker offer)
-            self.old (D.faults self.old.run.disk) self.new (D.faults self.new.run.disk) result }
+        ensures { MakesTurn D.tells D.state D.faults (operation.Next worker self.old.run.now)
+            (GivenRow gid worker offer) self.old self.new result }
     {
         match offer {
             Offer::Whole { piece } => self.give_whole(worker, gid, piece),
@@ -110,8 +107,8 @@ impl<D: Disk> EngineState<D> {
     // A download is opened, or a worker is given what comes next.
     pub(crate) fn next(&mut self, worker: u32, now: Moment) -> Said
         requires { KeepsRates self.old }
-        ensures { Performs (operation.Next worker now) self.old (D.faults self.old.run.disk)
-            self.new (D.faults self.new.run.disk) result }
+        ensures { PerformsTurn D.tells D.state D.faults (operation.Next worker now)
+            self.old self.new result }
     {
         if let Err(said) = self.begin(true, now) {
             return said;
@@ -126,8 +123,8 @@ impl<D: Disk> EngineState<D> {
     fn give_offer(&mut self, worker: u32) -> Said
         requires rates { KeepsRates self.old }
         requires room { 6 ≤ self.old.run.machine.spare }
-        ensures { MakesRow (operation.Next worker self.old.run.now) (UnopenedRow worker)
-            self.old (D.faults self.old.run.disk) self.new (D.faults self.new.run.disk) result }
+        ensures { MakesTurn D.tells D.state D.faults (operation.Next worker self.old.run.now)
+            (UnopenedRow worker) self.old self.new result }
     {
         let Ok(()) = self.handed.reserve(1) else {
             return Said::NoMemory;

@@ -2,7 +2,7 @@
 ghost use Rattle.std.specs.Prelude.{◌≡◌, All};
 ghost use Rattle.engine_core.specs.Engines.{KeepsRates, past_of, start_of};
 ghost use Rattle.engine_core.specs.Handing.{IsOut, handed_but};
-ghost use Rattle.engine_core.specs.Performing.{Performs};
+ghost use Rattle.engine_core.specs.Performing.{PerformsTurn};
 ghost use Rattle.engine_turns.specs.Told.{is_taken};
 ghost use Rattle.engine_turns.specs.declared.operations.Operation.TheVariants as operation;
 ghost use Rattle.machine_core.specs.RunLegal.{IsLegal};
@@ -46,8 +46,8 @@ impl<D: Disk> EngineState<D> {
         requires rates { KeepsRates self.old }
         requires out { All (IsOut (start_of self.old) (past_of self.old))
             self.old.handed.pieces }
-        ensures { Performs (operation.Seal gid sealed.now now) self.old
-            (D.faults self.old.run.disk) self.new (D.faults self.new.run.disk) result }
+        ensures { PerformsTurn D.tells D.state D.faults (operation.Seal gid sealed.now now)
+            self.old self.new result }
     {
         accounts_match_runs();
         self.tells_legal();

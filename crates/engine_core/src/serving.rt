@@ -1,19 +1,18 @@
 // An engine as a desk serves it.
-ghost use Rattle.std.specs.Prelude.{◌≡◌, []};
-ghost use Rattle.engine_core.specs.Engines.{TakesTurn, entries_of, stamp_of, stands_for, start_of};
-ghost use Rattle.engine_turns.specs.RunTurns.{IsLawfulOperation, brought_bytes, ties_turn};
+ghost use Rattle.engine_core.specs.Engines.{entries_of, stamp_of, stands_for, start_of};
+ghost use Rattle.engine_turns.specs.RunTurns.{IsLawfulOperation, ties_turn};
 
 use crate::Engine;
 use dl_disk::Disk;
-use dl_kinds::Blob;
-use engine_turns::{Answer, Operation, Said};
+use engine_turns::{Answer, Operation, turns_tell_runs};
 use machine_core::Event;
 use option_set::Options;
-use std::alloc::Global;
 use std::marker::Model;
+use stored_run::runs_follow;
 use turn_desk::Served;
 
-/// What a run begins with: what the gids of its downloads are made from, the global options, and how many doors its console has.
+/// What a run begins with: what the gids of its downloads are made from, the global options, and how many doors its console
+/// has. No value of it is made: it names what the turns of a run go by.
 pub struct RunBeginning {
     pub gids: u64,
     pub global: Options,
@@ -26,62 +25,6 @@ impl Model for RunBeginning {
     ghost Value = { RunStart };
 
     ghost view = { λ b. record { gids = b.gids; global = b.global; doors = b.doors } };
-}
-
-// The answer to an operation that brought no bytes.
-fn without_bytes(alloc: Global, said: Said) -> Answer
-    ensures said { result.said ≡ said }
-    ensures back { result.back ≡ [] }
-{
-    Answer {
-        said,
-        back: Blob::wrap(Vec::new(alloc)),
-    }
-}
-
-impl<D: Disk> Engine<D> {
-    // An operation is one turn.
-    fn perform(&mut self, op: Operation) -> Answer
-        requires { IsLawfulOperation op }
-        ensures turn { TakesTurn D.faults op self.old self.new result.said }
-        ensures back { result.back ≡ brought_bytes op }
-    {
-        let alloc = self.alloc;
-        match op {
-            Operation::Call { session, call, now } => {
-                without_bytes(alloc, self.call(session, call, now))
-            }
-            Operation::Next { worker, now } => without_bytes(alloc, self.next(worker, now)),
-            Operation::Deliver {
-                claim,
-                run,
-                bytes,
-                now,
-            } => Answer {
-                said: self.deliver(claim, run, bytes.bytes(), now),
-                back: bytes,
-            },
-            Operation::More { claim, want, now } => without_bytes(
-                alloc,
-                self.more(claim, want, now),
-            ),
-            Operation::Lose { claim, mark, now } => without_bytes(
-                alloc,
-                self.lose(claim, mark, now),
-            ),
-            Operation::Sized { claim, total, now } => without_bytes(
-                alloc,
-                self.size(claim, total, now),
-            ),
-            Operation::Seal { gid, sealed, now } => Answer {
-                said: self.seal(gid, &sealed, now),
-                back: sealed.into_bytes(),
-            },
-            Operation::Pulse => without_bytes(alloc, self.pulse()),
-            Operation::Leave => without_bytes(alloc, self.leave()),
-            Operation::Stop { now } => without_bytes(alloc, self.stop(now)),
-        }
-    }
 }
 
 impl<D: Disk> Served for Engine<D> {
@@ -99,13 +42,20 @@ impl<D: Disk> Served for Engine<D> {
 
     ghost entries = { entries_of };
 
-    ghost mark = { stamp_of D.faults };
+    ghost mark = { stamp_of D.tells D.state D.faults };
 
     ghost relates = { ties_turn };
 
-    ghost stands = { stands_for };
+    ghost stands = { stands_for D.tells D.state };
 
     fn serve(&mut self, op: Operation) -> Answer {
-        self.perform(op)
+        runs_follow();
+        turns_tell_runs();
+        self.state.run.tells_stored();
+        let from = self.state.run.machine().journal().len();
+        let answer = self.state.perform(self.alloc, op);
+        self.state.take_back(from);
+        self.state.run.tells_stored();
+        answer
     }
 }

@@ -1,12 +1,26 @@
-use Rattle.std.proofs.Common.{sym, subst}
-use Rattle.turn_desk.specs.Turns.{ServesTurn}
-use Rattle.engine_turns.specs.RunTurns.{ties_turn}
-use Rattle.engine_core.specs.Engines.{entries_of, stamp_of, stands_for, start_of}
+use Rattle.std.proofs.Common.{length, refl, reverse, ap, ◌∙◌, subst}
+use Rattle.machine_core.specs.MachineViews.{MachineView}
+use Rattle.stored_run.specs.Stored.{IsStoredRun}
+use Rattle.engine_core.specs.declared.state.EngineState.{EngineState}
+use Rattle.engine_core.proofs.Taking.{engine_since, takes_turn}
 use Rattle.engine_core.proofs.serving.EngineServed.serve.Goals as goal
 
-pub returns-clause-turn : goal.returns-clause-turn
-returns-clause-turn g c =
-    let a = c.args in
-    let answer = c.perform.result in
-    subst (λ b. ServesTurn ties_turn stands_for start_of entries_of (stamp_of g.D.Disk.faults) a.self.now a.op
-    (record { said = answer.said; back = b }) c.perform.new.self) (sym c.perform.ensures.back) c.perform.ensures.turn.turn
+pub invariant_of-self : goal.invariant_of-self
+invariant_of-self g c =
+    let back = c.take_back.ensures in
+    let from_is = c.len-from.ensures ∙ ap length (c.journal.ensures.events ∙ ap (λ (m : MachineView). reverse m.past) c.machine.ensures) in
+    engine_since g.D.Disk.tells g.D.Disk.state g.D.Disk.faults c.args.op c.perform-answer.result.said c.self.inside.state
+    c.self.inside.state c.perform-answer.new.self c.take_back.new.self c.len-from.result refl c.perform-answer.ensures.turn from_is
+    back.run back.limits back.pieces back.out c.self.invariant.out
+
+pub returns : goal.returns
+returns g c =
+    let back = c.take_back.ensures in
+    let from_is = c.len-from.ensures ∙ ap length (c.journal.ensures.events ∙ ap (λ (m : MachineView). reverse m.past) c.machine.ensures) in
+    let took = takes_turn g.D.Disk.tells g.D.Disk.state g.D.Disk.faults c.args.op c.perform-answer.result.said c.args.self.now
+    c.self.inside.state c.perform-answer.new.self c.take_back.new.self c.len-from.result c.self.view_is c.perform-answer.ensures.turn
+    from_is back.run back.limits back.pieces c.runs_follow.ensures c.turns_tell_runs.ensures.handed
+    (subst (λ (e : EngineState g.row.D.Denot). IsStoredRun g.D.Disk.tells (g.D.Disk.faults e.run.disk) (g.D.Disk.state e.run.disk) e.run)
+    c.self.view_is c.tells_stored.ensures)
+    c.tells_stored-2.ensures.legal c.perform-answer.result.back c.perform-answer.ensures.back in
+    record { start = took.start; entries = took.entries; mark = took.mark; turn = took.turn }

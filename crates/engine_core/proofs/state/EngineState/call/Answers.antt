@@ -1,4 +1,4 @@
-use Rattle.std.proofs.Common.{◌≡◌, false, true, length, refl, sym, ap, ◌∙◌, subst, arith}
+use Rattle.std.proofs.Common.{◌≡◌, false, true, length, refl, sym, ap, ◌∙◌, subst, arith, inl, inr}
 use Rattle.engine_turns.specs.Levels.{downloads_of}
 use Rattle.engine_turns.specs.declared.operations.Operation.TheVariants as operation
 use Rattle.engine_turns.specs.declared.operations.Said.TheVariants.{NoMemory}
@@ -6,29 +6,39 @@ use Rattle.engine_core.specs.Beginning.{IsBrokenOff}
 use Rattle.engine_core.specs.Buckets.{FollowOptions}
 use Rattle.engine_core.specs.Engines.{past_of, start_of}
 use Rattle.engine_core.specs.Performing.{Performs}
+use Rattle.engine_core.specs.Disks.{Leaves}
 use Rattle.engine_core.proofs.Called.{call_performed, called_few, follow_from, roomier_performs}
 use Rattle.engine_core.proofs.Performed.{broken_off}
+use Rattle.engine_core.proofs.Alike.{begun_alike}
 use Rattle.engine_core.proofs.state.EngineState.call.Goals as goal
 
 pub returns-in-Err : goal.returns-in-Err
-returns-in-Err g c =
-    let a = c.args in
-    let same = ap g.D.Disk.faults c.begin.ensures.same.disk in
-    broken_off (operation.Call a.session a.call a.now) (λ h. refl) a.now refl a.self.now c.begin.new.self
-    c.begin.ensures.same (g.D.Disk.faults a.self.now.run.disk) (g.D.Disk.faults c.begin.new.self.run.disk) false true
-    c.in-Err.said (omega (arith, same)) c.requires.rates (λ none. refl) refl c.in-Err.ensures.broken_off
+returns-in-Err g c = record {
+  performs = (
+      let a = c.args in
+      let same = ap g.D.Disk.faults c.begin.ensures.same.disk in
+      broken_off (operation.Call a.session a.call a.now) (λ h. refl) a.now refl a.self.now c.begin.new.self
+      c.begin.ensures.same (g.D.Disk.faults a.self.now.run.disk) (g.D.Disk.faults c.begin.new.self.run.disk) false true
+      c.in-Err.said (omega (arith, same)) c.requires.rates (λ none. refl) refl c.in-Err.ensures.broken_off
+      );
+  disk = λ told. inl (begun_alike c.args.now c.args.self.now c.begin.new.self c.begin.ensures.same);
+}
 
 pub returns-in-Err-reserve : goal.returns-in-Err-reserve
-returns-in-Err-reserve g c =
-    let a = c.args in
-    let op = operation.Call a.session a.call a.now in
-    let same = ap g.D.Disk.faults c.begin.ensures.same.disk in
-    let f = g.D.Disk.faults a.self.now.run.disk in
-    let f' = g.D.Disk.faults c.begin.new.self.run.disk in
-    roomier_performs op a.self.now c.begin.new.self f f' NoMemory c.reserve.new.self c.reserve.ensures.same
-    (broken_off op (λ h. refl) a.now refl a.self.now c.begin.new.self c.begin.ensures.same f f' false true NoMemory
-    (omega (arith, same)) c.requires.rates (λ none. refl) refl
-    (subst (λ o. IsBrokenOff o NoMemory) (sym c.in_default.ensures.none) refl))
+returns-in-Err-reserve g c = record {
+  performs = (
+      let a = c.args in
+      let op = operation.Call a.session a.call a.now in
+      let same = ap g.D.Disk.faults c.begin.ensures.same.disk in
+      let f = g.D.Disk.faults a.self.now.run.disk in
+      let f' = g.D.Disk.faults c.begin.new.self.run.disk in
+      roomier_performs op a.self.now c.begin.new.self f f' NoMemory c.reserve.new.self c.reserve.ensures.same
+      (broken_off op (λ h. refl) a.now refl a.self.now c.begin.new.self c.begin.ensures.same f f' false true NoMemory
+      (omega (arith, same)) c.requires.rates (λ none. refl) refl
+      (subst (λ o. IsBrokenOff o NoMemory) (sym c.in_default.ensures.none) refl))
+      );
+  disk = λ told. inl (begun_alike c.args.now c.args.self.now c.begin.new.self c.begin.ensures.same);
+}
 
 pub follow_options-requires : goal.follow_options-requires
 follow_options-requires g c =
@@ -44,20 +54,32 @@ follow_options-requires g c =
     omega (arith, few, many, own, same, room)
 
 pub returns-in-Ok : goal.returns-in-Ok
-returns-in-Ok g c =
-    let a = c.args in
-    let old = a.self.now in
-    let mid = c.begin.new.self in
-    let run = c.call-said.new.self in
-    let new = c.follow_options.new.self in
-    let op = operation.Call a.session a.call a.now in
-    let said = c.call-said.result in
-    let same = ap g.D.Disk.faults c.begin.ensures.same.disk in
-    let f = g.D.Disk.faults old.run.disk in
-    let follow = follow_from (start_of new) (past_of new) new.run.now.0 mid.limits c.reserve.new.self new.limits c.reserve.ensures.same
-    (subst (λ r. FollowOptions r.machine.start r.machine.past r.now.0 c.reserve.new.self new.limits) (sym c.follow_options.ensures.run)
-    c.follow_options.ensures.limits) in
-    subst (λ n. Performs op old f new n said) (sym (ap (λ r. g.D.Disk.faults r.disk) c.follow_options.ensures.run))
-    (call_performed a.session a.call a.now old mid c.begin.ensures.same run f (g.D.Disk.faults mid.run.disk)
-    (g.D.Disk.faults run.disk) new said (omega (arith, same)) c.requires.rates c.in_default.ensures.none c.call-said.ensures.row
-    c.call-said.ensures.on.start c.call-said.ensures.on.now c.follow_options.ensures.run c.follow_options.ensures.handed follow)
+returns-in-Ok g c = record {
+  performs = (
+      let a = c.args in
+      let old = a.self.now in
+      let mid = c.begin.new.self in
+      let run = c.call-said.new.self in
+      let new = c.follow_options.new.self in
+      let op = operation.Call a.session a.call a.now in
+      let said = c.call-said.result in
+      let same = ap g.D.Disk.faults c.begin.ensures.same.disk in
+      let f = g.D.Disk.faults old.run.disk in
+      let follow = follow_from (start_of new) (past_of new) new.run.now.0 mid.limits c.reserve.new.self new.limits c.reserve.ensures.same
+      (subst (λ r. FollowOptions r.machine.start r.machine.past r.now.0 c.reserve.new.self new.limits) (sym c.follow_options.ensures.run)
+      c.follow_options.ensures.limits) in
+      subst (λ n. Performs op old f new n said) (sym (ap (λ r. g.D.Disk.faults r.disk) c.follow_options.ensures.run))
+      (call_performed a.session a.call a.now old mid c.begin.ensures.same run f (g.D.Disk.faults mid.run.disk)
+      (g.D.Disk.faults run.disk) new said (omega (arith, same)) c.requires.rates c.in_default.ensures.none c.call-said.ensures.row
+      c.call-said.ensures.on.start c.call-said.ensures.on.now c.follow_options.ensures.run c.follow_options.ensures.handed follow)
+      );
+  disk = λ told. inr (inl (record {
+    leaves = subst (Leaves g.D.Disk.state c.args.self.now.run) (sym c.follow_options.ensures.run)
+        (record {
+          mid = c.begin.new.self.run;
+          alike = begun_alike c.args.now c.args.self.now c.begin.new.self c.begin.ensures.same;
+          leaves = c.call-said.ensures.leaves told;
+        });
+    none = λ never. absurd never;
+  }));
+}

@@ -1,4 +1,4 @@
-use Rattle.std.proofs.Common.{ℕ, min, refl, ap, sym, ◌∙◌, subst, arith, inl}
+use Rattle.std.proofs.Common.{ℕ, min, refl, ap, sym, ◌∙◌, subst, arith, inl, inr}
 use Rattle.std.proofs.lemmas.Bool.{leb-true}
 use Rattle.dl_kinds.specs.declared.runs.Moment.{Moment}
 use Rattle.dl_queue.specs.Calls.{added_place}
@@ -12,8 +12,10 @@ use Rattle.engine_turns.specs.declared.operations.Said.TheVariants.{NoMemory}
 use Rattle.stored_run.specs.Granting.{MakesClaim}
 use Rattle.engine_core.specs.Engines.{past_of, start_of}
 use Rattle.engine_core.specs.Giving.{GivenRow}
+use Rattle.engine_core.specs.Disks.{Leaves}
 use Rattle.engine_core.proofs.Allowing.{place_added}
 use Rattle.engine_core.proofs.Granted.{blocks_given, gives_nothing, is_first, is_within, place_there}
+use Rattle.engine_core.proofs.Alike.{alike_same}
 use Rattle.engine_core.proofs.state.EngineState.give_blocks.Goals as goal
 
 pub unwrap-place-requires : goal.unwrap-place-requires
@@ -21,15 +23,19 @@ unwrap-place-requires g c = place_there c.args.self.now.run.machine c.machine.re
     c.requires.added c.place.result c.place.ensures.none
 
 pub returns-in_default : goal.returns-in_default
-returns-in_default g c =
-    let a = c.args in
-    let old = a.self.now in
-    let is = c.in_default.ensures.same in
-    let same = ap g.D.Disk.faults is.disk in
-    gives_nothing (Next a.worker old.run.now) (GivenRow a.gid a.worker (offer.Blocks a.mirror a.run a.victim)) old
-    (record old { run = c.claim_blocks.new.self }) (g.D.Disk.faults old.run.disk)
-    (g.D.Disk.faults c.claim_blocks.new.self.disk) NoMemory (omega (arith, same)) c.requires.rates is.machine.start_is is.now
-    is.machine.past_is refl refl refl (λ from below. inl (refl, refl))
+returns-in_default g c = record {
+  makes = (
+      let a = c.args in
+      let old = a.self.now in
+      let is = c.in_default.ensures.same in
+      let same = ap g.D.Disk.faults is.disk in
+      gives_nothing (Next a.worker old.run.now) (GivenRow a.gid a.worker (offer.Blocks a.mirror a.run a.victim)) old
+      (record old { run = c.claim_blocks.new.self }) (g.D.Disk.faults old.run.disk)
+      (g.D.Disk.faults c.claim_blocks.new.self.disk) NoMemory (omega (arith, same)) c.requires.rates is.machine.start_is is.now
+      is.machine.past_is refl refl refl (λ from below. inl (refl, refl))
+      );
+  disk = λ told. inr (record { mid = c.args.self.now.run; alike = alike_same c.args.self.now.run; leaves = c.claim_blocks.ensures.leaves told });
+}
 
 pub let_go-allow-requires-clause-place : goal.let_go-allow-requires-clause-place
 let_go-allow-requires-clause-place g c =
@@ -50,22 +56,27 @@ let_go-allow-requires-clause-some g c =
     omega (arith, more, credit)
 
 pub returns : goal.returns
-returns g c =
-    let a = c.args in
-    let old = a.self.now in
-    let new = c.let_go-allow.new.self in
-    let faults = g.D.Disk.faults in
-    let place = c.unwrap-place.result in
-    let first = is_first old.run.machine c.machine.result.now c.machine.ensures a.gid c.place.result place c.unwrap-place.ensures
-    c.place.ensures.first in
-    let within = is_within old.run.machine c.machine.result.now c.machine.ensures a.gid c.place.result place c.unwrap-place.ensures
-    c.place.ensures.found in
-    let same = ap (λ r. faults r.disk) c.let_go-allow.ensures.run ∙ ap faults c.in-Ok.ensures.event.disk in
-    let now = c.in-Ok.ensures.event.now in
-    blocks_given a.worker old.run.now old new a.gid (faults old.run.disk) (faults new.run.disk) (omega (arith, same))
-    c.requires.rates c.requires.added a.mirror a.run a.victim c.in-Ok.claim c.in-Ok.job place c.let_go-allow.result
-    (subst (MakesClaim a.gid a.worker a.mirror a.run a.victim c.in-Ok.claim old.run) (sym c.let_go-allow.ensures.run) c.in-Ok.ensures.event)
-    c.in-Ok.ensures.job
-    (c.let_go-allow.ensures.bytes ∙ λ i. min MAX_ALLOWANCE (lesser_credit old.limits place (now i).0)) first within
-    c.let_go-allow.ensures.handed
-    (c.let_go-allow.ensures.limits ∙ ap (λ (m : Moment). levels_taken place m.0 (Go c.let_go-allow.result) old.limits) now)
+returns g c = record {
+  makes = (
+      let a = c.args in
+      let old = a.self.now in
+      let new = c.let_go-allow.new.self in
+      let faults = g.D.Disk.faults in
+      let place = c.unwrap-place.result in
+      let first = is_first old.run.machine c.machine.result.now c.machine.ensures a.gid c.place.result place c.unwrap-place.ensures
+      c.place.ensures.first in
+      let within = is_within old.run.machine c.machine.result.now c.machine.ensures a.gid c.place.result place c.unwrap-place.ensures
+      c.place.ensures.found in
+      let same = ap (λ r. faults r.disk) c.let_go-allow.ensures.run ∙ ap faults c.in-Ok.ensures.event.disk in
+      let now = c.in-Ok.ensures.event.now in
+      blocks_given a.worker old.run.now old new a.gid (faults old.run.disk) (faults new.run.disk) (omega (arith, same))
+      c.requires.rates c.requires.added a.mirror a.run a.victim c.in-Ok.claim c.in-Ok.job place c.let_go-allow.result
+      (subst (MakesClaim a.gid a.worker a.mirror a.run a.victim c.in-Ok.claim old.run) (sym c.let_go-allow.ensures.run) c.in-Ok.ensures.event)
+      c.in-Ok.ensures.job
+      (c.let_go-allow.ensures.bytes ∙ λ i. min MAX_ALLOWANCE (lesser_credit old.limits place (now i).0)) first within
+      c.let_go-allow.ensures.handed
+      (c.let_go-allow.ensures.limits ∙ ap (λ (m : Moment). levels_taken place m.0 (Go c.let_go-allow.result) old.limits) now)
+      );
+  disk = λ told. inr (subst (Leaves g.D.Disk.state c.args.self.now.run) (sym c.let_go-allow.ensures.run)
+      (record { mid = c.args.self.now.run; alike = alike_same c.args.self.now.run; leaves = c.claim_blocks.ensures.leaves told }));
+}

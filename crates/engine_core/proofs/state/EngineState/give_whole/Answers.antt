@@ -1,23 +1,32 @@
-use Rattle.std.proofs.Common.{refl, ap}
+use Rattle.std.proofs.Common.{refl, ap, inr}
 use Rattle.machine_core.specs.Offers.{HandedList}
 use Rattle.engine_core.proofs.Granted.{hash_given, whole_ungiven}
+use Rattle.engine_core.proofs.Alike.{alike_same}
 use Rattle.engine_core.proofs.state.EngineState.give_whole.Goals as goal
 
 pub returns-in-Ok : goal.returns-in-Ok
-returns-in-Ok g c =
-    let a = c.args in
-    let old = a.self.now in
-    let given = c.in-Ok.ensures in
-    hash_given a.worker old.run.now old (record old { run = c.give_whole.new.self; handed = c.hand_out.new.self }) a.gid
-    (g.D.Disk.faults old.run.disk) (g.D.Disk.faults c.give_whole.new.self.disk) given.later c.requires.rates c.requires.added
-    a.piece c.in-Ok.bytes c.requires.may.1 given.listed given.len given.same given.on.now
-    (ap (λ (h : HandedList). h.pieces) c.hand_out.ensures) refl
+returns-in-Ok g c = record {
+  makes = (
+      let a = c.args in
+      let old = a.self.now in
+      let given = c.in-Ok.ensures in
+      hash_given a.worker old.run.now old (record old { run = c.give_whole.new.self; handed = c.hand_out.new.self }) a.gid
+      (g.D.Disk.faults old.run.disk) (g.D.Disk.faults c.give_whole.new.self.disk) given.later c.requires.rates c.requires.added
+      a.piece c.in-Ok.bytes c.requires.may.1 given.listed given.len given.same given.on.now
+      (ap (λ (h : HandedList). h.pieces) c.hand_out.ensures) refl
+      );
+  disk = λ told. inr (record { mid = c.args.self.now.run; alike = alike_same c.args.self.now.run; leaves = c.give_whole.ensures.leaves told });
+}
 
 pub returns-in-Err : goal.returns-in-Err
-returns-in-Err g c =
-    let a = c.args in
-    let old = a.self.now in
-    let not_given = c.in-Err.ensures in
-    whole_ungiven a.worker old.run.now old (record old { run = c.give_whole.new.self }) a.gid
-    (g.D.Disk.faults old.run.disk) (g.D.Disk.faults c.give_whole.new.self.disk) not_given.row.later c.requires.rates
-    c.requires.added a.piece c.in-Err.said not_given.row not_given.on.start not_given.on.now refl refl
+returns-in-Err g c = record {
+  makes = (
+      let a = c.args in
+      let old = a.self.now in
+      let not_given = c.in-Err.ensures in
+      whole_ungiven a.worker old.run.now old (record old { run = c.give_whole.new.self }) a.gid
+      (g.D.Disk.faults old.run.disk) (g.D.Disk.faults c.give_whole.new.self.disk) not_given.row.later c.requires.rates
+      c.requires.added a.piece c.in-Err.said not_given.row not_given.on.start not_given.on.now refl refl
+      );
+  disk = λ told. inr (record { mid = c.args.self.now.run; alike = alike_same c.args.self.now.run; leaves = c.give_whole.ensures.leaves told });
+}

@@ -1,7 +1,7 @@
 use Rattle.std.specs.Prelude.{All}
 use Rattle.machine_core.specs.Replays.{is_active_in}
 use Rattle.engine_turns.specs.Told.{is_taken}
-use Rattle.std.proofs.Common.{◌≡◌, true, false, inl, refl, sym, ap, ◌∙◌, subst, arith}
+use Rattle.std.proofs.Common.{◌≡◌, true, false, inl, inr, refl, sym, ap, ◌∙◌, subst, arith}
 use Rattle.machine_core.specs.Offers.{is_handed_out}
 use Rattle.engine_turns.specs.Standings.{AnswersOnly}
 use Rattle.engine_turns.specs.declared.operations.Operation.TheVariants as operation
@@ -15,40 +15,49 @@ use Rattle.engine_core.proofs.CalmRows.{calm_only}
 use Rattle.engine_core.proofs.Letting.{front_lets_none}
 use Rattle.engine_core.proofs.Performed.{nothing_came, out_same, row_came}
 use Rattle.engine_core.proofs.Sealed.{but_none, but_untaken, calm_sealed, front_takes_none, is_out, out_going, out_settled, sealed_after, sealed_row}
+use Rattle.engine_core.proofs.Alike.{begun_alike}
 use Rattle.engine_core.proofs.state.EngineState.seal.Goals as goal
 
 pub returns-in-Err : goal.returns-in-Err
-returns-in-Err g c =
-    let a = c.args in
-    let old = a.self.now in
-    let pieces = old.handed.pieces in
-    let said = c.in-Err.said in
-    let same = ap g.D.Disk.faults c.begin.ensures.same.disk in
-    let broken = c.in-Err.ensures.broken_off in
-    nothing_came (operation.Seal a.gid a.sealed.now a.now) a.now refl old c.begin.new.self
-    c.begin.ensures.same (g.D.Disk.faults old.run.disk) (g.D.Disk.faults c.begin.new.self.run.disk) false true
-    said (omega (arith, same)) c.requires.rates (λ none. refl) refl broken
-    (sealed_after a.gid a.sealed.now a.now said pieces pieces (front_lets_none false true (start_of old) (past_of old) said broken)
-    (but_untaken a.gid a.sealed.now.piece _ pieces (front_takes_none false true (start_of old) (past_of old) said broken)))
+returns-in-Err g c = record {
+  performs = (
+      let a = c.args in
+      let old = a.self.now in
+      let pieces = old.handed.pieces in
+      let said = c.in-Err.said in
+      let same = ap g.D.Disk.faults c.begin.ensures.same.disk in
+      let broken = c.in-Err.ensures.broken_off in
+      nothing_came (operation.Seal a.gid a.sealed.now a.now) a.now refl old c.begin.new.self
+      c.begin.ensures.same (g.D.Disk.faults old.run.disk) (g.D.Disk.faults c.begin.new.self.run.disk) false true
+      said (omega (arith, same)) c.requires.rates (λ none. refl) refl broken
+      (sealed_after a.gid a.sealed.now a.now said pieces pieces (front_lets_none false true (start_of old) (past_of old) said broken)
+      (but_untaken a.gid a.sealed.now.piece _ pieces (front_takes_none false true (start_of old) (past_of old) said broken)))
+      );
+  disk = λ told. inl (begun_alike c.args.now c.args.self.now c.begin.new.self c.begin.ensures.same);
+}
 
 pub returns-then-not-is_out : goal.returns-then-not-is_out
-returns-then-not-is_out g c =
-    let a = c.args in
-    let old = a.self.now in
-    let mid = c.begin.new.self in
-    let pieces = old.handed.pieces in
-    let same = ap g.D.Disk.faults c.begin.ensures.same.disk in
-    let handed = ap (λ h. h.pieces) c.begin.ensures.same.handed in
-    let f = g.D.Disk.faults mid.run.disk in
-    let none : is_handed_out pieces a.gid a.sealed.now.piece ≡ false =
-    ap (λ hs. is_handed_out hs a.gid a.sealed.now.piece) (sym handed)
-    ∙ (ap (λ p. is_handed_out mid.handed.pieces a.gid p) (sym c.piece.ensures) ∙ (sym c.is_out.ensures ∙ c.if-not-is_out.true)) in
-    row_came (operation.Seal a.gid a.sealed.now a.now) a.now refl old mid c.begin.ensures.same (λ at s. AnswersOnly Void) mid.run
-    (g.D.Disk.faults old.run.disk) f f mid Void (omega (arith, same)) c.requires.rates c.in_default.ensures.none
-    (row_of_none (λ at s. AnswersOnly Void) mid.run f Void (λ from s standing. (refl, refl))) refl refl refl refl
-    (λ events row. inl row) (λ at s events row. calm_only Void refl events Void row)
-    (handed ∙ sealed_after a.gid a.sealed.now a.now Void pieces pieces refl (but_none a.gid a.sealed.now.piece true pieces none))
-    (out_same old mid handed)
+returns-then-not-is_out g c = record {
+  performs = (
+      let a = c.args in
+      let old = a.self.now in
+      let mid = c.begin.new.self in
+      let pieces = old.handed.pieces in
+      let same = ap g.D.Disk.faults c.begin.ensures.same.disk in
+      let handed = ap (λ h. h.pieces) c.begin.ensures.same.handed in
+      let f = g.D.Disk.faults mid.run.disk in
+      let none : is_handed_out pieces a.gid a.sealed.now.piece ≡ false =
+      ap (λ hs. is_handed_out hs a.gid a.sealed.now.piece) (sym handed)
+      ∙ (ap (λ p. is_handed_out mid.handed.pieces a.gid p) (sym c.piece.ensures) ∙ (sym c.is_out.ensures ∙ c.if-not-is_out.true)) in
+      row_came (operation.Seal a.gid a.sealed.now a.now) a.now refl old mid c.begin.ensures.same (λ at s. AnswersOnly Void) mid.run
+      (g.D.Disk.faults old.run.disk) f f mid Void (omega (arith, same)) c.requires.rates c.in_default.ensures.none
+      (row_of_none (λ at s. AnswersOnly Void) mid.run f Void (λ from s standing. (refl, refl))) refl refl refl refl
+      (λ events row. inl row) (λ at s events row. calm_only Void refl events Void row)
+      (handed ∙ sealed_after a.gid a.sealed.now a.now Void pieces pieces refl (but_none a.gid a.sealed.now.piece true pieces none))
+      (out_same old mid handed)
+      );
+  disk = λ told. inl (begun_alike c.args.now c.args.self.now c.begin.new.self c.begin.ensures.same);
+}
 
 pub seal-said-requires-clause-going : goal.seal-said-requires-clause-going
 seal-said-requires-clause-going g c =
@@ -92,32 +101,39 @@ seal-said-requires-clause-mark_room g c =
     omega (arith, room)
 
 pub returns : goal.returns
-returns g c =
-    let a = c.args in
-    let old = a.self.now in
-    let mid = c.begin.new.self in
-    let pieces = old.handed.pieces in
-    let piece = a.sealed.now.piece in
-    let said = c.seal-said.result in
-    let run = c.seal-said.new.self in
-    let new = record mid { run = run; handed = c.hand_back_taken.new.handed } in
-    let same = ap g.D.Disk.faults c.begin.ensures.same.disk in
-    let handed = ap (λ h. h.pieces) c.begin.ensures.same.handed in
-    let f = g.D.Disk.faults mid.run.disk in
-    let there : is_handed_out pieces a.gid piece ≡ true =
-    ap (λ hs. is_handed_out hs a.gid piece) (sym handed)
-    ∙ (ap (λ p. is_handed_out mid.handed.pieces a.gid p) (sym c.piece.ensures) ∙ (sym c.is_out.ensures ∙ c.if-not-is_out.false)) in
-    let back : new.handed.pieces ≡ handed_but a.gid piece (is_taken said) pieces =
-    c.hand_back_taken.ensures ∙ (ap (λ p. handed_but a.gid p (is_taken said) mid.handed.pieces) c.piece-2.ensures
-    ∙ ap (handed_but a.gid piece (is_taken said)) handed) in
-    let here = c.seal-said.ensures.row.is (g.D.Disk.faults old.run.disk) (standing_of old) (omega (arith, same))
-    (sym c.begin.ensures.same.machine.past_is) in
-    let quiet = calm_sealed _ a.gid a.sealed.now (standing_of old) c.seal-said.ensures.row.events said here in
-    row_came (operation.Seal a.gid a.sealed.now a.now) a.now refl old mid c.begin.ensures.same (SealedRow a.gid a.sealed.now) run
-    (g.D.Disk.faults old.run.disk) f (g.D.Disk.faults run.disk) new said (omega (arith, same)) c.requires.rates
-    c.in_default.ensures.none c.seal-said.ensures.row c.seal-said.ensures.on.start c.seal-said.ensures.on.now refl refl
-    (λ events row. sealed_row _ (standing_of old) a.gid a.sealed.now events said there row)
-    (λ at s events row. calm_sealed at a.gid a.sealed.now s events said row)
-    (sealed_after a.gid a.sealed.now a.now said pieces new.handed.pieces quiet.1 back)
-    (λ all. subst (All (IsUnsettled (start_of old) (past_of old))) (sym back)
-    (all_kept (IsUnsettled (start_of old) (past_of old)) (IsUnsettled (start_of old) (past_of old)) _ pieces (λ h is stays. is) all))
+returns g c = record {
+  performs = (
+      let a = c.args in
+      let old = a.self.now in
+      let mid = c.begin.new.self in
+      let pieces = old.handed.pieces in
+      let piece = a.sealed.now.piece in
+      let said = c.seal-said.result in
+      let run = c.seal-said.new.self in
+      let new = record mid { run = run; handed = c.hand_back_taken.new.handed } in
+      let same = ap g.D.Disk.faults c.begin.ensures.same.disk in
+      let handed = ap (λ h. h.pieces) c.begin.ensures.same.handed in
+      let f = g.D.Disk.faults mid.run.disk in
+      let there : is_handed_out pieces a.gid piece ≡ true =
+      ap (λ hs. is_handed_out hs a.gid piece) (sym handed)
+      ∙ (ap (λ p. is_handed_out mid.handed.pieces a.gid p) (sym c.piece.ensures) ∙ (sym c.is_out.ensures ∙ c.if-not-is_out.false)) in
+      let back : new.handed.pieces ≡ handed_but a.gid piece (is_taken said) pieces =
+      c.hand_back_taken.ensures ∙ (ap (λ p. handed_but a.gid p (is_taken said) mid.handed.pieces) c.piece-2.ensures
+      ∙ ap (handed_but a.gid piece (is_taken said)) handed) in
+      let here = c.seal-said.ensures.row.is (g.D.Disk.faults old.run.disk) (standing_of old) (omega (arith, same))
+      (sym c.begin.ensures.same.machine.past_is) in
+      let quiet = calm_sealed _ a.gid a.sealed.now (standing_of old) c.seal-said.ensures.row.events said here in
+      row_came (operation.Seal a.gid a.sealed.now a.now) a.now refl old mid c.begin.ensures.same (SealedRow a.gid a.sealed.now) run
+      (g.D.Disk.faults old.run.disk) f (g.D.Disk.faults run.disk) new said (omega (arith, same)) c.requires.rates
+      c.in_default.ensures.none c.seal-said.ensures.row c.seal-said.ensures.on.start c.seal-said.ensures.on.now refl refl
+      (λ events row. sealed_row _ (standing_of old) a.gid a.sealed.now events said there row)
+      (λ at s events row. calm_sealed at a.gid a.sealed.now s events said row)
+      (sealed_after a.gid a.sealed.now a.now said pieces new.handed.pieces quiet.1 back)
+      (λ all. subst (All (IsUnsettled (start_of old) (past_of old))) (sym back)
+      (all_kept (IsUnsettled (start_of old) (past_of old)) (IsUnsettled (start_of old) (past_of old)) _ pieces (λ h is stays. is) all))
+      );
+  disk = λ told. inr (inl (record {
+    leaves = record { mid = c.begin.new.self.run; alike = begun_alike c.args.now c.args.self.now c.begin.new.self c.begin.ensures.same; leaves = c.seal-said.ensures.leaves told };
+    none = λ never. absurd never;
+  }));
+}
