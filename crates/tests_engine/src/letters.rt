@@ -1,4 +1,4 @@
-// Bytes as letters, with how many of each stand in a row: `a*2,b*1` is `aab`.
+// Bytes as letters, with how many of each stand in a row: `a*2,b*1` is `aab`. A byte of 0 is shown as a dot.
 use std::alloc::Global;
 use std::test::Fail;
 
@@ -20,7 +20,8 @@ fn push_run(alloc: Global, text: &mut String, letter: u8, count: u32) -> Result<
         return Ok(());
     }
     let comma = if text.is_empty() { "" } else { "," };
-    let run = format!(in alloc; "{comma}{}*{count}", letter as char)?;
+    let letter = if letter == 0 { '.' } else { letter as char };
+    let run = format!(in alloc; "{comma}{letter}*{count}")?;
     Ok(text.push_str(run.as_str())?)
 }
 

@@ -83,9 +83,26 @@ fn shown_end(alloc: Global, end: &End) -> Result<String, Fail> {
     Ok(match end {
         End::Complete => String::from_str(alloc, "complete")?,
         End::Disk { count } => format!(in alloc; "disk {count}")?,
+        End::Exists { length } => format!(in alloc; "exists of {length}")?,
+        End::PieceLength { have, want } => format!(in alloc; "pieces of {have} for {want}")?,
+        End::Length { have, want } => format!(in alloc; "length {have} for {want}")?,
+        End::InfoHash => String::from_str(alloc, "another info hash")?,
+        End::Unreadable { at } => format!(in alloc; "unreadable at {at}")?,
         End::Dead { piece, mark } => format!(in alloc; "dead {piece} of {}", mark.code.0)?,
         _ => String::from_str(alloc, "another end")?,
     })
+}
+
+// What is taken up of a download: nothing, or its verified pieces and its blocks in hexadecimal digits.
+fn shown_opened(alloc: Global, verified: &[u8], blocks: &[u8]) -> Result<String, Fail> {
+    if blocks.iter().all(|byte| *byte == 0) {
+        return Ok(String::from_str(alloc, "opened")?);
+    }
+    Ok(format!(in alloc;
+        "opened {} {}",
+        hex::encode(alloc, verified)?,
+        hex::encode(alloc, blocks)?
+    )?)
 }
 
 // An event.
@@ -96,7 +113,11 @@ fn shown_event(alloc: Global, event: &Event) -> Result<String, Fail> {
             ..
         } => String::from_str(alloc, "torrent")?,
         Event::Called { .. } => String::from_str(alloc, "call")?,
-        Event::Opened { .. } => String::from_str(alloc, "opened")?,
+        Event::Opened {
+            verified,
+            blocks,
+            ..
+        } => shown_opened(alloc, verified.bytes(), blocks.bytes())?,
         Event::Sized { claim, total, .. } => format!(in alloc; "sized {claim}: {total}")?,
         Event::Claimed { claim, .. } => shown_claim(alloc, claim)?,
         Event::Landed { claim, run, .. } => {
@@ -112,6 +133,7 @@ fn shown_event(alloc: Global, event: &Event) -> Result<String, Fail> {
         Event::Ended { end, .. } => shown_end(alloc, end)?,
         Event::Lost { claim, .. } => format!(in alloc; "lost {claim}")?,
         Event::Saved { .. } => String::from_str(alloc, "saved")?,
+        Event::Stopped => String::from_str(alloc, "stopped")?,
         _ => String::from_str(alloc, "another event")?,
     })
 }
