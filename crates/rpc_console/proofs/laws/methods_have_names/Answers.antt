@@ -47,9 +47,10 @@ found p (first ∷ others) which e = by (p first) refl (found p others which) e 
   by false holds rest is = rest is
 
 named : MethodsHaveNames
-named name which =
-    ((λ e. (bytes_eq-Decides (method_name which) name).0 (found (λ m. bytes_eq (method_name m) name) METHODS which e)),
-    (λ e. subst (λ text. method_named text ≡ Some which) e (known which)))
+named name which = (
+  (λ e. (bytes_eq-Decides (method_name which) name).0 (found (λ m. bytes_eq (method_name m) name) METHODS which e)),
+  (λ e. subst (λ text. method_named text ≡ Some which) e (known which)),
+)
 
 pub returns : goal.returns
 returns c = record { named = named; ascend = record { names = refl; ascending = refl } }
