@@ -1,6 +1,7 @@
 pub mod Starts
 pub mod Replays
 pub mod OwnParts
+pub mod Asked
 pub mod LawfulCalls
 pub mod Answers
 pub mod FileNames

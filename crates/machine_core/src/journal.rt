@@ -28,7 +28,8 @@ pub struct Journal {
 impl Journal {
     ghost use Rattle.machine_core.specs.Journals.{room_in};
 
-    pub(crate) fn new(alloc: Global) -> Self
+    /// One in which nothing happened.
+    pub fn new(alloc: Global) -> Self
         ensures { result.events.items ≡ [] }
     {
         Journal {

@@ -5,6 +5,7 @@
 mod added;
 mod adding;
 mod applied;
+mod asked;
 mod calling;
 mod calls;
 mod changes;
@@ -31,6 +32,7 @@ mod spares;
 mod wants;
 
 pub use applied::Applied;
+pub use asked::Lengths;
 pub use calls::Call;
 pub use ends::End;
 pub use events::Event;
@@ -44,4 +46,4 @@ pub use laws::{
 pub use machine::Machine;
 pub use offers::{Offer, Offered};
 pub use std::alloc::AllocError as NoMemory;
-pub use wants::wants_stay;
+pub use wants::{payload_name, wants_stay};

@@ -9,7 +9,7 @@ ghost use Rattle.option_set.specs.Values.{text_of_word};
 ghost use Rattle.option_set.specs.declared.kinds.Word.TheVariants as word;
 ghost use Rattle.span_map.specs.Paths.{IsValidPart};
 ghost use Rattle.machine_core.specs.DownloadWants.{HasWant, IsLawfulEvent, IsWantOf, WantsStay};
-ghost use Rattle.machine_core.specs.FileNames.{IsUnlistedName};
+ghost use Rattle.machine_core.specs.FileNames.{IsPayloadName, IsUnlistedName};
 ghost use Rattle.machine_core.specs.LawfulCalls.{IsLawful};
 ghost use Rattle.machine_core.specs.MachineParts.{subject_of_call, subject_of_event};
 ghost use Rattle.machine_core.specs.Openings.{HasPlan, lengths_of_plan, meta_of_event, meta_of_subject};
@@ -138,6 +138,22 @@ fn want_by_call(alloc: Global, call: &Call, begun: &Options, plan: Plan) -> Resu
     match call {
         Call::AddTorrent { meta, .. } => listed_want(alloc, meta, begun),
         Call::AddUri { uris, .. } => unlisted_want(alloc, uris, begun, plan),
+        // No other call adds one.
+        _ => unreachable!(),
+    }
+}
+
+/// The name of the payload of the download that a call adds: of its file, or of the folder of its files.
+pub fn payload_name(alloc: Global, call: &Call, begun: &Options) -> Result<Text, AllocError>
+    requires lawful { IsLawful call.now }
+    requires adds { IsSome (subject_of_call call.now) }
+    ensures { (download : Download) → subject_of_call call.now ≡ Some download.subject
+        → begun.now ≡ download.options
+        → IfOk result (IsPayloadName download download.subject) }
+{
+    match call {
+        Call::AddTorrent { meta, .. } => meta.name.copy(alloc),
+        Call::AddUri { uris, .. } => base_of(alloc, begun, uris),
         // No other call adds one.
         _ => unreachable!(),
     }
