@@ -1,6 +1,6 @@
 -- A turn that an engine took keeps what is promised.
-use Rattle.std.proofs.Common.{◌≡◌, ⊎_elim, inl, inr, ℕ, Bool, true, false, List, [], ◌∷◌, ◌++◌, Some, None, refl, sym, ap, arith, ◌∙◌, subst}
-use Rattle.std.specs.Prelude.{◌≤◌, IsTrue}
+use Rattle.std.proofs.Common.{◌≡◌, ⊎_elim, inl, inr, ℕ, Bool, true, false, List, [], ◌∷◌, ◌++◌, Some, None, refl, sym, ap, ◌∙◌, subst}
+use Rattle.std.specs.Prelude.{IsTrue}
 use Rattle.dl_disk.specs.State.{DiskState}
 use Rattle.dl_kinds.specs.declared.gid.Gid.{Gid}
 use Rattle.machine_core.specs.Claiming.{next_to_open}
@@ -10,7 +10,6 @@ use Rattle.machine_core.specs.declared.events.Event.{Event}
 use Rattle.engine_turns.specs.RunTurns.{MayComeAfter}
 use Rattle.engine_turns.specs.Told.{RunTurn, history_of}
 use Rattle.engine_turns.specs.TurnLaws.{HandedAreActive}
-use Rattle.engine_turns.specs.declared.operations.Operation.{Operation}
 use Rattle.engine_turns.specs.declared.operations.Said.{Said}
 use Rattle.stored_run.proofs.Leaving.{leaves_still}
 use Rattle.stored_run.specs.Leavings.{LeavesDisk}
@@ -134,22 +133,6 @@ module _ {D : Type 0} (laws : RunFollows) (handed : HandedAreActive) (tells : Bo
             (alike.past ∙ past_is) start_is past_after
             (subst (λ (x : D). OpensDisk opens.gid opens.mid new.run t.answer.said (state x) after) alike.disk opens.opens);
       })) mark) more) turn
-
--- time goes on
-pub turn_later : {D : Type 0} (state : D → DiskState) (op : Operation) (old new : EngineState D) (said : Said)
-    → LeavesTurn state op old new said → (state old.run.disk).moment ≤ (state new.run.disk).moment
-turn_later state op old new said turn = ⊎_elim
-    (λ (alike : IsAlike old.run new.run).
-    let same = ap (λ x. (state x).moment) alike.disk in omega (arith, same))
-    (λ more. ⊎_elim
-    (λ (left : LeavesUnopened state op old.run new.run).
-    let same = ap (λ x. (state x).moment) left.leaves.alike.disk in
-    let later = left.leaves.leaves.time.later in
-    omega (arith, same, later))
-    (λ (opens : OpensNext state op old.run new.run said).
-    let same = ap (λ x. (state x).moment) opens.alike.disk in
-    let later = opens.opens.time.later in
-    omega (arith, same, later)) more) turn
 
 -- ---- no turn
 

@@ -29,3 +29,8 @@ pub mod Marks
 pub mod PromisesOn
 pub mod Alike
 pub mod DiskTaken
+pub mod ReadOn
+pub mod OpenedRead
+pub mod FoundRight
+pub mod ReadTurns
+pub mod GoingOn

@@ -72,7 +72,7 @@ calm_open at s download events said is = (
       unless_starved Done opening.1.0 said refl opening.1.2) is,
 )
 
-calm_opens : (gid : Gid) (at : TurnStart) (s : RunStanding) → IsCalmRow (OpenNextRow gid at s)
+pub calm_opens : (gid : Gid) (at : TurnStart) (s : RunStanding) → IsCalmRow (OpenNextRow gid at s)
 calm_opens gid at s events said is = ⊎_elim
     (λ (starved : AnswersOnly NoMemory events said). calm_only NoMemory refl events said starved)
     (λ (one : (download : Download) × (download_in at.start s.past gid ≡ Some download) × OpenRow at s download events said).

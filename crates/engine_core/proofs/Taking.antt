@@ -12,15 +12,21 @@ use Rattle.machine_core.specs.declared.events.Event.TheVariants.{Ended}
 use Rattle.machine_core.specs.declared.handed.Handed.{Handed}
 use Rattle.rate_tokens.specs.Level.{Level}
 use Rattle.turn_desk.specs.Turns.{IsLater, ServesTurn, StartsWith, turn_of}
+use Rattle.dl_disk.specs.Passes.{Passes}
 use Rattle.dl_disk.specs.State.{DiskState}
 use Rattle.engine_turns.specs.TurnLaws.{HandedAreActive}
 use Rattle.machine_core.specs.RunLegal.{IsLegal}
+use Rattle.stored_run.specs.Leavings.{AnyChange}
 use Rattle.stored_run.specs.RunFollows.{RunFollows}
 use Rattle.stored_run.specs.Stored.{IsStoredRun}
 use Rattle.stored_run.specs.declared.run.StoredView.{StoredView}
 use Rattle.engine_core.specs.Disks.{LeavesTurn}
 use Rattle.engine_core.specs.Durable.{KeepsPromises}
-use Rattle.engine_core.proofs.DiskTaken.{keeps_promises, turn_later}
+use Rattle.engine_core.proofs.DiskTaken.{keeps_promises}
+use Rattle.engine_core.proofs.ReadTurns.{fits_files, fits_more, turn_passes}
+use Rattle.engine_core.proofs.OpenedRead.{opened_read, untouched_read}
+use Rattle.engine_core.specs.Readings.{TakesRead}
+use Rattle.engine_core.specs.TurnReads.{TurnsFitDisk}
 use Rattle.turn_desk.specs.declared.turn.Stamp.{Stamp}
 use Rattle.engine_turns.specs.Levels.{downloads_of, level_of_download, level_on, overall_rate, own_levels, spent_by}
 use Rattle.engine_turns.specs.Phases.{TurnStart}
@@ -31,7 +37,7 @@ use Rattle.engine_turns.specs.declared.operations.Answer.{Answer}
 use Rattle.engine_turns.specs.declared.operations.Operation.{Operation}
 use Rattle.engine_turns.specs.declared.operations.Said.{Said}
 use Rattle.engine_core.specs.Buckets.{HasRates, own_levels_on}
-use Rattle.engine_core.specs.Engines.{IsEngineState, KeepsRates, StandsAfter, entries_of, moment_told, past_of, stamp_of, standing_of, stands_for, start_of}
+use Rattle.engine_core.specs.Engines.{IsEngineState, KeepsRates, StandsAfter, entries_of, moment_told, past_of, stamp_of, standing_of, start_of}
 use Rattle.engine_core.specs.Handing.{IsOut, IsUnsettled, stays_handed}
 use Rattle.engine_core.specs.Performing.{Performs, PerformsTurn}
 use Rattle.engine_core.specs.declared.state.EngineState.{EngineState}
@@ -51,13 +57,17 @@ joined false s k = refl
 
 -- ---- the whole
 
+-- what an engine keeps stands for these turns, of which the oldest is the first
+abbrev pub stands_by : {D : Type 0} → Bool → (D → DiskState) → EngineState D → List RunTurn → Type 0
+stands_by tells state e turns = StandsAfter tells state e (reverse turns)
+
 module _ {D : Type 0} (tells : Bool) (state : D → DiskState) (op : Operation) (said : Said) (back : List ℕ) (f f' : ℕ)
     (old mid new : EngineState D)
     (done : Performs op old f mid f' said) (run : new.run ≡ mid.run) (limits : new.limits ≡ mid.limits)
     (handed : new.handed.pieces
     ≡ filter (stays_handed (start_of mid) (past_of mid) (drop (length (reverse (past_of old))) (reverse (past_of mid)))) mid.handed.pieces)
     (back_is : back ≡ brought_bytes op) (turns : List RunTurn) (pass : ℕ) (m m' : Stamp) (faults : m.faults ≡ f)
-    (faults_after : m'.faults ≡ f') (stands : stands_for tells state old turns) where
+    (faults_after : m'.faults ≡ f') (stands : stands_by tells state old turns) where
   abbrev pub told : List RunTurn
   told = reverse turns
 
@@ -173,19 +183,26 @@ module _ {D : Type 0} (tells : Bool) (state : D → DiskState) (op : Operation) 
   abbrev KeepsAll : Type 0
   KeepsAll = IsTrue tells → KeepsPromises (start_of old) (t ∷ told) (state new.run.disk)
 
-  stands_then : KeepsAll → StandsAfter tells state new (t ∷ told)
-  stands_then keeps = record {
+  -- and what it reads is as they say
+  abbrev FitsAll : Type 0
+  FitsAll = IsTrue tells → TurnsFitDisk (start_of old) (t ∷ told) (state new.run.disk)
+
+  stands_then : KeepsAll → FitsAll → StandsAfter tells state new (t ∷ told)
+  stands_then keeps fits = record {
     now = ap (λ r. r.now.0) run ∙ now_is;
     is = standing_is ∙ ap (λ (s : RunStart). standing_after s (t ∷ told)) (sym same_start);
     disk = λ told_is.
         subst (λ (s : RunStart). KeepsPromises s (t ∷ told) (state new.run.disk)) (sym same_start) (keeps told_is);
+    reads = λ told_is.
+        subst (λ (s : RunStart). TurnsFitDisk s (t ∷ told) (state new.run.disk)) (sym same_start) (fits told_is);
   }
     where
       standing_is : standing_of new ≡ standing_after (start_of old) (t ∷ told)
       standing_is i = record { past = past_after i; handed = handed_are i; overall = overall_after i; own = own_after i }
 
-  pub serves : KeepsAll → ties_turn (start_of old) turns t × stands_for tells state new (turns ++ t ∷ [])
-  serves keeps = (may_come, subst (StandsAfter tells state new) (sym (reverse-append turns (t ∷ []))) (stands_then keeps))
+  pub serves : KeepsAll → FitsAll → ties_turn (start_of old) turns t × stands_by tells state new (turns ++ t ∷ [])
+  serves keeps fits =
+      (may_come, subst (StandsAfter tells state new) (sym (reverse-append turns (t ∷ []))) (stands_then keeps fits))
 
 -- ---- what serves an operation
 
@@ -200,7 +217,7 @@ pub record TurnTaken {D : Type 0} (tells : Bool) (state : D → DiskState) (faul
   pub start : start_of new ≡ start_of old
   pub entries : StartsWith (entries_of new) (entries_of old)
   pub mark : IsLater (stamp_of tells state faults old) (stamp_of tells state faults new)
-  pub turn : ServesTurn ties_turn (stands_for tells state) start_of entries_of (stamp_of tells state faults) old op answer new
+  pub turn : ServesTurn ties_turn (stands_by tells state) start_of entries_of (stamp_of tells state faults) old op answer new
 
 module _ {D : Type 0} (tells : Bool) (state : D → DiskState) (faults : D → ℕ) (op : Operation) (said : Said)
     (old inside mid new : EngineState D) (from : ℕ) (seen : inside ≡ old)
@@ -217,6 +234,16 @@ module _ {D : Type 0} (tells : Bool) (state : D → DiskState) (faults : D → �
   left_since told_is =
       subst (λ (r : StoredView D). LeavesTurn state op old (record new { run = r }) said) (sym run)
       (subst (λ (e : EngineState D). LeavesTurn state op e mid said) seen (did.disk told_is))
+
+  -- and what it took from it
+  read_since : IsTrue tells → TakesRead state op old new.run said
+  read_since told_is =
+      subst (λ (r : StoredView D). TakesRead state op old r said) (sym run)
+      (subst (λ (e : EngineState D). TakesRead state op e mid.run said) seen (did.reads told_is))
+
+  -- the calls of its disk
+  pub passed_since : IsTrue tells → Passes AnyChange (state old.run.disk) (state new.run.disk)
+  passed_since told_is = turn_passes state op old new said (left_since told_is)
 
   handed_since : new.handed.pieces
       ≡ filter (stays_handed (start_of mid) (past_of mid) (drop (length (reverse (past_of old))) (reverse (past_of mid)))) mid.handed.pieces
@@ -242,25 +269,41 @@ module _ {D : Type 0} (tells : Bool) (state : D → DiskState) (faults : D → �
         );
         mark = (
           times_later tells (state old.run.disk) (state new.run.disk)
-              (λ told_is. turn_later state op old new said (left_since told_is)),
+              (λ told_is. (passed_since told_is).later),
           faults_later,
         );
         turn = λ turns pass is.
+            let told = reverse turns in
+            let turn : RunTurn = turn_of pass turns op (record { said = said; back = back }) (reverse (past_of old)) m
+            (reverse (past_of new)) m' in
+            let counts = ap (λ r. faults r.disk) run in
+            let past_was = past_is tells state op said back (faults old.run.disk) (faults mid.run.disk) old mid new done run limits
+            handed_since back_is turns pass m m' refl counts is in
+            let past_then = past_after tells state op said back (faults old.run.disk) (faults mid.run.disk) old mid new done run limits
+            handed_since back_is turns pass m m' refl counts is in
+            let start_is = same_start tells state op said back (faults old.run.disk) (faults mid.run.disk) old mid new done run limits
+            handed_since back_is turns pass m m' refl counts is in
+            let may = may_come tells state op said back (faults old.run.disk) (faults mid.run.disk) old mid new done run limits
+            handed_since back_is turns pass m m' refl counts is in
+            let legal_was = subst (IsLegal (start_of old)) past_was was.legal in
+            let legal_then = subst (IsLegal (start_of old)) past_then
+            (subst (λ (s : RunStart). IsLegal s (past_of new)) start_is legal) in
             serves tells state op said back (faults old.run.disk) (faults mid.run.disk) old mid new done run limits handed_since
-            back_is turns pass m m' refl (ap (λ r. faults r.disk) run) is
+            back_is turns pass m m' refl counts is
             (λ told_is.
-            keeps_promises laws active tells told_is state faults old new (reverse turns)
-            (turn_of pass turns op (record { said = said; back = back }) (reverse (past_of old)) m (reverse (past_of new)) m')
-            (left_since told_is) was
-            (past_is tells state op said back (faults old.run.disk) (faults mid.run.disk) old mid new done run limits handed_since
-            back_is turns pass m m' refl (ap (λ r. faults r.disk) run) is)
-            (past_after tells state op said back (faults old.run.disk) (faults mid.run.disk) old mid new done run limits handed_since
-            back_is turns pass m m' refl (ap (λ r. faults r.disk) run) is)
-            (same_start tells state op said back (faults old.run.disk) (faults mid.run.disk) old mid new done run limits handed_since
-            back_is turns pass m m' refl (ap (λ r. faults r.disk) run) is) legal
-            (may_come tells state op said back (faults old.run.disk) (faults mid.run.disk) old mid new done run limits handed_since
-            back_is turns pass m m' refl (ap (λ r. faults r.disk) run) is)
-            (ap (λ (b : Bool). moment_told b (state old.run.disk)) told_is) (is.disk told_is));
+            keeps_promises laws active tells told_is state faults old new told turn (left_since told_is) was past_was past_then start_is
+            legal may (ap (λ (b : Bool). moment_told b (state old.run.disk)) told_is) (is.disk told_is))
+            (λ told_is.
+            let asked = (is.disk told_is).asked in
+            fits_more (start_of old) (state old.run.disk) (state new.run.disk) (passed_since told_is).later (passed_since told_is).seen
+            told turn (ap (λ (b : Bool). moment_told b (state old.run.disk)) told_is)
+            (ap (λ (b : Bool). moment_told b (state new.run.disk)) told_is) (is.reads told_is)
+            (fits_files state old new told turn was.wants_are past_was past_then (ap (λ (s : RunStanding). s.handed) is.is) may
+            (read_since told_is)
+            (opened_read laws active state old new told turn (left_since told_is) legal_was legal_then may was.wants_are asked past_was
+            start_is past_then)
+            (untouched_read laws active state old new told turn (left_since told_is) legal_was legal_then may was.wants_are asked past_was
+            start_is past_then)));
       }
 
   -- and the buckets have their rates still

@@ -1,15 +1,15 @@
 -- What an engine keeps of a run, and which turns it stands for.
-use Rattle.std.specs.Prelude.{◌≡◌, ℕ, Bool, true, false, IsTrue, All, List, [], reverse}
+use Rattle.std.specs.Prelude.{◌≡◌, ℕ, Bool, true, false, IsTrue, All, List, reverse}
 use Rattle.dl_disk.specs.State.{DiskState}
 use Rattle.machine_core.specs.Starts.{RunStart}
 use Rattle.machine_core.specs.declared.events.Event.{Event}
 use Rattle.turn_desk.specs.declared.turn.Stamp.{Stamp}
 use Rattle.engine_turns.specs.Standings.{RunStanding, standing_after}
 use Rattle.engine_turns.specs.Told.{RunTurn, latest_moment}
-use Rattle.option_set.specs.Values.{OptionValues}
 use Rattle.engine_core.specs.Buckets.{HasRates}
 use Rattle.engine_core.specs.Durable.{KeepsPromises}
 use Rattle.engine_core.specs.Handing.{IsOut}
+use Rattle.engine_core.specs.TurnReads.{TurnsFitDisk}
 use Rattle.engine_core.specs.declared.state.EngineState.{EngineState}
 
 -- the moment of a disk that tells what it holds
@@ -48,22 +48,13 @@ module _ {D : Type 0} where
 
 module _ {D : Type 0} (tells : Bool) (state : D → DiskState) where
   -- All that it goes by is what these turns tell, of which the newest is the first; and where the disk tells what it holds,
-  -- it keeps what they promise, whenever a crash comes.
+  -- it keeps what they promise, whenever a crash comes, and each turn was as the disk reads.
   pub record StandsAfter (e : EngineState D) (told : List RunTurn) : Type 0 where
     pub now : e.run.now.0 ≡ latest_moment told
     pub is : standing_of e ≡ standing_after (start_of e) told
     pub disk : IsTrue tells → KeepsPromises (start_of e) told (state e.run.disk)
-
-  -- .. with the oldest first, as a desk lists them
-  abbrev pub stands_for : EngineState D → List RunTurn → Type 0
-  stands_for e turns = StandsAfter e (reverse turns)
+    pub reads : IsTrue tells → TurnsFitDisk (start_of e) told (state e.run.disk)
 
   -- the moment of the disk, where it is told, and how often it failed
   abbrev pub stamp_of : (D → ℕ) → EngineState D → Stamp
   stamp_of faults e = record { time = moment_told tells (state e.run.disk); faults = faults e.run.disk }
-
-  -- no turn was taken
-  pub record IsNewEngine (disk : D) (gids : ℕ) (global : OptionValues) (doors : ℕ) (e : EngineState D) : Type 0 where
-    pub disk_is : e.run.disk ≡ disk
-    pub start : start_of e ≡ record { gids = gids; global = global; doors = doors }
-    pub stands : StandsAfter e []

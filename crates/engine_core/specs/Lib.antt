@@ -1,4 +1,6 @@
 pub mod Engines
+pub mod EngineViews
+pub mod Beginnings
 pub mod Buckets
 pub mod Beginning
 pub mod Performing
@@ -6,4 +8,6 @@ pub mod Handing
 pub mod Giving
 pub mod Askings
 pub mod Durable
+pub mod TurnReads
 pub mod Disks
+pub mod Readings

@@ -1,15 +1,17 @@
 // A run that is steered by turns.
 ghost use Rattle.std.specs.Prelude.{◌≡◌, [], IfErr, IfOk, reverse};
-ghost use Rattle.engine_core.specs.Engines.{IsNewEngine, past_of};
+ghost use Rattle.engine_core.specs.Beginnings.{IsNewEngine};
+ghost use Rattle.engine_core.specs.Engines.{past_of};
 
 use crate::state::EngineState;
 use dl_disk::Disk;
 use dl_kinds::Moment;
-use machine_core::{HandedPieces, Journal};
+use machine_core::{HandedPieces, Journal, Machine};
 use option_set::{Num, Options};
 use rate_limits::RateLimits;
 use std::alloc::Global;
 use std::marker::Model;
+use std::snapshot::Snapshot;
 use stored_run::StoredRun;
 
 /// A run that is steered by turns. Each operation that it serves is one turn: what it is answered, and the events that come,
@@ -18,15 +20,17 @@ use stored_run::StoredRun;
 pub struct Engine<D: Disk> {
     pub(crate) alloc: Global,
     pub(crate) state: EngineState<D>,
+    // The disk that it was given. What it then told is told still.
+    pub(crate) given: Snapshot<D>,
 }
 
 impl<D: Disk> Model for Engine<D> {
+    ghost use Rattle.engine_core.specs.EngineViews.{EngineView};
     ghost use Rattle.engine_core.specs.Engines.{IsEngineState};
-    ghost use Rattle.engine_core.specs.declared.state.EngineState.{EngineState};
 
-    ghost Value = { EngineState D };
+    ghost Value = { EngineView D };
 
-    ghost view = { λ e. e.state };
+    ghost view = { λ e. record { state = e.state; given = e.given.value } };
 
     ghost invariant = { λ e. IsEngineState e.state };
 }
@@ -40,6 +44,7 @@ impl<D: Disk> Engine<D> {
     {
         global.values_are_within();
         let rate = global.number(Num::MaxOverallDownloadLimit);
+        let given = Snapshot::of(&disk);
         let run = StoredRun::new(alloc, disk, gids, global, doors)?;
         let limits = RateLimits::new(alloc, rate, Moment(0));
         Ok(Engine {
@@ -49,13 +54,21 @@ impl<D: Disk> Engine<D> {
                 handed: HandedPieces::new(alloc),
                 limits,
             },
+            given,
         })
+    }
+
+    /// The run, as it is after the turns so far.
+    pub fn machine(&self) -> &Machine
+        ensures { result.now ≡ self.entry.now.state.run.machine }
+    {
+        self.state.run.machine()
     }
 
     /// The disk, and what happened.
     pub fn into_parts(self) -> (D, Journal)
-        ensures disk { result.0 ≡ self.run.disk }
-        ensures events { result.1.events.items ≡ reverse (past_of self) }
+        ensures disk { result.0 ≡ self.state.run.disk }
+        ensures events { result.1.events.items ≡ reverse (past_of self.state) }
     {
         let Engine {
             alloc: _,
@@ -64,6 +77,7 @@ impl<D: Disk> Engine<D> {
                 handed: _,
                 limits: _,
             },
+            given: _,
         } = self;
         run.into_parts()
     }

@@ -1,6 +1,6 @@
 // An engine as a desk serves it.
-ghost use Rattle.engine_core.specs.Engines.{entries_of, stamp_of, stands_for, start_of};
-ghost use Rattle.engine_turns.specs.RunTurns.{IsLawfulOperation, ties_turn};
+ghost use Rattle.engine_core.specs.Beginnings.{beginning_of, events_in, mark_of, stands_for, ties_run};
+ghost use Rattle.engine_turns.specs.RunTurns.{IsLawfulOperation};
 
 use crate::Engine;
 use dl_disk::Disk;
@@ -11,24 +11,28 @@ use std::marker::Model;
 use stored_run::runs_follow;
 use turn_desk::Served;
 
-/// What a run begins with: what the gids of its downloads are made from, the global options, and how many doors its console
-/// has. No value of it is made: it names what the turns of a run go by.
-pub struct RunBeginning {
+/// What a run begins with: what the gids of its downloads are made from, the global options, how many doors its console
+/// has, and its disk. No value of it is made: it names what the turns of a run go by.
+pub struct RunBeginning<D> {
     pub gids: u64,
     pub global: Options,
     pub doors: u16,
+    pub disk: D,
 }
 
-impl Model for RunBeginning {
-    ghost use Rattle.machine_core.specs.Starts.{RunStart};
+impl<D> Model for RunBeginning<D> {
+    ghost use Rattle.engine_core.specs.EngineViews.{EngineStart};
 
-    ghost Value = { RunStart };
+    ghost Value = { EngineStart D };
 
-    ghost view = { λ b. record { gids = b.gids; global = b.global; doors = b.doors } };
+    ghost view = { λ b. record {
+      run = record { gids = b.gids; global = b.global; doors = b.doors };
+      disk = b.disk;
+    } };
 }
 
 impl<D: Disk> Served for Engine<D> {
-    type Start = RunBeginning;
+    type Start = RunBeginning<D>;
 
     type Op = Operation;
 
@@ -38,13 +42,13 @@ impl<D: Disk> Served for Engine<D> {
 
     ghost is_lawful = { IsLawfulOperation };
 
-    ghost start = { start_of };
+    ghost start = { beginning_of };
 
-    ghost entries = { entries_of };
+    ghost entries = { events_in };
 
-    ghost mark = { stamp_of D.tells D.state D.faults };
+    ghost mark = { mark_of D.tells D.state D.faults };
 
-    ghost relates = { ties_turn };
+    ghost relates = { ties_run };
 
     ghost stands = { stands_for D.tells D.state };
 

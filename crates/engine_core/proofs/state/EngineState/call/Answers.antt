@@ -22,6 +22,7 @@ returns-in-Err g c = record {
       c.in-Err.said (omega (arith, same)) c.requires.rates (λ none. refl) refl c.in-Err.ensures.broken_off
       );
   disk = λ told. inl (begun_alike c.args.now c.args.self.now c.begin.new.self c.begin.ensures.same);
+  reads = λ told. tt;
 }
 
 pub returns-in-Err-reserve : goal.returns-in-Err-reserve
@@ -38,6 +39,7 @@ returns-in-Err-reserve g c = record {
       (subst (λ o. IsBrokenOff o NoMemory) (sym c.in_default.ensures.none) refl))
       );
   disk = λ told. inl (begun_alike c.args.now c.args.self.now c.begin.new.self c.begin.ensures.same);
+  reads = λ told. tt;
 }
 
 pub follow_options-requires : goal.follow_options-requires
@@ -82,4 +84,5 @@ returns-in-Ok g c = record {
         });
     none = λ never. absurd never;
   }));
+  reads = λ told. tt;
 }

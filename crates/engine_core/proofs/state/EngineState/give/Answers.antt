@@ -16,6 +16,7 @@ returns-in-Whole g c = record {
       (faults c.give_whole.new.self.run.disk) c.give_whole.result) (sym c.in-Whole.is) c.give_whole.ensures.makes
       );
   disk = λ told. c.give_whole.ensures.disk told;
+  reads = λ told. c.give_whole.ensures.reads told;
 }
 
 pub give_blocks-requires : goal.give_blocks-requires
@@ -31,6 +32,7 @@ returns-in-Blocks g c = record {
       (faults c.give_blocks.new.self.run.disk) c.give_blocks.result) (sym c.in-Blocks.is) c.give_blocks.ensures.makes
       );
   disk = λ told. c.give_blocks.ensures.disk told;
+  reads = λ told. c.give_blocks.ensures.reads told;
 }
 
 pub give_probe-requires : goal.give_probe-requires
@@ -46,4 +48,5 @@ returns-in-Probe g c = record {
       (faults c.give_probe.new.self.run.disk) c.give_probe.result) (sym c.in-Probe.is) c.give_probe.ensures.makes
       );
   disk = λ told. c.give_probe.ensures.disk told;
+  reads = λ told. c.give_probe.ensures.reads told;
 }

@@ -35,6 +35,7 @@ returns-in_default g c = record {
       is.machine.past_is refl refl refl (λ from below. inl (refl, refl))
       );
   disk = λ told. inr (record { mid = c.args.self.now.run; alike = alike_same c.args.self.now.run; leaves = c.claim_blocks.ensures.leaves told });
+  reads = λ told. tt;
 }
 
 pub let_go-allow-requires-clause-place : goal.let_go-allow-requires-clause-place
@@ -79,4 +80,5 @@ returns g c = record {
       );
   disk = λ told. inr (subst (Leaves g.D.Disk.state c.args.self.now.run) (sym c.let_go-allow.ensures.run)
       (record { mid = c.args.self.now.run; alike = alike_same c.args.self.now.run; leaves = c.claim_blocks.ensures.leaves told }));
+  reads = λ told. tt;
 }

@@ -8,6 +8,7 @@ use Rattle.stored_run.specs.Granting.{MayBeGiven}
 use Rattle.engine_core.specs.Giving.{UnopenedRow}
 use Rattle.engine_core.proofs.Granted.{gives_nothing, gives_offer, may_give}
 use Rattle.engine_core.proofs.Alike.{alike_same, roomier_alike, run_after}
+use Rattle.engine_core.proofs.ReadOn.{gives_before}
 use Rattle.engine_core.proofs.state.EngineState.give_offer.Goals as goal
 
 pub returns-in_default : goal.returns-in_default
@@ -20,6 +21,7 @@ returns-in_default g c = record {
       (omega arith) c.requires.rates refl refl refl c.reserve.ensures.pieces refl refl (λ from below. inl (refl, refl))
       );
   disk = λ told. inl (alike_same c.args.self.now.run);
+  reads = λ told. tt;
 }
 
 pub returns-in-Err : goal.returns-in-Err
@@ -35,6 +37,7 @@ returns-in-Err g c = record {
       is.machine.past_is c.reserve.ensures.pieces refl refl (λ from below. inl (refl, refl))
       );
   disk = λ told. inl (roomier_alike c.args.self.now.run c.offer.new.self c.offer.ensures.same);
+  reads = λ told. tt;
 }
 
 pub returns-in-Ok-Held : goal.returns-in-Ok-Held
@@ -58,6 +61,7 @@ returns-in-Ok-Held g c = record {
       ))))
       );
   disk = λ told. inl (roomier_alike c.args.self.now.run c.offer.new.self c.offer.ensures.same);
+  reads = λ told. tt;
 }
 
 pub returns-in-Ok-Idle : goal.returns-in-Ok-Idle
@@ -80,6 +84,7 @@ returns-in-Ok-Idle g c = record {
       ))))
       );
   disk = λ told. inl (roomier_alike c.args.self.now.run c.offer.new.self c.offer.ensures.same);
+  reads = λ told. tt;
 }
 
 pub give-requires : goal.give-requires
@@ -109,4 +114,6 @@ returns-in-Ok-Next g c = record {
       );
   disk = λ told. run_after g.D.Disk.state c.args.self.now.run c.offer.new.self c.give.new.self.run
       (roomier_alike c.args.self.now.run c.offer.new.self c.offer.ensures.same) (c.give.ensures.disk told);
+  reads = λ told. gives_before g.D.Disk.state c.args.self.now.run c.offer.new.self
+      (roomier_alike c.args.self.now.run c.offer.new.self c.offer.ensures.same) c.give.result (c.give.ensures.reads told);
 }

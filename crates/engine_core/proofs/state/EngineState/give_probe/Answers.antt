@@ -19,6 +19,7 @@ returns-in-Ok g c = record {
       c.requires.added a.mirror c.in-Ok.claim c.in-Ok.url given.event given.url refl refl
       );
   disk = λ told. inr (record { mid = c.args.self.now.run; alike = alike_same c.args.self.now.run; leaves = c.claim_probe.ensures.leaves told });
+  reads = λ told. tt;
 }
 
 pub returns-in-Err : goal.returns-in-Err
@@ -34,4 +35,5 @@ returns-in-Err g c = record {
       is.machine.past_is refl refl refl (λ from below. inl (refl, refl))
       );
   disk = λ told. inr (record { mid = c.args.self.now.run; alike = alike_same c.args.self.now.run; leaves = c.claim_probe.ensures.leaves told });
+  reads = λ told. tt;
 }

@@ -20,4 +20,5 @@ returns g c = record {
     leaves = record { mid = c.args.self.now.run; alike = alike_same c.args.self.now.run; leaves = c.leave.ensures.leaves told };
     none = λ never. absurd never;
   }));
+  reads = λ told. tt;
 }

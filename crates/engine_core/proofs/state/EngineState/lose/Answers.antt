@@ -23,6 +23,7 @@ returns-in-Ok g c = record {
     leaves = record { mid = c.begin.new.self.run; alike = begun_alike c.args.now c.args.self.now c.begin.new.self c.begin.ensures.same; leaves = c.lose.ensures.leaves told };
     none = λ never. absurd never;
   }));
+  reads = λ told. tt;
 }
 
 pub returns-in-Err : goal.returns-in-Err
@@ -35,4 +36,5 @@ returns-in-Err g c = record {
       c.in-Err.said (omega (arith, same)) c.requires (λ none. refl) refl c.in-Err.ensures.broken_off
       );
   disk = λ told. inl (begun_alike c.args.now c.args.self.now c.begin.new.self c.begin.ensures.same);
+  reads = λ told. tt;
 }

@@ -34,6 +34,7 @@ returns-in-Some g c = record {
       (subst (λ o. IsBrokenOff o c.in-Some.said) is refl)
       );
   disk = λ told. inl (come_alike c.args.now c.args.self.now.run c.come_to.new.self c.come_to.ensures);
+  reads = λ told. tt;
 }
 
 pub returns-in_default-place_of_claim : goal.returns-in_default-place_of_claim
@@ -52,6 +53,7 @@ returns-in_default-place_of_claim g c = record {
       refl refl refl (λ at s events row. row) (λ at s events row. (more_calm at s a.claim a.want events Void row, refl))
       );
   disk = λ told. inl (come_alike c.args.now c.args.self.now.run c.come_to.new.self c.come_to.ensures);
+  reads = λ told. tt;
 }
 
 pub returns-then-want-eq0 : goal.returns-then-want-eq0
@@ -71,6 +73,7 @@ returns-then-want-eq0 g c = record {
       refl refl refl (λ at s events row. row) (λ at s events row. (more_calm at s a.claim a.want events Void row, refl))
       );
   disk = λ told. inl (come_alike c.args.now c.args.self.now.run c.come_to.new.self c.come_to.ensures);
+  reads = λ told. tt;
 }
 
 pub take-requires-clause-place : goal.take-requires-clause-place
@@ -104,6 +107,7 @@ returns-in-Go g c = record {
       levels) (λ at s events row. inr row) (λ at s events row. more_calm at s a.claim a.want events (Allow bytes) row)
       );
   disk = λ told. inl (come_alike c.args.now c.args.self.now.run c.come_to.new.self c.come_to.ensures);
+  reads = λ told. tt;
 }
 
 pub returns-in-Hold : goal.returns-in-Hold
@@ -129,4 +133,5 @@ returns-in-Hold g c = record {
       c.in-Hold.ensures.levels) (λ at s events row. inr row) (λ at s events row. more_calm at s a.claim a.want events (said.Hold ms) row)
       );
   disk = λ told. inl (come_alike c.args.now c.args.self.now.run c.come_to.new.self c.come_to.ensures);
+  reads = λ told. tt;
 }

@@ -3,9 +3,13 @@ use Rattle.machine_core.specs.Claiming.{next_to_open}
 use Rattle.machine_core.specs.MachineViews.{MachineView}
 use Rattle.engine_turns.specs.declared.operations.Operation.TheVariants as operation
 use Rattle.engine_core.proofs.Given.{gives_performed}
-use Rattle.engine_core.proofs.Nexts.{FirstRow, RestRow, first_answers, first_calm, first_given, next_at, rates_begun, rest_answers, rest_calm, rest_given}
+use Rattle.engine_core.proofs.Nexts.{FirstRow, RestRow, calm_opens, first_answers, first_calm, first_given, next_at, rates_begun, rest_answers, rest_calm, rest_given}
 use Rattle.engine_core.proofs.Performed.{broken_off}
 use Rattle.engine_core.proofs.Alike.{begun_alike, next_was, run_unopened}
+use Rattle.stored_run.specs.Steps.{turn_from}
+use Rattle.engine_core.specs.Engines.{past_of, standing_of, start_of}
+use Rattle.engine_core.proofs.Letting.{front_lets_none}
+use Rattle.engine_core.proofs.ReadOn.{gives_before, gives_none}
 use Rattle.engine_core.proofs.state.EngineState.next.Goals as goal
 
 pub returns-in-Err : goal.returns-in-Err
@@ -18,6 +22,8 @@ returns-in-Err g c = record {
       c.in-Err.said (omega (arith, same)) c.requires (λ none. refl) refl c.in-Err.ensures.broken_off
       );
   disk = λ told. inl (begun_alike c.args.now c.args.self.now c.begin.new.self c.begin.ensures.same);
+  reads = λ told. gives_none c.args.self.now.run c.in-Err.said (g.D.Disk.state c.args.self.now.run.disk).seen
+      (front_lets_none true true (start_of c.args.self.now) (past_of c.args.self.now) c.in-Err.said c.in-Err.ensures.broken_off);
 }
 
 pub open_next-requires-clause-next : goal.open_next-requires-clause-next
@@ -54,6 +60,13 @@ returns-in-Some g c = record {
         (sym (ap (λ (m : MachineView). next_to_open m.start m.past) c.machine.ensures) ∙ (sym c.next_to_open.ensures ∙ c.in-Some.is));
     opens = c.open_next.ensures.leaves told;
   }));
+  reads = λ told.
+      let old = c.args.self.now in
+      let mid = c.begin.new.self in
+      let row = c.open_next.ensures.row in
+      gives_none old.run c.open_next.result (g.D.Disk.state old.run.disk).seen
+      (calm_opens c.in-Some.gid (turn_from mid.run (g.D.Disk.faults mid.run.disk)) (standing_of mid) row.events c.open_next.result
+      (row.is (g.D.Disk.faults mid.run.disk) (standing_of mid) (omega arith) refl)).1;
 }
 
 pub give_offer-requires-clause-rates : goal.give_offer-requires-clause-rates
@@ -85,4 +98,7 @@ returns-in-None g c = record {
       (λ asked. next_was c.args.now c.args.self.now c.begin.new.self c.begin.ensures.same None
       (sym (ap (λ (m : MachineView). next_to_open m.start m.past) c.machine.ensures) ∙ (sym c.next_to_open.ensures ∙ c.in-None.is)))
       (c.give_offer.ensures.disk told);
+  reads = λ told. gives_before g.D.Disk.state c.args.self.now.run c.begin.new.self.run
+      (begun_alike c.args.now c.args.self.now c.begin.new.self c.begin.ensures.same) c.give_offer.result
+      (c.give_offer.ensures.reads told);
 }

@@ -20,6 +20,7 @@ returns-in-Some g c = record {
       (subst (λ o. IsBrokenOff o c.in-Some.said) is refl)
       );
   disk = λ told. inl (alike_same c.args.self.now.run);
+  reads = λ told. tt;
 }
 
 pub returns-in-None : goal.returns-in-None
@@ -33,4 +34,5 @@ returns-in-None g c = record {
       (λ at s events row. row) (λ at s events row. calm_only Idle refl events Idle row)
       );
   disk = λ told. inl (alike_same c.args.self.now.run);
+  reads = λ told. tt;
 }

@@ -16,6 +16,7 @@ use Rattle.engine_core.proofs.Letting.{front_lets_none}
 use Rattle.engine_core.proofs.Performed.{nothing_came, out_same, row_came}
 use Rattle.engine_core.proofs.Sealed.{but_none, but_untaken, calm_sealed, front_takes_none, is_out, out_going, out_settled, sealed_after, sealed_row}
 use Rattle.engine_core.proofs.Alike.{begun_alike}
+use Rattle.engine_core.proofs.ReadOn.{seals_nothing, takes_seal}
 use Rattle.engine_core.proofs.state.EngineState.seal.Goals as goal
 
 pub returns-in-Err : goal.returns-in-Err
@@ -34,6 +35,15 @@ returns-in-Err g c = record {
       (but_untaken a.gid a.sealed.now.piece _ pieces (front_takes_none false true (start_of old) (past_of old) said broken)))
       );
   disk = λ told. inl (begun_alike c.args.now c.args.self.now c.begin.new.self c.begin.ensures.same);
+  reads = λ told. seals_nothing g.D.Disk.state c.args.self.now.run c.begin.new.self.run
+      (begun_alike c.args.now c.args.self.now c.begin.new.self c.begin.ensures.same) c.args.gid c.args.sealed.now
+      c.args.self.now.handed.pieces c.in-Err.said (g.D.Disk.state c.args.self.now.run.disk).seen
+      (λ out is.
+      let untaken = front_takes_none false true (start_of c.args.self.now) (past_of c.args.self.now) c.in-Err.said
+      c.in-Err.ensures.broken_off in
+      let yes : true ≡ false = sym (ap is_taken is) ∙ untaken in absurd cc)
+      (λ there. (is_out (start_of c.args.self.now) (past_of c.args.self.now) c.args.gid c.args.sealed.now.piece
+      c.args.self.now.handed.pieces there c.requires.out).unsettled.awaits.within);
 }
 
 pub returns-then-not-is_out : goal.returns-then-not-is_out
@@ -57,6 +67,19 @@ returns-then-not-is_out g c = record {
       (out_same old mid handed)
       );
   disk = λ told. inl (begun_alike c.args.now c.args.self.now c.begin.new.self c.begin.ensures.same);
+  reads = λ told.
+      let a = c.args in
+      let mid = c.begin.new.self in
+      let handed = ap (λ h. h.pieces) c.begin.ensures.same.handed in
+      seals_nothing g.D.Disk.state a.self.now.run mid.run (begun_alike a.now a.self.now mid c.begin.ensures.same) a.gid
+      a.sealed.now a.self.now.handed.pieces Void (g.D.Disk.state a.self.now.run.disk).seen
+      (λ out is.
+      let none : is_handed_out a.self.now.handed.pieces a.gid a.sealed.now.piece ≡ false =
+      ap (λ hs. is_handed_out hs a.gid a.sealed.now.piece) (sym handed)
+      ∙ (ap (λ p. is_handed_out mid.handed.pieces a.gid p) (sym c.piece.ensures) ∙ (sym c.is_out.ensures ∙ c.if-not-is_out.true)) in
+      let yes : true ≡ false = sym out ∙ none in absurd cc)
+      (λ there. (is_out (start_of c.args.self.now) (past_of c.args.self.now) c.args.gid c.args.sealed.now.piece
+      c.args.self.now.handed.pieces there c.requires.out).unsettled.awaits.within);
 }
 
 pub seal-said-requires-clause-going : goal.seal-said-requires-clause-going
@@ -136,4 +159,18 @@ returns g c = record {
     leaves = record { mid = c.begin.new.self.run; alike = begun_alike c.args.now c.args.self.now c.begin.new.self c.begin.ensures.same; leaves = c.seal-said.ensures.leaves told };
     none = λ never. absurd never;
   }));
+  reads = λ told.
+      let a = c.args in
+      let old = a.self.now in
+      let mid = c.begin.new.self in
+      let handed = ap (λ h. h.pieces) c.begin.ensures.same.handed in
+      let there : is_handed_out old.handed.pieces a.gid a.sealed.now.piece ≡ true =
+      ap (λ hs. is_handed_out hs a.gid a.sealed.now.piece) (sym handed)
+      ∙ (ap (λ p. is_handed_out mid.handed.pieces a.gid p) (sym c.piece.ensures) ∙ (sym c.is_out.ensures ∙ c.if-not-is_out.false)) in
+      let out = is_out (start_of old) (past_of old) a.gid a.sealed.now.piece old.handed.pieces there c.requires.out in
+      takes_seal g.D.Disk.state old.run mid.run (begun_alike a.now old mid c.begin.ensures.same) a.gid a.sealed.now
+      old.handed.pieces c.seal-said.new.self c.seal-said.result out.unsettled.opened (c.seal-said.ensures.settled told)
+      (c.seal-said.ensures.void told)
+      (λ there. (is_out (start_of c.args.self.now) (past_of c.args.self.now) c.args.gid c.args.sealed.now.piece
+      c.args.self.now.handed.pieces there c.requires.out).unsettled.awaits.within);
 }

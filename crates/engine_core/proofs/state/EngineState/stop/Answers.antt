@@ -27,4 +27,5 @@ returns g c = record {
     };
     none = λ never. absurd never;
   }));
+  reads = λ told. tt;
 }
