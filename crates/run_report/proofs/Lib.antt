@@ -1,0 +1,4 @@
+pub mod Failing
+pub mod LineFacts
+pub mod OneSummary
+pub mod Taking
