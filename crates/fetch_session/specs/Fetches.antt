@@ -35,6 +35,10 @@ ready_of fetch = fetch.ready
 abbrev pub lost_of : Fetch → Option Loss
 lost_of fetch = fetch.lost
 
+-- behind these ready blocks the loss may be held back
+abbrev pub IsHeldBack : Run → Loss → Type 0
+IsHeldBack ready loss = (0 < ready.count) × (loss ≢ NoMemory)
+
 -- where a fetch with this room would go on over the connection of the one before, the link is still open there
 abbrev pub MayBegin : FetchRoom → LinkState → Type 0
 MayBegin room link = RestsOn room.chain link

@@ -1,5 +1,5 @@
 // A fetch of a run of blocks.
-ghost use Rattle.std.specs.Prelude.{◌≡◌, ◌↔◌, ◌<◌, ◌≤◌, ℕ, ◌+◌, ◌++◌, ◌∷◌, [], List, length, vec_len, vec_capacity, Some, None, Err, true, false, min, IsTrue, IsFalse, IsSome, IfSome, IfOk, IfErr, OnErr, MatchResult};
+ghost use Rattle.std.specs.Prelude.{◌≡◌, ◌↔◌, ◌<◌, ◌≤◌, ℕ, ◌+◌, ◌++◌, ◌∷◌, [], List, length, vec_len, vec_capacity, Some, None, Err, true, false, min, IsTrue, IsFalse, IsSome, IfSome, IfOk, IfErr, OnOk, OnErr, MatchResult};
 ghost use Rattle.std.specs.Option.{ForSome, ForNone};
 ghost use Rattle.dl_kinds.specs.Plan.{blocks_of};
 ghost use Rattle.reply_reader.specs.Losses.{IsKnown};
@@ -60,7 +60,7 @@ impl Fetch {
     ghost use Rattle.span_map.specs.declared.jobs.JobPart.{JobPart};
     ghost use Rattle.fetch_session.specs.Blocks.{cut};
     ghost use Rattle.span_map.specs.Jobs.{IsJob, run_end, run_start};
-    ghost use Rattle.fetch_session.specs.Fetches.{fetch_plan, rest_of, ready_of, lost_of, IsFetch, AsksNext, IsKeptBehindWhole, IsLetGo, KeepsBehindWhole, MayBegin, MayStep, SameButSpare, FetchSteps, Fails};
+    ghost use Rattle.fetch_session.specs.Fetches.{fetch_plan, rest_of, ready_of, lost_of, IsFetch, AsksNext, IsHeldBack, IsKeptBehindWhole, IsLetGo, KeepsBehindWhole, MayBegin, MayStep, SameButSpare, FetchSteps, Fails};
 
     /// Begins the fetch of a run, with the parts of resources that are its bytes.
     pub fn begin(job: Job, room: FetchRoom) -> Fetch
@@ -165,6 +165,9 @@ impl Fetch {
         ensures held { IfSome (lost_of self.old) (λ loss. result ≡ Err loss) }
         ensures untouched { IsSome (lost_of self.old) → link.new ≡ link.old }
         ensures lost { IfErr result (λ loss. lost_of self.new ≡ Some loss) }
+        // A loss is held back only behind ready blocks, and want of memory never is.
+        ensures held_back { OnOk result
+            (IfSome (lost_of self.new) (IsHeldBack (ready_of self.new))) }
         ensures known { IfErr result IsKnown }
         // A request for a URL that is no `http` URL is refused without a call of the link.
         ensures refused { (url : List ℕ) → AsksNext self.old url → (IsUsable url → ⊥)
@@ -253,6 +256,8 @@ impl Fetch {
         ensures done { IfOk result (λ got. IsTrue got.done
             ↔ (got.ready.count ≡ (rest_of self.new).count)) }
         ensures lost { IfErr result (λ loss. lost_of self.new ≡ Some loss) }
+        ensures held_back { OnOk result
+            (IfSome (lost_of self.new) (IsHeldBack (ready_of self.new))) }
         ensures known { IfErr result IsKnown }
         ensures refused { (url : List ℕ) → AsksNext self.old url → (IsUsable url → ⊥)
             → link.new ≡ link.old }
