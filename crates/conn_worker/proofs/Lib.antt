@@ -1,0 +1,9 @@
+pub mod Steps
+pub mod Followed
+pub mod InHands
+pub mod Asking
+pub mod Turns
+pub mod Sounds
+pub mod Allowing
+pub mod Bringing
+pub mod TakingTurns

@@ -1,0 +1,5 @@
+use Rattle.conn_worker.proofs.Bringing.{brings_what_came}
+use Rattle.conn_worker.proofs.laws.turns_bring_what_came.Goals as goal
+
+pub returns : goal.returns
+returns c = brings_what_came

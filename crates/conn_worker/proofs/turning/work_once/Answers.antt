@@ -1,0 +1,65 @@
+use Rattle.std.proofs.Common.{◌≡◌, ℕ, Option, Some, refl, sym, ap, subst, ◌∙◌}
+use Rattle.std.specs.Option.{option_or}
+use Rattle.engine_turns.specs.declared.operations.Answer.{Answer}
+use Rattle.engine_turns.specs.declared.operations.Said.{Said}
+use Rattle.conn_worker.specs.Ends.{moment_behind, pause_of}
+use Rattle.conn_worker.specs.Hands.{link_at}
+use Rattle.conn_worker.specs.Works.{PausesBy}
+use Rattle.conn_worker.specs.declared.ends.WorkEnd.{WorkEnd}
+use Rattle.conn_worker.specs.declared.state.WorkState.{WorkState}
+use Rattle.conn_worker.proofs.TakingTurns.{Parts, once}
+use Rattle.conn_worker.proofs.turning.work_once.Goals as goal
+
+pub returns-clause-went : goal.returns-clause-went
+returns-clause-went g c =
+    let links = g.L.Links in
+    let clocks = g.K.Clock in
+    let took = c.turn-said.ensures.took in
+    let said = c.turn-said.result.said in
+    let said_is : took.turn.answer.said ≡ said = ap (λ (a : Answer). a.said) took.answer_is in
+    let old = c.args.state.now in
+    let new : WorkState = record {
+      alloc = old.alloc;
+      worker = old.worker;
+      moment = c.pause-state.result;
+      hand = Some c.follow-next.result;
+    } in
+    let told = c.now-told.result.0 in
+    let now = c.turn_moment-now.result in
+    let parts : Parts old.worker told took.turn old new c.due-op.result.0 said now c.unwrap-hand.result
+    c.follow-next.result c.due-op.result.1 c.with_buffer.result c.end.result = record {
+      held = sym c.take.ensures.value ∙ c.unwrap-hand.ensures;
+      told_is = c.now-told.ensures.within;
+      now_is = c.turn_moment-now.ensures;
+      due = c.due-op.ensures.made;
+      stays = c.with_buffer.ensures;
+      op_is = took.op_is;
+      said_is = said_is;
+      moment = c.pause-state.ensures.moment ∙ ap (λ (p : Option ℕ). moment_behind now.0 p) c.pause_of.ensures;
+      hand = refl {a = new.hand};
+      ends = c.end.ensures;
+    } in
+    let from = c.now-told.new.self in
+    let to = c.pause-state.new.clock in
+    record {
+      turn = took.turn;
+      went = c.turns_add_up.ensures.one (g.T.Desk.sight c.args.desk.now) (g.T.Desk.sight c.turn-said.new.self)
+          c.due-op.result.0 c.turn-said.result took;
+      told = told;
+      asked = (
+        from,
+        c.now-told.ensures.reads,
+        subst (λ (s : Said). PausesBy clocks from (pause_of s) to) (sym said_is)
+            (subst (λ (p : Option ℕ). PausesBy clocks from p to) c.pause_of.ensures c.pause-state.ensures.clock),
+      );
+      worker = refl {a = old.worker};
+      does = λ a st.
+          let r = once links.tells old.worker told took.turn old new c.due-op.result.0 said now c.unwrap-hand.result
+          c.follow-next.result c.due-op.result.1 c.with_buffer.result c.end.result (link_at links c.args.link.now)
+          (link_at links c.follow-next.new.link) a parts c.follow-next.ensures st in (
+            r.0,
+            r.1,
+            r.2,
+            c.or-end.ensures ∙ (ap (λ (e : Option WorkEnd). option_or e c.end.result) c.end_of-end.ensures ∙ r.3),
+          );
+    }

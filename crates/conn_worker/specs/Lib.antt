@@ -1,0 +1,9 @@
+pub mod Hands
+pub mod Ends
+pub mod Facts
+pub mod Table
+pub mod Holding
+pub mod Works
+pub mod Sound
+pub mod Allowed
+pub mod Brought

@@ -1,0 +1,21 @@
+// Laws. They do nothing when they run.
+ghost use Rattle.conn_worker.specs.Allowed.{LinksReceiveWhatIsAllowed};
+ghost use Rattle.conn_worker.specs.Brought.{TurnsBringWhatCame};
+ghost use Rattle.conn_worker.specs.Sound.{AnswersAreSound};
+
+/// Blocks that a run grants are blocks of a plan, and an allowance is of a byte at least.
+pub fn answers_are_sound()
+    ensures { AnswersAreSound }
+{}
+
+/// The link of a worker is used for the claims that were granted to it, one after another, and for nothing else. For a claim
+/// of blocks it receives no more bytes, heads and all, than the grant and the answers to `More` allowed.
+pub fn links_receive_what_is_allowed()
+    ensures { LinksReceiveWhatIsAllowed }
+{}
+
+/// A worker asks for work under its own number, and each other turn is of what was granted to it last: the blocks, the loss, the
+/// length or the digest that it brings are what came over its link since then, and more bytes are asked for of these blocks alone.
+pub fn turns_bring_what_came()
+    ensures { TurnsBringWhatCame }
+{}

@@ -1,0 +1,19 @@
+//! A worker: it takes turns of a run at a desk, and does over one link what their answers ask.
+#![tactic(auto)]
+
+mod due;
+mod ends;
+mod fetching;
+mod following;
+mod hands;
+mod laws;
+mod probing;
+mod state;
+mod turning;
+mod working;
+
+pub use ends::{IDLE_PAUSE, Spent, WorkEnd};
+pub use laws::{answers_are_sound, links_receive_what_is_allowed, turns_bring_what_came};
+pub use state::WorkState;
+pub use turning::work_once;
+pub use working::{MAX_TURNS, work};
