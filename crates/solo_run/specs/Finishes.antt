@@ -1,0 +1,66 @@
+-- How a run over one link ends, and all that it did.
+use Rattle.std.specs.Prelude.{◌≡◌, ◌⊎◌, ◌||◌, ℕ, Bool, true, false, List, [], reverse}
+use Rattle.dl_disk.specs.declared.disk.Disk.{Ghosts as DiskSays}
+use Rattle.dl_kinds.specs.declared.outside.Sink.{Ghosts as SinkSays}
+use Rattle.engine_core.specs.EngineViews.{EngineView}
+use Rattle.engine_core.specs.Engines.{past_of, start_of}
+use Rattle.link_source.specs.declared.Links.{Ghosts as LinkSays}
+use Rattle.machine_core.specs.RunLegal.{IsLegal}
+use Rattle.run_report.specs.Writing.{IsReported, PrintsError, PrintsSummary}
+use Rattle.run_report.specs.declared.endings.RunEnding.{RunEnding}
+use Rattle.run_report.specs.declared.endings.RunEnding.TheVariants.{NoMemory}
+use Rattle.solo_run.specs.Begins.{EndsUnbegun, HasBegun, IsRead}
+use Rattle.solo_run.specs.Runs.{WorksThrough}
+use Rattle.solo_run.specs.declared.begin.Begun.{Begun}
+use Rattle.solo_run.specs.declared.finish.Ended.{Ended}
+
+module _ {O : Type 0} (sinks : SinkSays O) where
+  -- without memory nothing is printed
+  abbrev pub PrintsRefusal : RunEnding → O → O → RunEnding → Type 0
+  PrintsRefusal NoMemory out out' ending = (ending ≡ NoMemory) × (out' ≡ out)
+  PrintsRefusal refusal out out' ending =
+      ((ending ≡ refusal) ⊎ (ending ≡ NoMemory)) × PrintsError sinks refusal out out' ending
+
+  -- the summary tells how the run ended
+  pub record Reports {D : Type 0} (v : EngineView D) (out out' : O) (ending : RunEnding) : Type 0 where
+    pub ends : IsReported sinks (start_of v.state) (past_of v.state) out out' ending
+    pub prints : PrintsSummary sinks (start_of v.state) (past_of v.state) out out' ending
+
+  abbrev pub EndsBy : {D : Type 0} → Bool → EngineView D → O → O → RunEnding → Type 0
+  EndsBy {D} true v out out' ending = (ending ≡ NoMemory) × (out' ≡ out)
+  EndsBy {D} false v out out' ending = Reports v out out' ending
+
+  -- the journal is the engine's legal history, and the disk is its own
+  pub record Finishes {D : Type 0} (v : EngineView D) (short : Bool) (out : O) (ended : Ended D) (out' : O) : Type 0 where
+    pub disk : ended.disk ≡ v.state.run.disk
+    pub journal : ended.journal.events.items ≡ reverse (past_of v.state)
+    pub legal : IsLegal (start_of v.state) (past_of v.state)
+    pub ends : EndsBy short v out out' ended.ending
+
+module _ {D L O : Type 0} (says : DiskSays D) (links : LinkSays L) (sinks : SinkSays O) where
+  -- the run ended before it began: of the outside nothing changed
+  pub record NeverBegan (words : List (List ℕ)) (disk : D) (link : L) (out : O) (ended : Ended D) (link' : L) (out' : O)
+      : Type 0 where
+    pub refusal : RunEnding
+    pub is_read : IsRead says disk ended.disk
+    pub ends : EndsUnbegun says words disk ended.disk refusal
+    pub prints : PrintsRefusal sinks refusal out out' ended.ending
+    pub link_is : link' ≡ link
+    pub journal : ended.journal.events.items ≡ []
+
+  -- from the command line's own call on it worked over the link, was stopped and ended
+  pub record GoesThrough (begun : Begun D) (link : L) (out : O) (ended : Ended D) (link' : L) (out' : O) : Type 0 where
+    pub engine : EngineView D
+    pub work_short : Bool
+    pub works : WorksThrough says links begun.desk link engine link' work_short
+    pub finishes : Finishes sinks engine (begun.is_short || work_short) out ended out'
+
+  pub record Ran (words : List (List ℕ)) (gids : ℕ) (disk : D) (link : L) (out : O) (ended : Ended D) (link' : L) (out' : O)
+      : Type 0 where
+    pub begun : Begun D
+    pub begins : HasBegun says words gids disk begun
+    pub goes : GoesThrough begun link out ended link' out'
+
+  abbrev pub RunsOver : List (List ℕ) → ℕ → D → L → O → Ended D → L → O → Type 0
+  RunsOver words gids disk link out ended link' out' =
+      NeverBegan words disk link out ended link' out' ⊎ Ran words gids disk link out ended link' out'
