@@ -32,9 +32,9 @@ use Rattle.machine_core.specs.declared.ends.End.TheVariants as end
 use Rattle.machine_core.specs.declared.events.Event.{Event}
 use Rattle.machine_core.specs.declared.events.Event.TheVariants.{Ended, Landed}
 use Rattle.resume_core.specs.Openings.{KeepsBesides}
-use Rattle.resume_core.specs.Runs.{HoldsRun, IsBlockOf, TornRun, run_len}
+use Rattle.resume_core.specs.Runs.{IsBlockOf, TornRun, run_len}
 use Rattle.resume_core.specs.Sharing.{share_names}
-use Rattle.stored_run.specs.Landings.{HoldsRunOf, IsOneUnder}
+use Rattle.stored_run.specs.Landings.{IsOneUnder}
 use Rattle.stored_run.specs.RunFollows.{RunFollows}
 use Rattle.stored_run.specs.Steps.{StoresGid, StoresOn}
 use Rattle.stored_run.specs.Stored.{AreFaultsWithin, IsStored, IsStoredWith, saved_listing}
@@ -297,11 +297,3 @@ stores_view state r v new gid w later same kept own stores =
     let here = some_same w want (sym kept ∙ is) in
     subst (λ (x : Want). StoresOn x (own_in r gid) (own_in new gid) (state r.disk) (state new.disk)) here
     (subst (λ (os : List OwnEvent). StoresOn w (own_in r gid) os (state r.disk) (state new.disk)) (sym own) stores))
-
-pub holds_view : {D : Type 0} (state : D → DiskState) (r v : StoredView D) (after : DiskState) (gid : Gid) (run : Run)
-    (bytes : List ℕ) (read w : Want) → r ≡ v → kept_want_of r gid ≡ Some w → read ≡ w
-    → HoldsRun read run bytes (state r.disk).seen after.seen → HoldsRunOf gid run bytes v (state v.disk) after
-holds_view state r v after gid run bytes read w same kept here holds =
-    subst (λ (u : StoredView _). HoldsRunOf gid run bytes u (state u.disk) after) same
-    (λ want is. subst (λ (x : Want). HoldsRun x run bytes (state r.disk).seen after.seen)
-    (here ∙ some_same w want (sym kept ∙ is)) holds)

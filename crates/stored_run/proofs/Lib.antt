@@ -31,6 +31,8 @@ pub mod Landings
 pub mod FilledPieces
 pub mod LandedCounts
 pub mod PartBytes
+pub mod LandedBytes
+pub mod KeptBytes
 pub mod Delivered
 pub mod DueSaves
 pub mod OwnGids
@@ -52,3 +54,7 @@ pub mod Between
 pub mod SealedPieces
 pub mod Tried
 pub mod OpenDisk
+pub mod Came
+pub mod RefusedEnds
+pub mod Unchecked
+pub mod Truly

@@ -43,7 +43,7 @@ AllowsOnly E P = (past events : List Event) (o : Outcome) → P past events o �
 -- ---- parts of any events
 
 module _ (E : Event → Type 0) where
-  append_in : (xs ys : List Event) → Each E xs → Each E ys → Each E (xs ++ ys)
+  pub append_in : (xs ys : List Event) → Each E xs → Each E ys → Each E (xs ++ ys)
   append_in [] ys all more = more
   append_in (x ∷ xs) ys (here, all) more = (here, append_in xs ys all more)
 

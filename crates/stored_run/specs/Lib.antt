@@ -6,8 +6,11 @@ pub mod Telling
 pub mod Landings
 pub mod Leavings
 pub mod Settlings
+pub mod Writings
 pub mod Deliveries
 pub mod Saves
 pub mod Beginnings
 pub mod Opening
 pub mod Granting
+pub mod Refused
+pub mod Checks

@@ -7,6 +7,7 @@ ghost use Rattle.machine_core.specs.declared.events.Event.TheVariants.{Called};
 ghost use Rattle.stored_run.specs.Leavings.{LeavesDisk};
 ghost use Rattle.stored_run.specs.Saves.{TellsOnly, UnlessStarved};
 ghost use Rattle.stored_run.specs.Steps.{Continues, DoesRow, RunStays};
+ghost use Rattle.stored_run.specs.Writings.{KeepsPayloads};
 
 use crate::StoredRun;
 use crate::following::runs_follow;
@@ -53,6 +54,8 @@ impl<D: Disk> StoredRun<D> {
             (D.faults self.old.disk) self.new (D.faults self.new.disk) result }
         ensures on { RunStays self.old self.new }
         ensures leaves { IsTrue D.tells → LeavesDisk self.old self.new
+            (D.state self.old.disk) (D.state self.new.disk) }
+        ensures payloads { IsTrue D.tells → KeepsPayloads self.old
             (D.state self.old.disk) (D.state self.new.disk) }
     {
         runs_follow();

@@ -8,11 +8,13 @@ ghost use Rattle.engine_turns.specs.declared.operations.Said.TheVariants.{Kept};
 ghost use Rattle.machine_core.specs.Claiming.{AreOpenIn};
 ghost use Rattle.machine_core.specs.MachineViews.{StandsUnder, standing_in};
 ghost use Rattle.machine_core.specs.Reads.{lengths_of_gid};
+ghost use Rattle.stored_run.specs.Checks.{ChecksOnly, ChecksTruly};
 ghost use Rattle.stored_run.specs.Deliveries.{AreBlocksOf, AreUnsettled, Delivers, FollowsSince, IsRunOfPayload, LandedBetween};
 ghost use Rattle.stored_run.specs.Leavings.{IsLeftOf, LeavesDisk};
 ghost use Rattle.stored_run.specs.Settlings.{OfDownload};
-ghost use Rattle.stored_run.specs.Steps.{Continues, DoesPart, DoesRow, EndsGid, turn_from};
+ghost use Rattle.stored_run.specs.Steps.{Continues, DoesPart, DoesRow, EndsGid, KeepsPayload, turn_from};
 ghost use Rattle.stored_run.specs.Views.{IsGoing, own_in};
+ghost use Rattle.stored_run.specs.Writings.{HoldsLanded, KeepEachUndelivered, KeepsBeside};
 ghost use Rattle.stored_run.specs.declared.delivering.TheConstants.{DELIVERY_EVENTS};
 
 use crate::StoredRun;
@@ -130,6 +132,8 @@ impl<D: Disk> StoredRun<D> {
         ensures disk { IsTrue D.tells → EndsGid gid self.old self.new
             (D.state self.old.disk) (D.state self.new.disk) }
         ensures left { IsTrue D.tells → IsLeftOf self.new gid (D.state self.new.disk) }
+        ensures payload { IsTrue D.tells → KeepsPayload gid self.old
+            (D.state self.old.disk) (D.state self.new.disk) }
     {
         runs_follow();
         self.tells_stored();
@@ -151,6 +155,10 @@ impl<D: Disk> StoredRun<D> {
         ensures disk { IsTrue D.tells → EndsGid gid self.old self.new
             (D.state self.old.disk) (D.state self.new.disk) }
         ensures left { IsTrue D.tells → IsLeftOf self.new gid (D.state self.new.disk) }
+        ensures payload { IsTrue D.tells → KeepsPayload gid self.old
+            (D.state self.old.disk) (D.state self.new.disk) }
+        ensures checks { IsTrue D.tells
+            → ChecksOnly gid self.old self.new (D.state self.new.disk).seen }
     {
         runs_follow();
         self.tells_stored();
@@ -176,6 +184,10 @@ impl<D: Disk> StoredRun<D> {
         ensures disk { IsTrue D.tells → EndsGid gid self.old self.new
             (D.state self.old.disk) (D.state self.new.disk) }
         ensures left { IsTrue D.tells → IsLeftOf self.new gid (D.state self.new.disk) }
+        ensures payload { IsTrue D.tells → KeepsPayload gid self.old
+            (D.state self.old.disk) (D.state self.new.disk) }
+        ensures checks { IsTrue D.tells
+            → ChecksOnly gid self.old self.new (D.state self.new.disk).seen }
     {
         plan_laws();
         runs_follow();
@@ -208,6 +220,12 @@ impl<D: Disk> StoredRun<D> {
         ensures disk { IsTrue D.tells → EndsGid gid self.old self.new
             (D.state self.old.disk) (D.state self.new.disk) }
         ensures left { IsTrue D.tells → IsLeftOf self.new gid (D.state self.new.disk) }
+        ensures written { IsTrue D.tells → HoldsLanded claim.id run bytes.now
+            self.old self.new (D.state self.new.disk).seen }
+        ensures alone { IsTrue D.tells → KeepsBeside gid open_runs.now self.old
+            (D.state self.old.disk) (D.state self.new.disk) }
+        ensures checks { IsTrue D.tells
+            → ChecksOnly gid self.old self.new (D.state self.new.disk).seen }
     {
         plan_laws();
         runs_follow();
@@ -217,7 +235,9 @@ impl<D: Disk> StoredRun<D> {
         match outcome {
             Outcome::Went => {
                 self.tells_stored();
-                (counted, self.follow(gid, run, &full))
+                let outcome = self.follow(gid, run, &full);
+                self.tells_stored();
+                (counted, outcome)
             }
             outcome => (counted, outcome),
         }
@@ -235,6 +255,12 @@ impl<D: Disk> StoredRun<D> {
         ensures on { Continues DELIVERY_EVENTS self.old self.new }
         ensures leaves { IsTrue D.tells → LeavesDisk self.old self.new
             (D.state self.old.disk) (D.state self.new.disk) }
+        ensures written { IsTrue D.tells → HoldsLanded claim.id run bytes.now
+            self.old self.new (D.state self.new.disk).seen }
+        ensures kept { IsTrue D.tells → KeepEachUndelivered claim.id run self.old self.new result
+            (D.state self.old.disk) (D.state self.new.disk) }
+        ensures checks { IsTrue D.tells
+            → ChecksOnly gid self.old self.new (D.state self.new.disk).seen }
     {
         plan_laws();
         runs_follow();
@@ -255,6 +281,12 @@ impl<D: Disk> StoredRun<D> {
         ensures on { Continues DELIVERY_EVENTS self.old self.new }
         ensures leaves { IsTrue D.tells → LeavesDisk self.old self.new
             (D.state self.old.disk) (D.state self.new.disk) }
+        ensures written { IsTrue D.tells → HoldsLanded claim run bytes.now
+            self.old self.new (D.state self.new.disk).seen }
+        ensures kept { IsTrue D.tells → KeepEachUndelivered claim run self.old self.new result
+            (D.state self.old.disk) (D.state self.new.disk) }
+        ensures checks { IsTrue D.tells
+            → ChecksTruly self.old self.new (D.state self.new.disk).seen }
     {
         runs_follow();
         self.tells_stored();

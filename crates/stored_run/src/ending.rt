@@ -8,6 +8,7 @@ ghost use Rattle.machine_core.specs.declared.ends.End.TheVariants as end;
 ghost use Rattle.machine_core.specs.declared.events.Event.TheVariants.{Checked, Ended};
 ghost use Rattle.option_set.specs.Values.{text_of_word};
 ghost use Rattle.option_set.specs.declared.kinds.Word.TheVariants as word;
+ghost use Rattle.stored_run.specs.Checks.{ChecksOnly};
 ghost use Rattle.stored_run.specs.Leavings.{IsLeftOf};
 ghost use Rattle.stored_run.specs.Settlings.{IsDone, IsTruly, MayBeCheckedBy, OfDownload, OfWant, SpellsCheckOf};
 ghost use Rattle.stored_run.specs.Steps.{Continues, DoesPart, EndsGid, KeepsPayload, StoresGid};
@@ -178,6 +179,8 @@ impl<D: Disk> StoredRun<D> {
         ensures payload { IsTrue D.tells → KeepsPayload gid self.old
             (D.state self.old.disk) (D.state self.new.disk) }
         ensures left { IsTrue D.tells → IsLeftOf self.new gid (D.state self.new.disk) }
+        ensures checks { IsTrue D.tells
+            → ChecksOnly gid self.old self.new (D.state self.new.disk).seen }
     {
         runs_follow();
         self.tells_stored();
@@ -205,6 +208,8 @@ impl<D: Disk> StoredRun<D> {
         ensures payload { IsTrue D.tells → KeepsPayload gid self.old
             (D.state self.old.disk) (D.state self.new.disk) }
         ensures left { IsTrue D.tells → IsLeftOf self.new gid (D.state self.new.disk) }
+        ensures checks { IsTrue D.tells
+            → ChecksOnly gid self.old self.new (D.state self.new.disk).seen }
     {
         runs_follow();
         self.tells_stored();
@@ -227,6 +232,8 @@ impl<D: Disk> StoredRun<D> {
         ensures payload { IsTrue D.tells → KeepsPayload gid self.old
             (D.state self.old.disk) (D.state self.new.disk) }
         ensures left { IsTrue D.tells → IsLeftOf self.new gid (D.state self.new.disk) }
+        ensures checks { IsTrue D.tells
+            → ChecksOnly gid self.old self.new (D.state self.new.disk).seen }
     {
         runs_follow();
         self.tells_stored();

@@ -8,11 +8,13 @@ ghost use Rattle.machine_core.specs.Offers.{no_blocks};
 ghost use Rattle.machine_core.specs.Reads.{downloads_in, lengths_of_gid};
 ghost use Rattle.machine_core.specs.RunLegal.{is_listed};
 ghost use Rattle.stored_run.specs.Beginnings.{IsRoomier};
+ghost use Rattle.stored_run.specs.Checks.{ChecksTruly};
 ghost use Rattle.stored_run.specs.Granting.{IsLongAsPiece, IsPlaceOfClaim, MakesClaim, MayBeGiven, MayGiveBlocks, MayGiveProbe, UngivenRow};
 ghost use Rattle.stored_run.specs.Leavings.{LeavesDisk};
 ghost use Rattle.stored_run.specs.Settlings.{IsToBeSettled, OfDownload, ReadsPieceOf};
 ghost use Rattle.stored_run.specs.Steps.{Continues, DoesRow};
 ghost use Rattle.stored_run.specs.Views.{IsGoing};
+ghost use Rattle.stored_run.specs.Writings.{KeepsPayloads};
 
 use crate::StoredRun;
 use crate::following::runs_follow;
@@ -146,6 +148,10 @@ impl<D: Disk> StoredRun<D> {
         ensures on { Continues 6 self.old self.new }
         ensures leaves { IsTrue D.tells → LeavesDisk self.old self.new
             (D.state self.old.disk) (D.state self.new.disk) }
+        ensures payloads { IsTrue D.tells → KeepsPayloads self.old
+            (D.state self.old.disk) (D.state self.new.disk) }
+        ensures checks { IsTrue D.tells
+            → ChecksTruly self.old self.new (D.state self.new.disk).seen }
     {
         if self.has_digests(gid) {
             self.read_whole(gid, piece)

@@ -13,6 +13,7 @@ ghost use Rattle.stored_run.specs.Landings.{HasRunLen, HoldsRunOf, IsOneUnder};
 ghost use Rattle.stored_run.specs.Leavings.{IsLeftOf};
 ghost use Rattle.stored_run.specs.Steps.{Continues, DoesPart, StoresGid};
 ghost use Rattle.stored_run.specs.Views.{IsGoing, own_in};
+ghost use Rattle.stored_run.specs.Writings.{HoldsLanded, HoldsPartOf, KeepsBeside, KeepsOutside};
 
 use crate::StoredRun;
 use crate::following::runs_follow;
@@ -42,6 +43,8 @@ impl<D: Disk> StoredRun<D> {
         ensures left { result ≢ Went → IsTrue D.tells
             → IsLeftOf self.new gid (D.state self.new.disk) }
         ensures written { result ≡ Went → IsTrue D.tells → HoldsRunOf gid run bytes.now self.old
+            (D.state self.old.disk) (D.state self.new.disk) }
+        ensures outside { IsTrue D.tells → KeepsOutside gid run self.old
             (D.state self.old.disk) (D.state self.new.disk) }
     {
         plan_laws();
@@ -110,7 +113,12 @@ impl<D: Disk> StoredRun<D> {
             (D.state self.old.disk) (D.state self.new.disk) }
         ensures left { result ≢ Went → IsTrue D.tells
             → IsLeftOf self.new gid (D.state self.new.disk) }
+        ensures written { result ≡ Went → IsTrue D.tells → HoldsPartOf gid run part bytes.now
+            self.old (D.state self.old.disk) (D.state self.new.disk) }
+        ensures outside { IsTrue D.tells → KeepsOutside gid part self.old
+            (D.state self.old.disk) (D.state self.new.disk) }
     {
+        self.tells_stored();
         let (from, to) = self.part_range(gid, run, part);
         self.land_one(gid, claim, part, &bytes[from..to])
     }
@@ -139,7 +147,12 @@ impl<D: Disk> StoredRun<D> {
         ensures left { result.1 ≢ Went → IsTrue D.tells
             → IsLeftOf self.new gid (D.state self.new.disk) }
         ensures counted { LandedBetween result.0 self.old.machine.past self.new.machine.past }
+        ensures written { IsTrue D.tells → HoldsLanded claim.id run bytes.now
+            self.old self.new (D.state self.new.disk).seen }
+        ensures alone { IsTrue D.tells → KeepsBeside gid open_runs.now self.old
+            (D.state self.old.disk) (D.state self.new.disk) }
     {
+        plan_laws();
         runs_follow();
         self.tells_stored();
         let mut counted = 0;

@@ -13,7 +13,9 @@ ghost use Rattle.machine_core.specs.RunLegal.{MayFollow, disk_fault_of};
 ghost use Rattle.machine_core.specs.declared.events.Event.TheVariants.{Ended};
 ghost use Rattle.resume_core.specs.Openings.{AreOpenedIn, AreOpenedRows};
 ghost use Rattle.resume_core.specs.Refusals.{open_refusal};
+ghost use Rattle.stored_run.specs.Checks.{ChecksOnly, ChecksTruly};
 ghost use Rattle.stored_run.specs.Opening.{FindsJust, HasFailed, HoldsPlace, IsDiskEnd, IsRefusedSince, IsToResume, OpenNextRow, OpensDisk, OpensOn, OpensWhere, OpensWith, StandsStill, end_by_refusal, is_checked_of};
+ghost use Rattle.stored_run.specs.Refused.{EndsAsRead, IsEndAsRead};
 ghost use Rattle.stored_run.specs.Saves.{TellsOnly};
 ghost use Rattle.stored_run.specs.Settlings.{OfDownload};
 ghost use Rattle.stored_run.specs.Steps.{Continues, DoesPart, DoesRow};
@@ -109,6 +111,8 @@ impl<D: Disk> StoredRun<D> {
         ensures fault { IfErr result (λ end. IfSome end (λ how.
             IfSome (disk_fault_of (Ended gid how)) (λ count. count ≤ D.faults self.new.disk))) }
         ensures later { D.faults self.old.disk ≤ D.faults self.new.disk }
+        ensures ends { IfErr result (λ end. IfSome end (λ how. IsTrue D.tells
+            → IsEndAsRead self.old gid (D.state self.old.disk).seen how)) }
     {
         runs_follow();
         let check = self.is_checked(gid);
@@ -174,6 +178,8 @@ impl<D: Disk> StoredRun<D> {
         ensures shut { result ≢ Went → is_opened (own_in self.new gid) ≡ false }
         ensures reason { result ≡ Over → IsTrue D.tells → HasFailed self.new gid
             ⊎ IsSome (open_refusal want (D.state self.old.disk).seen) }
+        ensures ends { IsTrue D.tells
+            → EndsAsRead self.old self.new (D.state self.old.disk).seen }
     {
         runs_follow();
         self.tells_stored();
@@ -205,6 +211,10 @@ impl<D: Disk> StoredRun<D> {
         ensures on { Continues 3 self.old self.new }
         ensures leaves { IsTrue D.tells → (said : Answer) → AnswersUnlessStarved Done result said
             → OpensDisk gid self.old self.new said (D.state self.old.disk) (D.state self.new.disk) }
+        ensures ends { IsTrue D.tells
+            → EndsAsRead self.old self.new (D.state self.old.disk).seen }
+        ensures checks { IsTrue D.tells
+            → ChecksOnly gid self.old self.new (D.state self.new.disk).seen }
     {
         runs_follow();
         self.tells_stored();
@@ -228,6 +238,10 @@ impl<D: Disk> StoredRun<D> {
         ensures on { Continues 3 self.old self.new }
         ensures leaves { IsTrue D.tells → OpensDisk gid self.old self.new result
             (D.state self.old.disk) (D.state self.new.disk) }
+        ensures ends { IsTrue D.tells
+            → EndsAsRead self.old self.new (D.state self.old.disk).seen }
+        ensures checks { IsTrue D.tells
+            → ChecksTruly self.old self.new (D.state self.new.disk).seen }
     {
         runs_follow();
         self.tells_stored();

@@ -4,8 +4,9 @@ ghost use Rattle.dl_history.specs.OwnLegal.{MaySave};
 ghost use Rattle.engine_turns.specs.Phases.{SavePhase, SavesPhase};
 ghost use Rattle.stored_run.specs.Leavings.{IsLeftHeldOf};
 ghost use Rattle.stored_run.specs.Saves.{AreSavable, AreStoredApart, SavesDisk, TellsOnly};
-ghost use Rattle.stored_run.specs.Steps.{DoesPart, RunStays, IsStoredApart, StoresGid};
+ghost use Rattle.stored_run.specs.Steps.{DoesPart, RunStays, IsStoredApart, KeepsPayload, StoresGid};
 ghost use Rattle.stored_run.specs.Views.{own_in};
+ghost use Rattle.stored_run.specs.Writings.{SavesPayloads};
 
 use crate::StoredRun;
 use crate::following::runs_follow;
@@ -33,6 +34,8 @@ impl<D: Disk> StoredRun<D> {
         ensures disk { IsTrue D.tells → StoresGid gid self.old self.new
             (D.state self.old.disk) (D.state self.new.disk) }
         ensures held { IsTrue D.tells → IsLeftHeldOf self.new gid (D.state self.new.disk) }
+        ensures payload { IsTrue D.tells → KeepsPayload gid self.old
+            (D.state self.old.disk) (D.state self.new.disk) }
     {
         runs_follow();
         self.tells_stored();
@@ -52,6 +55,8 @@ impl<D: Disk> StoredRun<D> {
             self.new (D.faults self.new.disk) result }
         ensures on { RunStays self.old self.new }
         ensures disk { IsTrue D.tells → SavesDisk gids.now self.old self.new
+            (D.state self.old.disk) (D.state self.new.disk) }
+        ensures payloads { IsTrue D.tells → SavesPayloads gids.now self.old
             (D.state self.old.disk) (D.state self.new.disk) }
     {
         runs_follow();

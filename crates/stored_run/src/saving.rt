@@ -3,7 +3,7 @@ ghost use Rattle.std.specs.Prelude.{◌≡◌, ◌≤◌, IsTrue};
 ghost use Rattle.dl_history.specs.OwnLegal.{MaySave};
 ghost use Rattle.engine_turns.specs.Phases.{SavePhase};
 ghost use Rattle.stored_run.specs.Leavings.{IsLeftHeldOf, IsLeftOf};
-ghost use Rattle.stored_run.specs.Steps.{Continues, DoesPart, IsStoredApart, StoresGid};
+ghost use Rattle.stored_run.specs.Steps.{Continues, DoesPart, IsStoredApart, KeepsPayload, StoresGid};
 ghost use Rattle.stored_run.specs.Views.{own_in};
 
 use crate::StoredRun;
@@ -30,6 +30,8 @@ impl<D: Disk> StoredRun<D> {
             (D.state self.old.disk) (D.state self.new.disk) }
         ensures left { IsTrue D.tells → IsLeftOf self.new gid (D.state self.new.disk) }
         ensures held { IsTrue D.tells → IsLeftHeldOf self.new gid (D.state self.new.disk) }
+        ensures payload { IsTrue D.tells → KeepsPayload gid self.old
+            (D.state self.old.disk) (D.state self.new.disk) }
     {
         runs_follow();
         let want = want_of(&self.machine, &self.wants, gid).unwrap();

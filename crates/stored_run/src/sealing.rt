@@ -9,11 +9,13 @@ ghost use Rattle.engine_turns.specs.declared.operations.Said.TheVariants.{Done, 
 ghost use Rattle.engine_turns.specs.declared.outcome.Outcome.TheVariants.{Went};
 ghost use Rattle.machine_core.specs.MachineViews.{IsFindingOf, IsNext, mark_spare_in};
 ghost use Rattle.machine_core.specs.Reads.{IsPieceOfGid, lengths_of_gid};
+ghost use Rattle.stored_run.specs.Checks.{ChecksOnly, ChecksTruly};
 ghost use Rattle.stored_run.specs.Granting.{IsLongAsPiece};
 ghost use Rattle.stored_run.specs.Leavings.{IsLeftOf, LeavesDisk};
 ghost use Rattle.stored_run.specs.Settlings.{CountedRow, HasItsDigest, IsListedDigest, IsSettledBetween, IsToBeSettled, OfDownload, OfWant, ReadsPieceOf, SealedRow, SettlesIfSame, UnreadRow, has_digest_in};
 ghost use Rattle.stored_run.specs.Views.{IsGoing};
-ghost use Rattle.stored_run.specs.Steps.{Continues, DoesPart, DoesRow, EndsGid, StoresGid};
+ghost use Rattle.stored_run.specs.Steps.{Continues, DoesPart, DoesRow, EndsGid, KeepsPayload, StoresGid};
+ghost use Rattle.stored_run.specs.Writings.{KeepsPayloads};
 ghost use Rattle.verify_piece.specs.Checks.{has_digest};
 
 use crate::StoredRun;
@@ -79,6 +81,8 @@ impl<D: Disk> StoredRun<D> {
         ensures same { result ≡ Went → self.new.machine ≡ self.old.machine }
         ensures still { result ≡ Went → IsTrue D.tells
             → IsSame (D.state self.old.disk).seen (D.state self.new.disk).seen }
+        ensures payload { IsTrue D.tells → KeepsPayload gid self.old
+            (D.state self.old.disk) (D.state self.new.disk) }
     {
         runs_follow();
         same_files_give_the_same();
@@ -110,6 +114,10 @@ impl<D: Disk> StoredRun<D> {
         ensures disk { IsTrue D.tells → EndsGid gid self.old self.new
             (D.state self.old.disk) (D.state self.new.disk) }
         ensures left { IsTrue D.tells → IsLeftOf self.new gid (D.state self.new.disk) }
+        ensures payload { IsTrue D.tells → KeepsPayload gid self.old
+            (D.state self.old.disk) (D.state self.new.disk) }
+        ensures checks { IsTrue D.tells
+            → ChecksOnly gid self.old self.new (D.state self.new.disk).seen }
     {
         runs_follow();
         self.tells_stored();
@@ -152,6 +160,10 @@ impl<D: Disk> StoredRun<D> {
         ensures disk { IsTrue D.tells → EndsGid gid self.old self.new
             (D.state self.old.disk) (D.state self.new.disk) }
         ensures left { IsTrue D.tells → IsLeftOf self.new gid (D.state self.new.disk) }
+        ensures payload { IsTrue D.tells → KeepsPayload gid self.old
+            (D.state self.old.disk) (D.state self.new.disk) }
+        ensures checks { IsTrue D.tells
+            → ChecksOnly gid self.old self.new (D.state self.new.disk).seen }
     {
         let right = self.is_right(gid, sealed);
         self.settle_and_end(gid, sealed.piece(), right)
@@ -171,6 +183,10 @@ impl<D: Disk> StoredRun<D> {
         ensures disk { IsTrue D.tells → EndsGid gid self.old self.new
             (D.state self.old.disk) (D.state self.new.disk) }
         ensures left { IsTrue D.tells → IsLeftOf self.new gid (D.state self.new.disk) }
+        ensures payload { IsTrue D.tells → KeepsPayload gid self.old
+            (D.state self.old.disk) (D.state self.new.disk) }
+        ensures checks { IsTrue D.tells
+            → ChecksOnly gid self.old self.new (D.state self.new.disk).seen }
     {
         runs_follow();
         self.tells_stored();
@@ -200,6 +216,10 @@ impl<D: Disk> StoredRun<D> {
         ensures void { IsTrue D.tells → result ≡ Void
             → ¬ ReadsPieceOf self.old gid sealed.now.piece (D.state self.old.disk).seen
             sealed.now.bytes }
+        ensures payloads { IsTrue D.tells → KeepsPayloads self.old
+            (D.state self.old.disk) (D.state self.new.disk) }
+        ensures checks { IsTrue D.tells
+            → ChecksTruly self.old self.new (D.state self.new.disk).seen }
     {
         runs_follow();
         self.tells_stored();
@@ -228,6 +248,10 @@ impl<D: Disk> StoredRun<D> {
         ensures on { Continues 1 self.old self.new }
         ensures leaves { IsTrue D.tells → LeavesDisk self.old self.new
             (D.state self.old.disk) (D.state self.new.disk) }
+        ensures payloads { IsTrue D.tells → KeepsPayloads self.old
+            (D.state self.old.disk) (D.state self.new.disk) }
+        ensures checks { IsTrue D.tells
+            → ChecksTruly self.old self.new (D.state self.new.disk).seen }
     {
         runs_follow();
         self.tells_stored();
@@ -252,6 +276,10 @@ impl<D: Disk> StoredRun<D> {
         ensures on { Continues 6 self.old self.new }
         ensures leaves { IsTrue D.tells → LeavesDisk self.old self.new
             (D.state self.old.disk) (D.state self.new.disk) }
+        ensures payloads { IsTrue D.tells → KeepsPayloads self.old
+            (D.state self.old.disk) (D.state self.new.disk) }
+        ensures checks { IsTrue D.tells
+            → ChecksTruly self.old self.new (D.state self.new.disk).seen }
     {
         runs_follow();
         self.tells_stored();

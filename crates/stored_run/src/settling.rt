@@ -7,7 +7,7 @@ ghost use Rattle.machine_core.specs.Reads.{IsPieceUnlisted};
 ghost use Rattle.machine_core.specs.declared.events.Event.TheVariants.{Cleared};
 ghost use Rattle.stored_run.specs.Leavings.{IsLeftOf};
 ghost use Rattle.stored_run.specs.Settlings.{HasItsDigest, IsFoundWrong, OfDownload};
-ghost use Rattle.stored_run.specs.Steps.{Continues, DoesPart, StoresGid};
+ghost use Rattle.stored_run.specs.Steps.{Continues, DoesPart, KeepsPayload, StoresGid};
 ghost use Rattle.stored_run.specs.Views.{IsGoing};
 
 use crate::StoredRun;
@@ -52,6 +52,8 @@ impl<D: Disk> StoredRun<D> {
             → IsLeftOf self.new gid (D.state self.new.disk) }
         ensures still { result ≡ Went → IsFoundWrong self.new gid piece }
         ensures unlisted { result ≡ Went → IsPieceUnlisted self.new.machine gid piece }
+        ensures payload { IsTrue D.tells → KeepsPayload gid self.old
+            (D.state self.old.disk) (D.state self.new.disk) }
     {
         runs_follow();
         if self.machine.lists(gid, piece) {
@@ -73,6 +75,7 @@ impl<D: Disk> StoredRun<D> {
         ensures disk { IsTrue D.tells → StoresGid gid self.old self.new
             (D.state self.old.disk) (D.state self.new.disk) }
         ensures still { IsGoing self.new gid }
+        ensures untouched { self.new.disk ≡ self.old.disk }
     {
         runs_follow();
         self.machine.cleared(gid, piece);
@@ -91,6 +94,8 @@ impl<D: Disk> StoredRun<D> {
         ensures left { result ≢ Went → IsTrue D.tells
             → IsLeftOf self.new gid (D.state self.new.disk) }
         ensures still { result ≡ Went → IsGoing self.new gid }
+        ensures payload { IsTrue D.tells → KeepsPayload gid self.old
+            (D.state self.old.disk) (D.state self.new.disk) }
     {
         runs_follow();
         match self.unlist(gid, piece) {
@@ -122,6 +127,8 @@ impl<D: Disk> StoredRun<D> {
             → IsLeftOf self.new gid (D.state self.new.disk) }
         ensures still { result ≡ Went → IsGoing self.new gid }
         ensures untouched { right ≡ true → self.new.disk ≡ self.old.disk }
+        ensures payload { IsTrue D.tells → KeepsPayload gid self.old
+            (D.state self.old.disk) (D.state self.new.disk) }
     {
         runs_follow();
         self.find(gid, piece, right);

@@ -8,6 +8,7 @@ ghost use Rattle.machine_core.specs.RunLegal.{is_stop};
 ghost use Rattle.stored_run.specs.Leavings.{LeavesDisk};
 ghost use Rattle.stored_run.specs.Saves.{TellsOnly};
 ghost use Rattle.stored_run.specs.Steps.{DoesRow, RunStays};
+ghost use Rattle.stored_run.specs.Writings.{KeepsPayloads};
 
 use crate::StoredRun;
 use crate::following::runs_follow;
@@ -35,6 +36,8 @@ impl<D: Disk> StoredRun<D> {
             self.new (D.faults self.new.disk) result }
         ensures on { RunStays self.old self.new }
         ensures leaves { IsTrue D.tells → LeavesDisk self.old self.new
+            (D.state self.old.disk) (D.state self.new.disk) }
+        ensures payloads { IsTrue D.tells → KeepsPayloads self.old
             (D.state self.old.disk) (D.state self.new.disk) }
     {
         runs_follow();

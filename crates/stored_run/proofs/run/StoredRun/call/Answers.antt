@@ -12,6 +12,8 @@ use Rattle.stored_run.proofs.AfterTelling.{goes_after, may_all, row_here, same_v
 use Rattle.stored_run.proofs.CallSaves.{off_are, off_once, off_some, off_went_on}
 use Rattle.stored_run.proofs.EachSaved.{between_called, between_none}
 use Rattle.stored_run.proofs.SavedRows.{call_row, saves_starved}
+use Rattle.stored_run.specs.Writings.{SavesPayloads}
+use Rattle.stored_run.proofs.KeptBytes.{same_payloads, saved_payloads}
 use Rattle.stored_run.proofs.run.StoredRun.call.Goals as goal
 
 pub returns-in_default-clause-leaves : goal.returns-in_default-clause-leaves
@@ -159,3 +161,29 @@ returns-clause-leaves g c told =
     halted_leaves laws d.tells d.faults d.state v mid run (Called c.args.session c.args.call v.now ∷ []) came
     (between_called laws c.args.session c.args.call v.now v mid run.wants_are came)
     (called_incomplete c.args.session c.args.call v.now) told
+
+pub returns-in_default-apply-clause-payloads : goal.returns-in_default-apply-clause-payloads
+returns-in_default-apply-clause-payloads g c told =
+    same_payloads g.D.Disk.state c.args.self.now c.apply.new.self.disk c.in_default-apply.ensures.same.disk
+
+pub returns-in-Ok-due_off-clause-payloads : goal.returns-in-Ok-due_off-clause-payloads
+returns-in-Ok-due_off-clause-payloads g c told =
+    let d = g.D.Disk in
+    let v = c.args.self.now in
+    let mid = c.apply.new.self in
+    let new = c.save_all-outcome.new.self in
+    let laws = c.runs_follow.ensures in
+    let run = c.tells_stored.ensures in
+    let came = c.in-Ok-apply.ensures.came in
+    let between = between_called laws c.args.session c.args.call v.now v mid run.wants_are came in
+    let was_is = c.deref.ensures.value ∙ c.in-Ok.ensures in
+    let due = c.in-Ok-due_off.due.items in
+    saved_payloads laws d.tells d.faults d.state v mid run came.disk between due
+    (off_went_on laws d.tells (d.faults v.disk) (d.state v.disk) v mid run c.args.session c.args.call came
+    c.deref.result.now was_is due c.in-Ok-due_off.ensures.those) (d.state new.disk)
+    (subst (λ (gids : List Gid). SavesPayloads gids mid (d.state mid.disk) (d.state new.disk))
+    c.deref-in-Ok-due_off.ensures.value (c.save_all-outcome.ensures.payloads told))
+
+pub returns-clause-payloads : goal.returns-clause-payloads
+returns-clause-payloads g c told =
+    same_payloads g.D.Disk.state c.args.self.now c.apply.new.self.disk c.in-Ok-apply.ensures.came.disk

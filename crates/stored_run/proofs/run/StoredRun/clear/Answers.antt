@@ -55,3 +55,6 @@ returns-clause-disk g c told =
     disk_still _ _ c.self.view_is c.runs_follow.ensures g.D.Disk.state c.cleared.new.self.start c.cleared.new.self.past
     c.args.gid c.self.invariant.wants_are (Cleared c.args.gid c.args.piece) came.start_is
     (came.past_is ∙ ap (λ (x : Event). x ∷ m.past) came.is)
+
+pub returns-clause-untouched : goal.returns-clause-untouched
+returns-clause-untouched g c = ap (λ (v : StoredView _). v.disk) c.self.view_is

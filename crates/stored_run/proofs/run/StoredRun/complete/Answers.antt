@@ -6,6 +6,7 @@ use Rattle.stored_run.specs.Steps.{DoesPart, turn_from}
 use Rattle.stored_run.proofs.Completing.{has_of, may_complete, not_both}
 use Rattle.stored_run.proofs.Doing.{continues_wider, did_wider}
 use Rattle.stored_run.proofs.Endings.{going_facts}
+use Rattle.stored_run.proofs.Unchecked.{checks_none, unchecked_finish}
 use Rattle.stored_run.proofs.run.StoredRun.complete.Goals as goal
 
 pub complete_checked-requires-clause-may : goal.complete_checked-requires-clause-may
@@ -48,6 +49,15 @@ returns-in-None-clause-did g c download added =
     (did_wider (λ from. EndAfterDisk (turn_from v from) c.args.gid end.Complete)
     (λ from. CompletionPhase (turn_from v from) c.args.gid false) v.machine.past (d.faults v.disk) n.machine.past
     (d.faults n.disk) c.finish_one.result (λ from events is. is) c.finish_one.ensures.did)
+
+pub returns-in-None-clause-checks : goal.returns-in-None-clause-checks
+returns-in-None-clause-checks g c told =
+    let d = g.D.Disk in
+    let v = c.args.self.now in
+    let n = c.finish_one.new.self in
+    checks_none (λ at. EndAfterDisk at c.args.gid end.Complete) v n (d.faults v.disk) (d.faults n.disk)
+    c.finish_one.result c.finish_one.ensures.did (unchecked_finish (turn_from v (d.faults v.disk)) c.args.gid)
+    c.args.gid (d.state n.disk).seen
 
 pub returns-in-None-clause-on : goal.returns-in-None-clause-on
 returns-in-None-clause-on g c =

@@ -7,6 +7,9 @@ use Rattle.stored_run.proofs.Completing.{check_done, check_last, disk_past}
 use Rattle.stored_run.proofs.Doing.{continues_on, continues_wider, did_wider, part_on, part_stop}
 use Rattle.stored_run.proofs.Findings.{gid_found, one_download}
 use Rattle.stored_run.proofs.Parts.{added_still, ends_part, ends_stored_part, grown_by}
+use Rattle.stored_run.proofs.Endings.{going_facts}
+use Rattle.stored_run.proofs.Truly.{truly_kept}
+use Rattle.stored_run.proofs.Unchecked.{checks_broken, checks_once, unchecked_end}
 use Rattle.stored_run.proofs.run.StoredRun.complete_checked.Goals as goal
 
 pub end_checked-requires-clause-done : goal.end_checked-requires-clause-done
@@ -78,6 +81,39 @@ returns-in-Went-clause-payload g c told want kept =
     c.end_checked.ensures.payload told want (c.check_whole-right.ensures.on.wants c.args.gid want kept)
     ∙ c.check_whole-right.ensures.payload told want kept
 
+pub returns-in-Went-clause-checks : goal.returns-in-Went-clause-checks
+returns-in-Went-clause-checks g c told =
+    let d = g.D.Disk in
+    let v = c.args.self.now in
+    let a = c.check_whole-right.new.self in
+    let n = c.end_checked.new.self in
+    let gid = c.args.gid in
+    let right = c.check_whole-right.result.0 in
+    let may = c.requires.may in
+    let first = c.check_whole-right.ensures in
+    let second = c.end_checked.ensures in
+    let facts = going_facts v.machine.start v.machine.past v.wants.items gid c.tells_stored.ensures.wants_are
+    c.requires.going in
+    let past = disk_past v a gid (Checked gid right ∷ []) (d.faults v.disk) (d.faults a.disk) c.check_whole-right.result.1
+    first.did c.in-Went.is in
+    let there = added_still (λ at. AfterDisk at gid (Checked gid right ∷ [])) v a 1 (d.faults v.disk) (d.faults a.disk)
+    c.check_whole-right.result.1 first.on first.did c.runs_follow.ensures gid may.download may.added in
+    let kept = first.on.wants gid facts.want facts.kept in
+    checks_once (λ at. CheckedPhase at gid right) a n (d.faults a.disk) (d.faults n.disk) c.end_checked.result
+    second.did (unchecked_end (turn_from a (d.faults a.disk)) gid right) gid v right (d.state n.disk).seen past
+    (record {
+      download = may.download;
+      added = added_still (λ at. CheckedPhase at gid right) a n 1 (d.faults a.disk) (d.faults n.disk)
+          c.end_checked.result second.on second.did c.runs_follow.ensures gid may.download there;
+      check = c.args.check.now;
+      spelled = may.spelled;
+      want = facts.want;
+      kept = second.on.wants gid facts.want kept;
+      truly = truly_kept right c.args.check.now facts.want (d.state v.disk).seen (d.state n.disk).seen
+          (second.payload told facts.want kept ∙ first.payload told facts.want facts.kept)
+          (first.truly c.in-Went.is told facts.want facts.kept);
+    })
+
 pub returns-in_default : goal.returns-in_default
 returns-in_default g c =
     let d = g.D.Disk in
@@ -96,4 +132,6 @@ returns-in_default g c =
       disk = λ told. ends_stored_part v a gid (d.state v.disk) (d.state a.disk) (c.check_whole-right.ensures.disk told);
       payload = c.check_whole-right.ensures.payload;
       left = c.check_whole-right.ensures.left c.in_default.not-Went;
+      checks = λ told. checks_broken v a gid (d.faults v.disk) (d.faults a.disk) c.check_whole-right.result.1
+          (Checked gid right ∷ []) c.check_whole-right.ensures.did c.in_default.not-Went (d.state a.disk).seen;
     }

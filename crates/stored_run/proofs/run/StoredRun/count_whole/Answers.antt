@@ -6,6 +6,8 @@ use Rattle.stored_run.specs.Steps.{turn_from}
 use Rattle.stored_run.proofs.Findings.{gid_found}
 use Rattle.stored_run.proofs.Leaving.{leaves_one}
 use Rattle.stored_run.proofs.OfOne.{IsOwnEvent, own_all, part_others, settled_in}
+use Rattle.stored_run.proofs.KeptBytes.{payloads_one}
+use Rattle.stored_run.proofs.Unchecked.{checks_truly}
 use Rattle.stored_run.proofs.run.StoredRun.count_whole.Goals as goal
 
 pub settle_and_end-requires-clause-may : goal.settle_and_end-requires-clause-may
@@ -43,3 +45,17 @@ returns-clause-leaves g c told =
     (part_others (λ at. AndThen (SettlingPhase at p.download c.args.piece true) (EndingOr at p.download NoEvent)) v n 6
     (d.faults v.disk) (d.faults n.disk) c.settle_and_end.result gid does.on (does.did p.download p.added)
     (settled_in (IsOwnEvent gid) (turn_from v (d.faults v.disk)) p.download all c.args.piece true))
+
+pub returns-clause-payloads : goal.returns-clause-payloads
+returns-clause-payloads g c told =
+    let d = g.D.Disk in
+    let v = c.args.self.now in
+    let n = c.settle_and_end.new.self in
+    payloads_one c.runs_follow.ensures d.tells (d.faults v.disk) v (d.state v.disk) (d.state n.disk) c.tells_stored.ensures
+    c.args.gid c.requires.going (λ want kept. (c.settle_and_end.ensures.disk told want kept).besides)
+    (c.settle_and_end.ensures.payload told)
+
+pub returns-clause-checks : goal.returns-clause-checks
+returns-clause-checks g c told =
+    let n = c.settle_and_end.new.self in
+    checks_truly c.args.gid c.args.self.now n (g.D.Disk.state n.disk).seen (c.settle_and_end.ensures.checks told)

@@ -1,12 +1,15 @@
-use Rattle.std.proofs.Common.{arith, subst, sym}
+use Rattle.std.proofs.Common.{arith, refl, subst, sym}
 use Rattle.engine_turns.specs.ClaimRows.{DeliverRow}
 use Rattle.machine_core.specs.MachineViews.{StandsNowhere, StandsUnder}
 use Rattle.stored_run.specs.Deliveries.{Delivers}
+use Rattle.stored_run.specs.Writings.{HoldsLanded, KeepEachUndelivered}
+use Rattle.stored_run.proofs.Between.{came_none}
 use Rattle.stored_run.proofs.Claimed.{claim_goes}
 use Rattle.stored_run.proofs.Delivered.{blocks_of_delivery, delivered_row, delivery_going, match_false, match_true, undelivered_row}
 use Rattle.stored_run.proofs.Doing.{continues_none, continues_wider}
 use Rattle.stored_run.proofs.Losses.{no_home_row}
 use Rattle.stored_run.proofs.Leaving.{leaves_still}
+use Rattle.stored_run.proofs.Unchecked.{checks_truly, unchecked_still}
 use Rattle.stored_run.proofs.run.StoredRun.deliver.Goals as goal
 
 pub returns-in_default-clause-row : goal.returns-in_default-clause-row
@@ -91,3 +94,49 @@ returns-then-not-is_delivery-clause-leaves g c told =
 
 pub returns-clause-leaves : goal.returns-clause-leaves
 returns-clause-leaves g c told = c.deliver_blocks.ensures.leaves told
+
+pub returns-in_default-clause-written : goal.returns-in_default-clause-written
+returns-in_default-clause-written g c told gid mirror part at came =
+    came_none c.args.self.now.machine.past c.args.self.now.machine.past _ refl came
+
+pub returns-then-not-is_delivery-clause-written : goal.returns-then-not-is_delivery-clause-written
+returns-then-not-is_delivery-clause-written g c told gid mirror part at came =
+    came_none c.args.self.now.machine.past c.args.self.now.machine.past _ refl came
+
+pub returns-clause-written : goal.returns-clause-written
+returns-clause-written g c told =
+    let v = c.args.self.now in
+    let n = c.deliver_blocks.new.self in
+    let found = subst (λ w. StandsUnder w.machine c.args.claim c.in-Some.gid c.in-Some.granted) c.self.view_is
+    c.in-Some.ensures.found in
+    subst (λ id. HoldsLanded id c.args.run c.args.bytes.now v n (g.D.Disk.state n.disk).seen) found.id_is
+    (c.deliver_blocks.ensures.written told)
+
+pub returns-clause-kept : goal.returns-clause-kept
+returns-clause-kept g c told =
+    let d = g.D.Disk in
+    let v = c.args.self.now in
+    let n = c.deliver_blocks.new.self in
+    let found = subst (λ w. StandsUnder w.machine c.args.claim c.in-Some.gid c.in-Some.granted) c.self.view_is
+    c.in-Some.ensures.found in
+    subst (λ id. KeepEachUndelivered id c.args.run v n c.deliver_blocks.result (d.state v.disk) (d.state n.disk))
+    found.id_is (c.deliver_blocks.ensures.kept told)
+
+pub returns-in_default-clause-kept : goal.returns-in_default-clause-kept
+returns-in_default-clause-kept g c told gid goes want kept at none = refl
+
+pub returns-then-not-is_delivery-clause-kept : goal.returns-then-not-is_delivery-clause-kept
+returns-then-not-is_delivery-clause-kept g c told gid goes want kept at none = refl
+
+pub returns-in_default-clause-checks : goal.returns-in_default-clause-checks
+returns-in_default-clause-checks g c told =
+    let v = c.args.self.now in unchecked_still v v (g.D.Disk.state v.disk).seen refl
+
+pub returns-then-not-is_delivery-clause-checks : goal.returns-then-not-is_delivery-clause-checks
+returns-then-not-is_delivery-clause-checks g c told =
+    let v = c.args.self.now in unchecked_still v v (g.D.Disk.state v.disk).seen refl
+
+pub returns-clause-checks : goal.returns-clause-checks
+returns-clause-checks g c told =
+    let n = c.deliver_blocks.new.self in
+    checks_truly c.in-Some.gid c.args.self.now n (g.D.Disk.state n.disk).seen (c.deliver_blocks.ensures.checks told)

@@ -9,6 +9,7 @@ use Rattle.stored_run.specs.Views.{own_in}
 use Rattle.stored_run.proofs.Doing.{continues_none, continues_wider, did_by, did_else, did_if, did_nothing, ends_stored, grown_none, stores_none}
 use Rattle.stored_run.proofs.Findings.{gid_found}
 use Rattle.stored_run.proofs.Left.{going_left}
+use Rattle.stored_run.proofs.Unchecked.{checks_still}
 use Rattle.stored_run.proofs.run.StoredRun.end_if_done.Goals as goal
 
 pub complete-requires-clause-done : goal.complete-requires-clause-done
@@ -70,3 +71,7 @@ returns-else-is_done-clause-left g c told =
 
 pub returns-else-is_done-clause-payload : goal.returns-else-is_done-clause-payload
 returns-else-is_done-clause-payload g c told want kept = refl
+
+pub returns-else-is_done-clause-checks : goal.returns-else-is_done-clause-checks
+returns-else-is_done-clause-checks g c told =
+    let v = c.args.self.now in checks_still c.args.gid v v (g.D.Disk.state v.disk).seen refl

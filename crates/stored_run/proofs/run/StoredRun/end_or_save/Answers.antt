@@ -7,7 +7,9 @@ use Rattle.machine_core.specs.RunLegal.{has_checksum}
 use Rattle.stored_run.specs.Settlings.{IsDone}
 use Rattle.stored_run.specs.Steps.{DoesPart, turn_from}
 use Rattle.stored_run.proofs.Doing.{continues_wider, did_by, did_else, did_if}
+use Rattle.stored_run.proofs.Endings.{going_facts}
 use Rattle.stored_run.proofs.Findings.{gid_found}
+use Rattle.stored_run.proofs.Unchecked.{checks_none, unchecked_due}
 use Rattle.stored_run.proofs.run.StoredRun.end_or_save.Goals as goal
 
 pub complete-requires-clause-done : goal.complete-requires-clause-done
@@ -53,3 +55,14 @@ returns-else-is_done-clause-did g c download added =
 pub returns-else-is_done-clause-on : goal.returns-else-is_done-clause-on
 returns-else-is_done-clause-on g c =
     continues_wider 1 2 c.args.self.now c.save_if_due.new.self (omega arith) c.save_if_due.ensures.on
+
+pub returns-else-is_done-clause-checks : goal.returns-else-is_done-clause-checks
+returns-else-is_done-clause-checks g c told =
+    let d = g.D.Disk in
+    let v = c.args.self.now in
+    let n = c.save_if_due.new.self in
+    let before = going_facts v.machine.start v.machine.past v.wants.items c.args.gid c.tells_stored.ensures.wants_are
+    c.requires.going in
+    checks_none (λ at. DueSavePhase at before.has.download) v n (d.faults v.disk) (d.faults n.disk) c.save_if_due.result
+    (c.save_if_due.ensures.did before.has.download before.has.added)
+    (unchecked_due (turn_from v (d.faults v.disk)) before.has.download) c.args.gid (d.state n.disk).seen

@@ -1,7 +1,9 @@
+use Rattle.std.proofs.Common.{ap, ◌∙◌}
 use Rattle.engine_turns.specs.ClaimRows.{DueSavePhase, filled_phase}
 use Rattle.engine_turns.specs.Phases.{EndingOr}
 use Rattle.engine_turns.specs.declared.outcome.Outcome.TheVariants.{Went}
 use Rattle.machine_core.specs.RunLegal.{is_listed}
+use Rattle.resume_core.specs.Wants.{files_in}
 use Rattle.stored_run.specs.Deliveries.{filling_phase}
 use Rattle.stored_run.proofs.Delivered.{last_within}
 use Rattle.stored_run.proofs.Doing.{continues_on, part_on}
@@ -10,6 +12,8 @@ use Rattle.stored_run.proofs.FilledPieces.{filled_since}
 use Rattle.stored_run.proofs.Findings.{gid_found}
 use Rattle.stored_run.proofs.LandedCounts.{between_on, landed_none, none_ending}
 use Rattle.stored_run.proofs.Parts.{added_still, ends_part, grown_by}
+use Rattle.stored_run.specs.Steps.{turn_from}
+use Rattle.stored_run.proofs.Unchecked.{checks_later, unchecked_filling}
 use Rattle.stored_run.proofs.run.StoredRun.follow.Goals as goal
 
 pub returns-clause-did : goal.returns-clause-did
@@ -66,3 +70,24 @@ returns-clause-disk g c told =
     (c.end_or_save.ensures.did here.has.download here.has.added) gid in
     ends_part d.tells (d.faults a.disk) v a n gid 64 (d.state v.disk) (d.state a.disk) (d.state n.disk) c.fill.ensures.on
     first second c.tells_stored-2.ensures c.fill.ensures.going told (c.fill.ensures.disk told) (c.end_or_save.ensures.disk told)
+
+pub returns-clause-payload : goal.returns-clause-payload
+returns-clause-payload g c told want kept =
+    c.end_or_save.ensures.payload told want (c.fill.ensures.on.wants c.args.gid want kept)
+    ∙ ap (λ x. files_in want (g.D.Disk.state x).seen) c.fill.ensures.untouched
+
+pub returns-clause-checks : goal.returns-clause-checks
+returns-clause-checks g c told =
+    let d = g.D.Disk in
+    let v = c.args.self.now in
+    let a = c.fill.new.self in
+    let n = c.end_or_save.new.self in
+    let gid = c.args.gid in
+    let before = going_facts v.machine.start v.machine.past v.wants.items gid c.tells_stored.ensures.wants_are
+    c.requires.going in
+    let download = before.has.download in
+    let fills = c.fill.ensures.did download before.has.added in
+    checks_later (λ at. filling_phase at download (is_listed download.subject) fills.pieces) v a (d.faults v.disk)
+    (d.faults a.disk) Went fills.did
+    (unchecked_filling (turn_from v (d.faults v.disk)) download (is_listed download.subject) fills.pieces) gid n
+    (d.state n.disk).seen (c.end_or_save.ensures.checks told)

@@ -1,5 +1,6 @@
 use Rattle.std.proofs.Common.{◌≡◌, ◌+◌, ◌-◌, ◌<◌, ◌∙◌, List, [], ◌∷◌, length, take, arith, refl, subst, sym, ap, true}
 use Rattle.std.proofs.lemmas.List.{take_all}
+use Rattle.std.proofs.lemmas.List.Elements.{All-nil}
 use Rattle.std.proofs.lemmas.List.Sums.{sum_by-append, sum_by-cons, sum_by_more_le}
 use Rattle.dl_history.specs.StandingClaims.{is_open_since}
 use Rattle.dl_kinds.specs.Plan.{block_end, block_start}
@@ -8,6 +9,7 @@ use Rattle.engine_turns.specs.Phases.{AfterDisk, LandingsPhase}
 use Rattle.engine_turns.specs.declared.outcome.Outcome.{Outcome}
 use Rattle.engine_turns.specs.declared.outcome.Outcome.TheVariants.{Went}
 use Rattle.machine_core.specs.OwnParts.{PayloadLengths}
+use Rattle.machine_core.specs.Reads.{lengths_of_gid}
 use Rattle.machine_core.specs.RunLegal.{MayFollow}
 use Rattle.machine_core.specs.declared.events.Event.TheVariants.{Landed}
 use Rattle.stored_run.specs.Deliveries.{IsPartOf, IsRunOfPayload, LandedBetween}
@@ -15,9 +17,12 @@ use Rattle.stored_run.specs.Steps.{DoesPart}
 use Rattle.stored_run.specs.Views.{own_in}
 use Rattle.stored_run.proofs.Doing.{continues_none, continues_on, continues_wider, did_nothing, grown_none, stores_none}
 use Rattle.stored_run.proofs.Endings.{going_facts}
+use Rattle.stored_run.proofs.LandedBytes.{landed_before, landed_there, lands_part, parts_next, parts_still}
 use Rattle.stored_run.proofs.Landings.{counts_broken, landed_all, lands_broken, lands_next, next_may, next_one, next_part, run_there, some_there, taken_next}
+use Rattle.stored_run.proofs.Own.{lengths_known}
 use Rattle.stored_run.proofs.Parts.{grown_by, stores_part}
 use Rattle.stored_run.proofs.RunParts.{blocks_in_runs, parts_fit}
+use Rattle.stored_run.proofs.KeptBytes.{beside_all, beside_next}
 use Rattle.stored_run.proofs.run.StoredRun.land_all.Goals as goal
 
 pub unwrap-part-requires : goal.unwrap-part-requires
@@ -133,6 +138,8 @@ loop-place-init g c =
       on = continues_none v;
       disk = λ told want is. stores_none c.runs_follow.ensures.give want (own_in v c.args.gid) (own_in v c.args.gid)
           (d.state v.disk) (c.tells_stored.ensures.wants_are.sound c.args.gid want is) (grown_none (own_in v c.args.gid));
+      written = λ told want kept. All-nil _;
+      alone = λ told want kept at none. refl;
     }
 
 pub loop-place-preserved : goal.loop-place-preserved
@@ -169,6 +176,22 @@ loop-place-preserved g c =
       on = continues_on n 1 v m n' was.on c.land_part.ensures.on;
       disk = λ told. stores_part d.tells f' v m n' gid n (d.state v.disk) (d.state m.disk) (d.state n'.disk) was.on first
           second c.tells_stored-in-loop-place.ensures (so.going c.requires.going) told (was.disk told) (c.land_part.ensures.disk told);
+      written = λ told want kept.
+          let has = c.tells_stored.ensures.wants_are.has gid want kept in
+          let kept_then = was.on.wants gid want kept in
+          let stored = c.tells_stored-in-loop-place.ensures.stored told gid want (so.going c.requires.going) kept_then in
+          let files = (stored.held (d.state m.disk).seen (d.state m.disk).own_image).files in
+          parts_next c.plan_laws.ensures.follow want (c.tells_stored.ensures.wants_are.sound gid want kept)
+          (lengths_of_gid v.machine gid) (lengths_known v.machine.start v.machine.past gid want has) c.args.run c.requires.run
+          (λ b. is_open_since (own_in v gid) claim b ≡ true) runs c.requires.open_runs n part within there c.args.bytes.now
+          (d.state m.disk).seen (d.state n'.disk).seen (c.land_part.ensures.outside told want kept_then files)
+          (was.written told want kept) (c.land_part.ensures.written c.in-Went.is told want kept_then files);
+      alone = λ told want kept.
+          let kept_then = was.on.wants gid want kept in
+          let stored = c.tells_stored-in-loop-place.ensures.stored told gid want (so.going c.requires.going) kept_then in
+          let files = (stored.held (d.state m.disk).seen (d.state m.disk).own_image).files in
+          beside_next want runs n part within there (d.state v.disk).seen (d.state m.disk).seen (d.state n'.disk).seen
+          (c.land_part.ensures.outside told want kept_then files) (was.alone told want kept);
     }
 
 pub returns-in_default : goal.returns-in_default
@@ -204,6 +227,27 @@ returns-in_default g c =
       counted = subst (λ k. LandedBetween k v.machine.past n'.machine.past) (sym was.counted)
           (counts_broken v m n' gid claim runs n part within there f f' f'' was.on was.did o c.in_default.not-Went
           c.land_part.ensures.did);
+      written = λ told h mirror p at came. lands_part v gid h c.args.run p c.args.bytes.now (d.state n'.disk).seen
+          (take n runs) c.requires.going.opened
+          (λ want kept.
+          let has = c.tells_stored.ensures.wants_are.has gid want kept in
+          let kept_then = was.on.wants gid want kept in
+          let stored = c.tells_stored-in-loop-place.ensures.stored told gid want (so.going c.requires.going) kept_then in
+          let files = (stored.held (d.state m.disk).seen (d.state m.disk).own_image).files in
+          parts_still c.plan_laws.ensures.follow want (c.tells_stored.ensures.wants_are.sound gid want kept)
+          (lengths_of_gid v.machine gid) (lengths_known v.machine.start v.machine.past gid want has) c.args.run c.requires.run
+          (λ b. is_open_since (own_in v gid) claim b ≡ true) runs c.requires.open_runs n part within there c.args.bytes.now
+          (d.state m.disk).seen (d.state n'.disk).seen (c.land_part.ensures.outside told want kept_then files)
+          (was.written told want kept))
+          (landed_before v m gid h claim (take n runs) f f' was.did mirror p at n'
+          (λ t. Landed gid claim.id claim.mirror part t.now ∷ []) f'' o c.in_default.not-Went c.land_part.ensures.did came);
+      alone = λ told want kept.
+          let kept_then = was.on.wants gid want kept in
+          let stored = c.tells_stored-in-loop-place.ensures.stored told gid want (so.going c.requires.going) kept_then in
+          let files = (stored.held (d.state m.disk).seen (d.state m.disk).own_image).files in
+          beside_all want runs (n + 1) (d.state v.disk).seen (d.state n'.disk).seen
+          (beside_next want runs n part within there (d.state v.disk).seen (d.state m.disk).seen (d.state n'.disk).seen
+          (c.land_part.ensures.outside told want kept_then files) (was.alone told want kept));
     }
 
 pub returns : goal.returns
@@ -227,4 +271,9 @@ returns g c =
       disk = was.disk;
       left = λ over. absurd (over refl);
       counted = subst (λ k. LandedBetween k v.machine.past m.machine.past) (sym was.counted) so.counted;
+      written = λ told h mirror p at came. lands_part v gid h c.args.run p c.args.bytes.now (d.state m.disk).seen (take n runs)
+          c.requires.going.opened (was.written told)
+          (landed_there v m gid h claim (take n runs) f f' was.did mirror p at came);
+      alone = λ told want kept.
+          beside_all want runs n (d.state v.disk).seen (d.state m.disk).seen (was.alone told want kept);
     }

@@ -17,14 +17,15 @@ use Rattle.machine_core.specs.declared.events.Event.{Event}
 use Rattle.machine_core.specs.declared.events.Event.TheVariants.{Ended, Landed}
 use Rattle.machine_core.proofs.Begun.{copied_is, copied_some}
 use Rattle.machine_core.proofs.Here.{told_some}
-use Rattle.resume_core.specs.Runs.{run_len}
+use Rattle.resume_core.specs.Runs.{HoldsRun, TornRun, run_len}
 use Rattle.resume_core.specs.States.{StaysSound}
 use Rattle.span_map.specs.Jobs.{IsRun}
 use Rattle.stored_run.specs.Landings.{HasRunLen, IsOneUnder}
 use Rattle.stored_run.specs.Steps.{turn_from}
 use Rattle.stored_run.specs.Stored.{saved_listing}
 use Rattle.stored_run.proofs.Doing.{part_event, part_none, risen}
-use Rattle.stored_run.proofs.LandedRuns.{WritesLanding, kept_there, kept_within, landing_goes, landing_going, landing_one, landing_want, landed_kept, failed_kept, fault_may, holds_view, moved_to, own_next, run_len_of, starved_kept, still_stored, stores_view, writes_same}
+use Rattle.stored_run.proofs.LandedBytes.{read_view}
+use Rattle.stored_run.proofs.LandedRuns.{WritesLanding, kept_there, kept_within, landing_goes, landing_going, landing_one, landing_want, landed_kept, failed_kept, fault_may, moved_to, own_next, run_len_of, starved_kept, still_stored, stores_view, writes_same}
 use Rattle.stored_run.proofs.Endings.{unended}
 use Rattle.stored_run.proofs.Left.{ended_left, going_left, held_stored}
 use Rattle.stored_run.proofs.Own.{own_legal}
@@ -219,8 +220,6 @@ ended-requires-clause-legal g c =
     let may = back_to
     (λ w. MayFollow w.machine.start w.machine.past (Landed a.gid a.claim.id a.claim.mirror a.run w.now)) _ _
     c.self.view_is c.requires.may in
-    let w = landing_want laws plans.follow plans.of_pieces _ _ _ m.start m.past r.wants.items r.now c.self.invariant
-    a.gid a.claim.id a.claim.mirror a.run may in
     let count = c.faults-count.result in
     let rose = subst (λ (n : ℕ). Rose (g.D.Disk.faults r.disk) n) (sym c.faults-count.ensures)
     (c.in-Err-Disk.ensures.cause.disk (rw c.in-Err-Disk.field-0-is refl)) in
@@ -303,13 +302,6 @@ returns-in-Ok-clause-did g c =
     let a = c.args in
     let r = c.self.inside in
     let m = r.machine in
-    let laws = c.runs_follow.ensures in
-    let plans = c.plan_laws.ensures in
-    let may = back_to
-    (λ w. MayFollow w.machine.start w.machine.past (Landed a.gid a.claim.id a.claim.mirror a.run w.now)) _ _
-    c.self.view_is c.requires.may in
-    let w = landing_want laws plans.follow plans.of_pieces _ _ _ m.start m.past r.wants.items r.now c.self.invariant
-    a.gid a.claim.id a.claim.mirror a.run may in
     let came = c.landed.ensures.event in
     let one = back_to (λ v. IsOneUnder v.machine a.gid a.claim) _ _ c.self.view_is c.requires.one in
     let is = landing_one m a.gid a.claim a.run r.now came.event one came.is came.may in
@@ -329,13 +321,6 @@ returns-in-Err-Disk-clause-did g c =
     let a = c.args in
     let r = c.self.inside in
     let m = r.machine in
-    let laws = c.runs_follow.ensures in
-    let plans = c.plan_laws.ensures in
-    let may = back_to
-    (λ w. MayFollow w.machine.start w.machine.past (Landed a.gid a.claim.id a.claim.mirror a.run w.now)) _ _
-    c.self.view_is c.requires.may in
-    let w = landing_want laws plans.follow plans.of_pieces _ _ _ m.start m.past r.wants.items r.now c.self.invariant
-    a.gid a.claim.id a.claim.mirror a.run may in
     let count = c.faults-count.result in
     let rose = subst (λ (n : ℕ). Rose (g.D.Disk.faults r.disk) n) (sym c.faults-count.ensures)
     (c.in-Err-Disk.ensures.cause.disk (rw c.in-Err-Disk.field-0-is refl)) in
@@ -361,13 +346,6 @@ returns-in-Err-NoMemory-clause-did g c =
     let a = c.args in
     let r = c.self.inside in
     let m = r.machine in
-    let laws = c.runs_follow.ensures in
-    let plans = c.plan_laws.ensures in
-    let may = back_to
-    (λ w. MayFollow w.machine.start w.machine.past (Landed a.gid a.claim.id a.claim.mirror a.run w.now)) _ _
-    c.self.view_is c.requires.may in
-    let w = landing_want laws plans.follow plans.of_pieces _ _ _ m.start m.past r.wants.items r.now c.self.invariant
-    a.gid a.claim.id a.claim.mirror a.run may in
     let v = a.self.now in
     let faults = ap (λ w. g.D.Disk.faults w.disk) c.self.view_is in
     let more = c.write_held.ensures.cause.later in
@@ -489,22 +467,49 @@ pub returns-in-Ok-clause-written : goal.returns-in-Ok-clause-written
 returns-in-Ok-clause-written g c went told =
     let a = c.args in
     let r = c.self.inside in
-    let m = r.machine in
-    let laws = c.runs_follow.ensures in
-    let plans = c.plan_laws.ensures in
-    let may = back_to
-    (λ w. MayFollow w.machine.start w.machine.past (Landed a.gid a.claim.id a.claim.mirror a.run w.now)) _ _
-    c.self.view_is c.requires.may in
-    let w = landing_want laws plans.follow plans.of_pieces _ _ _ m.start m.past r.wants.items r.now c.self.invariant
-    a.gid a.claim.id a.claim.mirror a.run may in
-    let at = told_some (λ n. n ≡ place_in m.start m.past a.gid) c.place.result c.unwrap-place.result
+    let at = told_some (λ n. n ≡ place_in r.machine.start r.machine.past a.gid) c.place.result c.unwrap-place.result
     c.unwrap-place.ensures c.place.ensures.first in
-    let entry = kept_there r.wants.items (place_in m.start m.past a.gid) w.want c.index.result.now w.kept
-    (c.index.ensures ∙ ap (λ n. get_or r.wants.items n c.index.result.now) at) in
-    let same = copied_is c.as_ref.result c.unwrap-want.result w.want c.unwrap-want.ensures
-    (c.as_ref.ensures.value ∙ entry) in
-    holds_view g.D.Disk.state _ a.self.now (g.D.Disk.state c.write_held.new.disk) a.gid a.run a.bytes.now
-    c.unwrap-want.result.now w.want c.self.view_is w.kept same (c.in-Ok.ensures.stands told)
+    read_view (λ w b. HoldsRun w a.run a.bytes.now b.seen (g.D.Disk.state c.write_held.new.disk).seen) g.D.Disk.state _ _
+    a.gid c.index.result.now c.unwrap-want.result.now
+    c.self.view_is (c.index.ensures ∙ ap (λ n. get_or r.wants.items n c.index.result.now) at)
+    (λ w is. copied_is c.as_ref.result c.unwrap-want.result w c.unwrap-want.ensures (c.as_ref.ensures.value ∙ is))
+    (c.in-Ok.ensures.stands told)
+
+pub returns-in-Ok-clause-outside : goal.returns-in-Ok-clause-outside
+returns-in-Ok-clause-outside g c told want kept =
+    let a = c.args in
+    let r = c.self.inside in
+    let at = told_some (λ n. n ≡ place_in r.machine.start r.machine.past a.gid) c.place.result c.unwrap-place.result
+    c.unwrap-place.ensures c.place.ensures.first in
+    (read_view (λ w b. TornRun w a.run b.seen (g.D.Disk.state c.write_held.new.disk).seen) g.D.Disk.state _ _ a.gid
+    c.index.result.now c.unwrap-want.result.now
+    c.self.view_is (c.index.ensures ∙ ap (λ n. get_or r.wants.items n c.index.result.now) at)
+    (λ w is. copied_is c.as_ref.result c.unwrap-want.result w c.unwrap-want.ensures (c.as_ref.ensures.value ∙ is))
+    (c.write_held.ensures.torn told) want kept).outside
+
+pub returns-in-Err-Disk-clause-outside : goal.returns-in-Err-Disk-clause-outside
+returns-in-Err-Disk-clause-outside g c told want kept =
+    let a = c.args in
+    let r = c.self.inside in
+    let at = told_some (λ n. n ≡ place_in r.machine.start r.machine.past a.gid) c.place.result c.unwrap-place.result
+    c.unwrap-place.ensures c.place.ensures.first in
+    (read_view (λ w b. TornRun w a.run b.seen (g.D.Disk.state c.write_held.new.disk).seen) g.D.Disk.state _ _ a.gid
+    c.index.result.now c.unwrap-want.result.now
+    c.self.view_is (c.index.ensures ∙ ap (λ n. get_or r.wants.items n c.index.result.now) at)
+    (λ w is. copied_is c.as_ref.result c.unwrap-want.result w c.unwrap-want.ensures (c.as_ref.ensures.value ∙ is))
+    (c.write_held.ensures.torn told) want kept).outside
+
+pub returns-in-Err-NoMemory-clause-outside : goal.returns-in-Err-NoMemory-clause-outside
+returns-in-Err-NoMemory-clause-outside g c told want kept =
+    let a = c.args in
+    let r = c.self.inside in
+    let at = told_some (λ n. n ≡ place_in r.machine.start r.machine.past a.gid) c.place.result c.unwrap-place.result
+    c.unwrap-place.ensures c.place.ensures.first in
+    (read_view (λ w b. TornRun w a.run b.seen (g.D.Disk.state c.write_held.new.disk).seen) g.D.Disk.state _ _ a.gid
+    c.index.result.now c.unwrap-want.result.now
+    c.self.view_is (c.index.ensures ∙ ap (λ n. get_or r.wants.items n c.index.result.now) at)
+    (λ w is. copied_is c.as_ref.result c.unwrap-want.result w c.unwrap-want.ensures (c.as_ref.ensures.value ∙ is))
+    (c.write_held.ensures.torn told) want kept).outside
 
 pub returns-in-Err-Disk-clause-left : goal.returns-in-Err-Disk-clause-left
 returns-in-Err-Disk-clause-left g c over told =

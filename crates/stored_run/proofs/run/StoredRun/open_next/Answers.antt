@@ -23,6 +23,8 @@ use Rattle.stored_run.proofs.OpenDisk.{opens_none_of, other_opened}
 use Rattle.stored_run.proofs.OpenNext.{before_opening, has_plan, ok_some, unopened_next}
 use Rattle.stored_run.proofs.OpenParts.{clash_count, clash_row, opened_row, starved_row}
 use Rattle.stored_run.proofs.PlainEvents.{continues_event, told_so}
+use Rattle.stored_run.proofs.RefusedEnds.{clash_ends, none_ends}
+use Rattle.stored_run.proofs.Unchecked.{checks_truly, unchecked_one, unchecked_still}
 use Rattle.stored_run.proofs.run.StoredRun.open_next.Goals as goal
 
 pub returns-in_default-clause-row : goal.returns-in_default-clause-row
@@ -153,3 +155,38 @@ returns-in_default-make_want-clause-leaves g c told =
     opens_none_of c.runs_follow.ensures d.tells (d.faults v.disk) v v (d.state v.disk) c.tells_stored.ensures told
     (λ h goes. refl) c.args.gid NoMemory
     (unopened_next c.runs_follow.ensures v c.args.gid c.tells_stored.ensures.legal c.requires.next)
+
+pub returns-in_default-clause-ends : goal.returns-in_default-clause-ends
+returns-in_default-clause-ends g c told =
+    none_ends c.args.self.now c.args.self.now (g.D.Disk.state c.args.self.now.disk).seen refl
+
+pub returns-in-Some-clause-ends : goal.returns-in-Some-clause-ends
+returns-in-Some-clause-ends g c told =
+    let v = c.args.self.now in
+    let m = c.self.inside.machine in
+    let how = c.in-Some.end in
+    clash_ends v c.end_unopened.new.self m (g.D.Disk.state v.disk).seen c.args.gid how
+    (told_some (HasClash m c.args.gid) _ how c.in-Some.is c.in-Ok.ensures.found) c.end_unopened.ensures.past
+
+pub returns-in_default-make_want-clause-ends : goal.returns-in_default-make_want-clause-ends
+returns-in_default-make_want-clause-ends g c told =
+    none_ends c.args.self.now c.args.self.now (g.D.Disk.state c.args.self.now.disk).seen refl
+
+pub returns-in_default-clause-checks : goal.returns-in_default-clause-checks
+returns-in_default-clause-checks g c told =
+    let v = c.args.self.now in unchecked_still v v (g.D.Disk.state v.disk).seen refl
+
+pub returns-in-Some-clause-checks : goal.returns-in-Some-clause-checks
+returns-in-Some-clause-checks g c told =
+    let n = c.end_unopened.new.self in
+    unchecked_one c.args.self.now n (g.D.Disk.state n.disk).seen (Ended c.args.gid c.in-Some.end)
+    c.end_unopened.ensures.past tt
+
+pub returns-in-Ok-Some-clause-checks : goal.returns-in-Ok-Some-clause-checks
+returns-in-Ok-Some-clause-checks g c told =
+    let n = c.open_one.new.self in
+    checks_truly c.args.gid c.args.self.now n (g.D.Disk.state n.disk).seen (c.open_one.ensures.checks told)
+
+pub returns-in_default-make_want-clause-checks : goal.returns-in_default-make_want-clause-checks
+returns-in_default-make_want-clause-checks g c told =
+    let v = c.args.self.now in unchecked_still v v (g.D.Disk.state v.disk).seen refl

@@ -10,6 +10,8 @@ use Rattle.stored_run.proofs.Findings.{gid_found}
 use Rattle.stored_run.proofs.OfOne.{IsOwnEvent, all_own, ending_in, none_in, own_all, part_others}
 use Rattle.stored_run.proofs.OpenDisk.{opening_in, opens_not, opens_then, other_opened, stopped_by}
 use Rattle.stored_run.proofs.Parts.{added_still, grown_by}
+use Rattle.stored_run.proofs.RefusedEnds.{ends_opened}
+use Rattle.stored_run.proofs.Unchecked.{checks_later, checks_none, unchecked_opening}
 use Rattle.stored_run.proofs.run.StoredRun.open_one.Goals as goal
 
 pub end_if_done-requires-clause-going : goal.end_if_done-requires-clause-going
@@ -62,6 +64,31 @@ returns-in-Went-clause-leaves g c told said answers =
     (c.resume_one.ensures.opened c.in-Went.is) 2 c.end_if_done.ensures.on grown (c.end_if_done.ensures.disk told)
     (c.end_if_done.ensures.payload told) (c.end_if_done.ensures.left told) said
 
+pub returns-in-Went-clause-ends : goal.returns-in-Went-clause-ends
+returns-in-Went-clause-ends g c told h how came =
+    let d = g.D.Disk in
+    let v = c.args.self.now in
+    let a = c.resume_one.new.self in
+    let n = c.end_if_done.new.self in
+    let gid = c.args.gid in
+    let has = c.requires.to_open.has in
+    let there = added_still (λ at. OpeningPhase at gid) v a 1 (d.faults v.disk) (d.faults a.disk) c.resume_one.result
+    c.resume_one.ensures.on c.resume_one.ensures.did c.runs_follow.ensures gid has.download has.added in
+    let second = c.end_if_done.ensures.did has.download there in
+    ends_opened v a n (d.faults v.disk) (d.faults a.disk) (d.faults n.disk) c.resume_one.result c.end_if_done.result gid
+    has.download (d.state v.disk).seen c.resume_one.ensures.did second (c.resume_one.ensures.ends told) h how came
+
+pub returns-in-Went-clause-checks : goal.returns-in-Went-clause-checks
+returns-in-Went-clause-checks g c told =
+    let d = g.D.Disk in
+    let v = c.args.self.now in
+    let a = c.resume_one.new.self in
+    let n = c.end_if_done.new.self in
+    let gid = c.args.gid in
+    checks_later (λ at. OpeningPhase at gid) v a (d.faults v.disk) (d.faults a.disk) c.resume_one.result
+    c.resume_one.ensures.did (unchecked_opening (turn_from v (d.faults v.disk)) gid) gid n (d.state n.disk).seen
+    (c.end_if_done.ensures.checks told)
+
 pub returns-in_default : goal.returns-in_default
 returns-in_default g c =
     let d = g.D.Disk in
@@ -86,4 +113,8 @@ returns-in_default g c =
           (c.resume_one.ensures.disk told) said (c.resume_one.ensures.shut c.in_default.not-Went)
           (stopped_by c.resume_one.result said c.in_default.not-Went answers
           (λ over. c.resume_one.ensures.reason over told));
+      ends = c.resume_one.ensures.ends;
+      checks = λ told. checks_none (λ at. OpeningPhase at gid) v a (d.faults v.disk) (d.faults a.disk)
+          c.resume_one.result c.resume_one.ensures.did
+          (unchecked_opening (turn_from v (d.faults v.disk)) gid) gid (d.state a.disk).seen;
     }

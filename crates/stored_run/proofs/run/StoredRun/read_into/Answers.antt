@@ -25,7 +25,7 @@ use Rattle.stored_run.proofs.Endings.{ended_own, fault_ends, going_facts, may_fa
 use Rattle.stored_run.proofs.Kept.{halts}
 use Rattle.stored_run.proofs.Left.{ended_left, going_left, held_stored}
 use Rattle.stored_run.proofs.Single.{read_run, stored_read}
-use Rattle.stored_run.proofs.Steady.{disk_read, grown_to, one_did}
+use Rattle.stored_run.proofs.Steady.{disk_read, grown_to, one_did, payload_read}
 use Rattle.stored_run.proofs.WantPlaces.{piece_of_want, place_some, want_is, want_some, want_within}
 use Rattle.stored_run.proofs.run.StoredRun.read_into.Goals as goal
 
@@ -256,3 +256,18 @@ returns-in-Err-NoMemory-clause-left g c over told =
 
 pub returns-in-Ok-clause-left : goal.returns-in-Ok-clause-left
 returns-in-Ok-clause-left g c over = absurd (over refl)
+
+pub returns-in-Ok-clause-payload : goal.returns-in-Ok-clause-payload
+returns-in-Ok-clause-payload g c told =
+    payload_read _ _ c.self.view_is g.D.Disk.state c.args.gid (g.D.Disk.state c.read_piece.new.disk)
+    (c.read_piece.ensures.looks told).stays
+
+pub returns-in-Err-Disk-clause-payload : goal.returns-in-Err-Disk-clause-payload
+returns-in-Err-Disk-clause-payload g c told =
+    payload_read _ _ c.self.view_is g.D.Disk.state c.args.gid (g.D.Disk.state c.read_piece.new.disk)
+    (c.read_piece.ensures.looks told).stays
+
+pub returns-in-Err-NoMemory-clause-payload : goal.returns-in-Err-NoMemory-clause-payload
+returns-in-Err-NoMemory-clause-payload g c told =
+    payload_read _ _ c.self.view_is g.D.Disk.state c.args.gid (g.D.Disk.state c.read_piece.new.disk)
+    (c.read_piece.ensures.looks told).stays

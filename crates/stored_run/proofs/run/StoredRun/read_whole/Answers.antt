@@ -8,6 +8,8 @@ use Rattle.stored_run.proofs.Leaving.{leaves_one}
 use Rattle.stored_run.proofs.Left.{going_left}
 use Rattle.stored_run.proofs.OfOne.{IsOwnEvent, all_own, part_others, read_in}
 use Rattle.stored_run.proofs.Parts.{ends_stored_part}
+use Rattle.stored_run.proofs.KeptBytes.{payloads_one}
+use Rattle.stored_run.proofs.Unchecked.{read_unchecked}
 use Rattle.stored_run.proofs.run.StoredRun.read_whole.Goals as goal
 
 pub returns-in_default-clause-row : goal.returns-in_default-clause-row
@@ -46,3 +48,37 @@ returns-in-Went-clause-leaves g c told =
     (part_others (λ at. AfterDisk at gid []) v a 1 (d.faults v.disk) (d.faults a.disk) c.read_into.result gid
     c.read_into.ensures.on c.read_into.ensures.did
     (read_in (IsOwnEvent gid) (turn_from v (d.faults v.disk)) gid (all_own gid)))
+
+pub returns-in_default-clause-payloads : goal.returns-in_default-clause-payloads
+returns-in_default-clause-payloads g c told =
+    let d = g.D.Disk in
+    let v = c.args.self.now in
+    let a = c.read_into.new.self in
+    payloads_one c.runs_follow.ensures d.tells (d.faults v.disk) v (d.state v.disk) (d.state a.disk) c.tells_stored.ensures
+    c.args.gid c.requires.going (λ want kept. (c.read_into.ensures.disk told want kept).besides)
+    (c.read_into.ensures.payload told)
+
+pub returns-in-Went-clause-payloads : goal.returns-in-Went-clause-payloads
+returns-in-Went-clause-payloads g c told =
+    let d = g.D.Disk in
+    let v = c.args.self.now in
+    let a = c.read_into.new.self in
+    payloads_one c.runs_follow.ensures d.tells (d.faults v.disk) v (d.state v.disk) (d.state a.disk) c.tells_stored.ensures
+    c.args.gid c.requires.going (λ want kept. (c.read_into.ensures.disk told want kept).besides)
+    (c.read_into.ensures.payload told)
+
+pub returns-in_default-clause-checks : goal.returns-in_default-clause-checks
+returns-in_default-clause-checks g c told =
+    let d = g.D.Disk in
+    let v = c.args.self.now in
+    let a = c.read_into.new.self in
+    read_unchecked v a c.args.gid (d.faults v.disk) (d.faults a.disk) c.read_into.result c.read_into.ensures.did
+    (d.state a.disk).seen
+
+pub returns-in-Went-clause-checks : goal.returns-in-Went-clause-checks
+returns-in-Went-clause-checks g c told =
+    let d = g.D.Disk in
+    let v = c.args.self.now in
+    let a = c.read_into.new.self in
+    read_unchecked v a c.args.gid (d.faults v.disk) (d.faults a.disk) c.read_into.result c.read_into.ensures.did
+    (d.state a.disk).seen

@@ -12,6 +12,7 @@ use Rattle.machine_core.specs.RunLegal.{MayFollow, disk_fault_of}
 use Rattle.machine_core.specs.declared.events.Event.TheVariants.{Ended, Opened as OpenedEvent}
 use Rattle.resume_core.specs.Refusals.{open_refusal}
 use Rattle.stored_run.specs.Opening.{IsDiskEnd, IsRefusedSince, IsToResume, OpensOn, is_checked_of}
+use Rattle.stored_run.specs.Refused.{IsEndAsRead}
 use Rattle.stored_run.specs.Steps.{turn_from}
 use Rattle.stored_run.specs.Views.{own_in}
 use Rattle.stored_run.specs.declared.run.StoredView.{StoredView}
@@ -21,6 +22,7 @@ use Rattle.stored_run.proofs.Kept.{own_at}
 use Rattle.stored_run.proofs.OpenNext.{err_some, ok_holds}
 use Rattle.stored_run.proofs.OpenParts.{continues_still, ended_failed, finds_still, on_still, opens_none, opens_still, own_still, part_still, place_low, place_there, still_on}
 use Rattle.stored_run.proofs.PlainEvents.{continues_event, told_so}
+use Rattle.stored_run.proofs.RefusedEnds.{no_end, none_ends, one_end}
 use Rattle.stored_run.proofs.run.StoredRun.resume_one.Goals as goal
 
 pub unwrap-place-requires : goal.unwrap-place-requires
@@ -320,3 +322,55 @@ returns-clause-shut g c stopped =
     let b = c.resume_want.new.self in
     let still = still_on v a b c.hold_place.ensures.still c.resume_want.ensures.still in
     ap is_opened (own_still v b still c.args.gid) ∙ c.requires.to_open.before.opening.unopened
+
+pub returns-then-is_err-clause-ends : goal.returns-then-is_err-clause-ends
+returns-then-is_err-clause-ends g c told =
+    none_ends c.args.self.now c.hold_place.new.self (g.D.Disk.state c.args.self.now.disk).seen
+    (ap (λ (m : MachineView). m.past) c.hold_place.ensures.still.machine)
+
+pub returns-in-Ok-open_as-clause-ends : goal.returns-in-Ok-open_as-clause-ends
+returns-in-Ok-open_as-clause-ends g c told =
+    let v = c.args.self.now in
+    let a = c.hold_place.new.self in
+    let b = c.resume_want.new.self in
+    let still = still_on v a b c.hold_place.ensures.still c.resume_want.ensures.still in
+    let opened = c.in-Ok.opened in
+    no_end v c.open_as.new.self (g.D.Disk.state v.disk).seen
+    (OpenedEvent c.args.gid opened.verified opened.blocks v.now)
+    (opens_still v b still c.args.gid c.args.want opened c.open_as.new.self c.in-Ok-open_as.ensures.came).past
+    (λ gid how same. absurd cc)
+
+pub returns-in-Ok-clause-ends : goal.returns-in-Ok-clause-ends
+returns-in-Ok-clause-ends g c told =
+    let v = c.args.self.now in
+    let a = c.hold_place.new.self in
+    let b = c.resume_want.new.self in
+    let still = still_on v a b c.hold_place.ensures.still c.resume_want.ensures.still in
+    none_ends v c.open_as.new.self (g.D.Disk.state v.disk).seen
+    (c.in-Err.ensures.same.past ∙ ap (λ (m : MachineView). m.past) still.machine)
+
+pub returns-in-Err-Some-clause-ends : goal.returns-in-Err-Some-clause-ends
+returns-in-Err-Some-clause-ends g c told =
+    let d = g.D.Disk in
+    let v = c.args.self.now in
+    let a = c.hold_place.new.self in
+    let b = c.resume_want.new.self in
+    let n = c.end_unopened.new.self in
+    let gid = c.args.gid in
+    let how = c.in-Err-Some.end in
+    let still = still_on v a b c.hold_place.ensures.still c.resume_want.ensures.still in
+    let ends = err_some (λ h. IsTrue d.tells → IsEndAsRead a gid (d.state a.disk).seen h) c.resume_want.result
+    c.in-Err-Some.field-0 how c.in-Err-Some.is c.in-Err-Some.field-0-is c.resume_want.ensures.ends in
+    one_end v n (d.state v.disk).seen gid how
+    (c.end_unopened.ensures.past ∙ ap (λ (m : MachineView). Ended gid how ∷ m.past) still.machine)
+    (subst (λ x. IsEndAsRead v gid (d.state x).seen how) c.hold_place.ensures.disk
+    (subst (λ (m : MachineView). IsEndAsRead (record v { machine = m }) gid (d.state a.disk).seen how)
+    c.hold_place.ensures.still.machine (ends told)))
+
+pub returns-clause-ends : goal.returns-clause-ends
+returns-clause-ends g c told =
+    let v = c.args.self.now in
+    let a = c.hold_place.new.self in
+    let b = c.resume_want.new.self in
+    let still = still_on v a b c.hold_place.ensures.still c.resume_want.ensures.still in
+    none_ends v b (g.D.Disk.state v.disk).seen (ap (λ (m : MachineView). m.past) still.machine)

@@ -5,9 +5,11 @@ use Rattle.machine_core.specs.declared.events.Event.TheVariants.{Ended}
 use Rattle.resume_core.specs.Openings.{OpensJust, is_compared}
 use Rattle.resume_core.specs.Refusals.{open_refusal}
 use Rattle.stored_run.specs.Opening.{FindsJust, IsDiskEnd, IsRefusedSince, IsToResume, OpensOn, is_checked_of}
+use Rattle.stored_run.specs.Refused.{IsEndAsRead}
 use Rattle.stored_run.specs.declared.run.StoredView.{StoredView}
 use Rattle.stored_run.proofs.OpenNext.{refusal_count, refusal_may, refusal_reason, refusal_since, refused_some, rose_open}
 use Rattle.stored_run.proofs.Openings.{apart_opening, resumed_kept}
+use Rattle.stored_run.proofs.RefusedEnds.{refusal_ends}
 use Rattle.stored_run.proofs.run.StoredRun.resume_want.Goals as goal
 
 pub invariant_of-self : goal.invariant_of-self
@@ -114,4 +116,20 @@ returns-clause-reason g c =
     (refusal_reason bad.faults-faults.result bad.in-Err.err bad.end_of.result bad.end_of.ensures
     (λ told is. refused_some (open_refusal a.want.now (d.state u.disk).seen) bad.in-Err.err
     ((bad.in-Err.ensures.refuses told).refused is)))))
+    c.match-resume.branch-raw
+
+pub returns-clause-ends : goal.returns-clause-ends
+returns-clause-ends g c =
+    let d = g.D.Disk in
+    let u = c.self.inside in
+    let a = c.args in
+    let is = subst (λ (v : StoredView _). IsToResume v.machine a.gid a.want.now) (sym c.self.view_is) c.requires in
+    ⊎_elim (λ ok. rw ok.result-is tt)
+    (λ bad. rw bad.result-is
+    (subst
+    (λ (v : StoredView _). IfSome bad.end_of.result
+    (λ how. IsTrue d.tells → IsEndAsRead v a.gid (d.state v.disk).seen how)) c.self.view_is
+    (refusal_ends u.machine.start u.machine.past a.gid a.want.now (d.state u.disk).seen is.has
+    bad.faults-faults.result bad.in-Err.err bad.end_of.result
+    bad.end_of.ensures (λ told. (bad.in-Err.ensures.refuses told).refused))))
     c.match-resume.branch-raw

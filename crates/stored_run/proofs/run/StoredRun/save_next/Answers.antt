@@ -1,8 +1,9 @@
-use Rattle.std.proofs.Common.{◌∙◌}
+use Rattle.std.proofs.Common.{◌∙◌, ap}
 use Rattle.engine_turns.specs.Phases.{SavePhase}
-use Rattle.stored_run.proofs.EachSaved.{part_roomier, stored_roomier, stores_room, stores_roomier}
+use Rattle.stored_run.proofs.EachSaved.{part_roomier, stored_roomier, stores_room, stores_roomier, between_none}
 use Rattle.stored_run.specs.Views.{own_in}
 use Rattle.stored_run.proofs.Left.{held_stored}
+use Rattle.resume_core.specs.Wants.{files_in}
 use Rattle.stored_run.proofs.run.StoredRun.save_next.Goals as goal
 
 pub save_one-requires-clause-stored : goal.save_one-requires-clause-stored
@@ -38,3 +39,15 @@ returns-else-make_room-clause-held g c told want kept =
     let state = g.D.Disk.state in
     held_stored want (own_in a c.args.gid) (state a.disk)
     ((stored_roomier c.args.self.now a c.make_room.ensures.same state c.args.gid (c.requires.stored told)).stored want kept)
+
+pub returns-then-make_room-clause-payload : goal.returns-then-make_room-clause-payload
+returns-then-make_room-clause-payload g c told want kept =
+    let v = c.args.self.now in
+    let a = c.make_room.new.self in
+    let same = c.make_room.ensures.same in
+    c.save_one.ensures.payload told want ((between_none v a same).on.wants c.args.gid want kept)
+    ∙ ap (λ x. files_in want (g.D.Disk.state x).seen) same.disk
+
+pub returns-else-make_room-clause-payload : goal.returns-else-make_room-clause-payload
+returns-else-make_room-clause-payload g c told want kept =
+    ap (λ x. files_in want (g.D.Disk.state x).seen) c.make_room.ensures.same.disk

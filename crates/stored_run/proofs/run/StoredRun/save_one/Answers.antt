@@ -23,6 +23,7 @@ use Rattle.stored_run.proofs.Findings.{saved_own}
 use Rattle.stored_run.proofs.Left.{ended_left, held_ended, held_stored, held_told, left_of, left_told, not_complete, save_held}
 use Rattle.stored_run.proofs.Own.{own_legal}
 use Rattle.stored_run.proofs.SaveOne.{appended, kept_here, may_fail, may_save, past_by, progress_by, save_stores, saved_stored, table_fits, table_here, there_if_opened, unsaved_stored}
+use Rattle.stored_run.proofs.Steady.{payload_at}
 use Rattle.stored_run.proofs.Touching.{calls_kept, ending_kept, event_kept}
 use Rattle.stored_run.proofs.run.StoredRun.save_one.Goals as goal
 
@@ -456,3 +457,30 @@ returns-in-Err-NoMemory-clause-held g c told =
     (c.save_held.ensures.payload told) stored) in
     λ other is.
     subst (λ (v : Want). IsLeftHeld v (own_of m.start m.past gid) new) (same_Some want other (sym kept ∙ is)) held
+
+pub returns-in-Ok-clause-payload : goal.returns-in-Ok-clause-payload
+returns-in-Ok-clause-payload g c told =
+    let m = c.self.inside.machine in
+    let gid = c.args.gid in
+    let kept = kept_here m c.self.inside.wants.items gid c.deref.result.now c.want_of.result c.unwrap-want.result
+    c.deref.ensures.value c.want_of.ensures c.unwrap-want.ensures in
+    payload_at _ _ c.self.view_is g.D.Disk.state gid c.unwrap-want.result.now kept
+    (g.D.Disk.state c.save_held.new.disk) (c.save_held.ensures.payload told)
+
+pub returns-in-Err-Disk-clause-payload : goal.returns-in-Err-Disk-clause-payload
+returns-in-Err-Disk-clause-payload g c told =
+    let m = c.self.inside.machine in
+    let gid = c.args.gid in
+    let kept = kept_here m c.self.inside.wants.items gid c.deref.result.now c.want_of.result c.unwrap-want.result
+    c.deref.ensures.value c.want_of.ensures c.unwrap-want.ensures in
+    payload_at _ _ c.self.view_is g.D.Disk.state gid c.unwrap-want.result.now kept
+    (g.D.Disk.state c.save_held.new.disk) (c.save_held.ensures.payload told)
+
+pub returns-in-Err-NoMemory-clause-payload : goal.returns-in-Err-NoMemory-clause-payload
+returns-in-Err-NoMemory-clause-payload g c told =
+    let m = c.self.inside.machine in
+    let gid = c.args.gid in
+    let kept = kept_here m c.self.inside.wants.items gid c.deref.result.now c.want_of.result c.unwrap-want.result
+    c.deref.ensures.value c.want_of.ensures c.unwrap-want.ensures in
+    payload_at _ _ c.self.view_is g.D.Disk.state gid c.unwrap-want.result.now kept
+    (g.D.Disk.state c.save_held.new.disk) (c.save_held.ensures.payload told)

@@ -1,4 +1,4 @@
-use Rattle.std.proofs.Common.{◌≤◌, ◌∙◌, List, [], ℕ, ap, arith, subst, sym}
+use Rattle.std.proofs.Common.{List, [], ap, arith, subst, sym, ℕ, ◌∙◌, ◌≤◌}
 use Rattle.engine_turns.specs.Phases.{AfterDisk}
 use Rattle.engine_turns.specs.Standings.{AnswersUnlessStarved}
 use Rattle.engine_turns.specs.declared.operations.Said.{Said}
@@ -15,6 +15,9 @@ use Rattle.stored_run.proofs.SealedPieces.{going_still, not_void, reads_one, rea
 use Rattle.stored_run.proofs.Leaving.{leaves_one}
 use Rattle.stored_run.proofs.OfOne.{IsOwnEvent, all_own, own_all, part_others, read_in, seal_others}
 use Rattle.stored_run.proofs.Findings.{gid_found}
+use Rattle.resume_core.proofs.Openings.{besides_on}
+use Rattle.stored_run.proofs.KeptBytes.{payload_on, payloads_one}
+use Rattle.stored_run.proofs.Unchecked.{checks_later, checks_truly, read_unchecked, unchecked_read}
 use Rattle.stored_run.proofs.run.StoredRun.seal.Goals as goal
 
 pub settle_if_same-requires-clause-going : goal.settle_if_same-requires-clause-going
@@ -176,3 +179,47 @@ pub returns-clause-void : goal.returns-clause-void
 returns-clause-void g c told void reads =
     not_void c.read_into.result
     (subst (λ (x : Said). AnswersUnlessStarved Done c.read_into.result x) void c.done_unless_starved.ensures)
+
+pub returns-in-Went-clause-payloads : goal.returns-in-Went-clause-payloads
+returns-in-Went-clause-payloads g c told =
+    let d = g.D.Disk in
+    let v = c.args.self.now in
+    let a = c.read_into.new.self in
+    let n = c.settle_if_same.new.self in
+    let gid = c.args.gid in
+    payloads_one c.runs_follow.ensures d.tells (d.faults v.disk) v (d.state v.disk) (d.state n.disk) c.tells_stored.ensures
+    gid c.requires.going
+    (λ want kept. besides_on want (d.state v.disk) (d.state a.disk) (d.state n.disk)
+    (c.read_into.ensures.disk told want kept).besides
+    (c.settle_if_same.ensures.disk told want (c.read_into.ensures.on.wants gid want kept)).besides)
+    (payload_on v a gid (d.state v.disk) (d.state a.disk) (d.state n.disk) c.read_into.ensures.on.wants
+    (c.read_into.ensures.payload told) (c.settle_if_same.ensures.payload told))
+
+pub returns-clause-payloads : goal.returns-clause-payloads
+returns-clause-payloads g c told =
+    let d = g.D.Disk in
+    let v = c.args.self.now in
+    let a = c.read_into.new.self in
+    payloads_one c.runs_follow.ensures d.tells (d.faults v.disk) v (d.state v.disk) (d.state a.disk) c.tells_stored.ensures
+    c.args.gid c.requires.going (λ want kept. (c.read_into.ensures.disk told want kept).besides)
+    (c.read_into.ensures.payload told)
+
+pub returns-in-Went-clause-checks : goal.returns-in-Went-clause-checks
+returns-in-Went-clause-checks g c told =
+    let d = g.D.Disk in
+    let v = c.args.self.now in
+    let a = c.read_into.new.self in
+    let n = c.settle_if_same.new.self in
+    let gid = c.args.gid in
+    checks_truly gid v n (d.state n.disk).seen
+    (checks_later (λ at. AfterDisk at gid []) v a (d.faults v.disk) (d.faults a.disk) c.read_into.result
+    c.read_into.ensures.did (unchecked_read (turn_from v (d.faults v.disk)) gid) gid n (d.state n.disk).seen
+    (c.settle_if_same.ensures.checks told))
+
+pub returns-clause-checks : goal.returns-clause-checks
+returns-clause-checks g c told =
+    let d = g.D.Disk in
+    let v = c.args.self.now in
+    let a = c.read_into.new.self in
+    read_unchecked v a c.args.gid (d.faults v.disk) (d.faults a.disk) c.read_into.result c.read_into.ensures.did
+    (d.state a.disk).seen

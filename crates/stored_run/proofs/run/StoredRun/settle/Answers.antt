@@ -1,4 +1,4 @@
-use Rattle.std.proofs.Common.{Bool, arith, subst, sym, refl}
+use Rattle.std.proofs.Common.{Bool, arith, subst, sym, refl, ◌∙◌, ap}
 use Rattle.dl_kinds.specs.declared.gid.Gid.{Gid}
 use Rattle.engine_turns.specs.Phases.{FindingPhase, WrongPhase, after_finding_phase}
 use Rattle.engine_turns.specs.declared.outcome.Outcome.TheVariants.{Went}
@@ -7,6 +7,7 @@ use Rattle.stored_run.proofs.Doing.{continues_on, continues_wider, did_nothing, 
 use Rattle.stored_run.proofs.Endings.{going_facts}
 use Rattle.stored_run.proofs.Findings.{gid_found}
 use Rattle.stored_run.proofs.Parts.{added_still, grown_by, stores_part}
+use Rattle.resume_core.specs.Wants.{files_in}
 use Rattle.stored_run.proofs.run.StoredRun.settle.Goals as goal
 
 pub returns-then-right-clause-did : goal.returns-then-right-clause-did
@@ -76,3 +77,12 @@ returns-then-right-clause-left g c over = absurd (over refl)
 
 pub returns-else-right-clause-left : goal.returns-else-right-clause-left
 returns-else-right-clause-left g c over = c.undo.ensures.left over
+
+pub returns-then-right-clause-payload : goal.returns-then-right-clause-payload
+returns-then-right-clause-payload g c told want kept =
+    ap (λ x. files_in want (g.D.Disk.state x).seen) c.find.ensures.untouched
+
+pub returns-else-right-clause-payload : goal.returns-else-right-clause-payload
+returns-else-right-clause-payload g c told want kept =
+    c.undo.ensures.payload told want (c.find.ensures.on.wants c.args.gid want kept)
+    ∙ ap (λ x. files_in want (g.D.Disk.state x).seen) c.find.ensures.untouched

@@ -1,11 +1,12 @@
-use Rattle.std.proofs.Common.{arith, subst}
+use Rattle.std.proofs.Common.{arith, subst, ◌∙◌}
 use Rattle.engine_turns.specs.Phases.{EndingOr, NoEvent, SettlingPhase}
 use Rattle.engine_turns.specs.declared.outcome.Outcome.{Outcome}
 use Rattle.engine_turns.specs.declared.outcome.Outcome.TheVariants.{Went}
-use Rattle.stored_run.specs.Steps.{DoesPart}
+use Rattle.stored_run.specs.Steps.{DoesPart, turn_from}
 use Rattle.stored_run.proofs.Doing.{continues_on, continues_wider, part_on, part_stop}
 use Rattle.stored_run.proofs.Endings.{going_facts}
 use Rattle.stored_run.proofs.Parts.{added_still, ends_part, ends_stored_part, grown_by}
+use Rattle.stored_run.proofs.Unchecked.{checks_later, checks_none, unchecked_settling}
 use Rattle.stored_run.proofs.run.StoredRun.settle_and_end.Goals as goal
 
 pub returns-in-Went-clause-did : goal.returns-in-Went-clause-did
@@ -55,4 +56,31 @@ returns-in_default g c =
       on = continues_wider 4 6 v a (omega arith) c.settle.ensures.on;
       disk = λ told. ends_stored_part v a c.args.gid (d.state v.disk) (d.state a.disk) (c.settle.ensures.disk told);
       left = c.settle.ensures.left c.in_default.not-Went;
+      payload = c.settle.ensures.payload;
+      checks = λ told.
+          let before = going_facts v.machine.start v.machine.past v.wants.items c.args.gid
+          c.tells_stored.ensures.wants_are
+          c.requires.going in
+          checks_none (λ at. SettlingPhase at before.has.download c.args.piece c.args.right) v a (d.faults v.disk)
+          (d.faults a.disk) c.settle.result (c.settle.ensures.did before.has.download before.has.added)
+          (unchecked_settling (turn_from v (d.faults v.disk)) before.has.download c.args.piece c.args.right) c.args.gid
+          (d.state a.disk).seen;
     }
+
+pub returns-in-Went-clause-payload : goal.returns-in-Went-clause-payload
+returns-in-Went-clause-payload g c told want kept =
+    c.end_if_done.ensures.payload told want (c.settle.ensures.on.wants c.args.gid want kept)
+    ∙ c.settle.ensures.payload told want kept
+
+pub returns-in-Went-clause-checks : goal.returns-in-Went-clause-checks
+returns-in-Went-clause-checks g c told =
+    let d = g.D.Disk in
+    let v = c.args.self.now in
+    let a = c.settle.new.self in
+    let n = c.end_if_done.new.self in
+    let before = going_facts v.machine.start v.machine.past v.wants.items c.args.gid c.tells_stored.ensures.wants_are
+    c.requires.going in
+    checks_later (λ at. SettlingPhase at before.has.download c.args.piece c.args.right) v a (d.faults v.disk)
+    (d.faults a.disk) c.settle.result (c.settle.ensures.did before.has.download before.has.added)
+    (unchecked_settling (turn_from v (d.faults v.disk)) before.has.download c.args.piece c.args.right) c.args.gid n
+    (d.state n.disk).seen (c.end_if_done.ensures.checks told)

@@ -4,6 +4,7 @@ use Rattle.stored_run.specs.Settlings.{ReadsPieceOf}
 use Rattle.stored_run.specs.Views.{own_in}
 use Rattle.stored_run.proofs.Doing.{continues_none, continues_wider, ends_stored, grown_none, stores_none}
 use Rattle.stored_run.proofs.Left.{going_left}
+use Rattle.stored_run.proofs.Unchecked.{checks_still}
 use Rattle.stored_run.proofs.run.StoredRun.settle_if_same.Goals as goal
 
 pub settle_sealed-requires-clause-read : goal.settle_sealed-requires-clause-read
@@ -51,3 +52,7 @@ returns-else-are_sealed-clause-left g c told =
     let v = c.args.self.now in
     going_left c.runs_follow.ensures d.tells (d.faults v.disk) (d.state v.disk) v.machine.start v.machine.past v.wants.items
     v.now c.args.gid c.tells_stored.ensures told c.requires.going
+
+pub returns-else-are_sealed-clause-checks : goal.returns-else-are_sealed-clause-checks
+returns-else-are_sealed-clause-checks g c told =
+    let v = c.args.self.now in checks_still c.args.gid v v (g.D.Disk.state v.disk).seen refl

@@ -13,6 +13,8 @@ use Rattle.stored_run.proofs.AfterTelling.{goes_after, may_all, row_here, stored
 use Rattle.stored_run.proofs.CallSaves.{last_are, last_once, last_some, last_went_on}
 use Rattle.stored_run.proofs.EachSaved.{between_stop}
 use Rattle.stored_run.proofs.SavedRows.{saves_starved, stop_row}
+use Rattle.stored_run.specs.Writings.{SavesPayloads}
+use Rattle.stored_run.proofs.KeptBytes.{same_payloads, saved_payloads}
 use Rattle.stored_run.proofs.run.StoredRun.stop.Goals as goal
 
 pub save_all-requires-clause-may : goal.save_all-requires-clause-may
@@ -133,3 +135,24 @@ returns-in-Err-clause-on g c =
     let v = c.args.self.now in
     (between_stop c.runs_follow.ensures (list_any is_stop v.machine.past) v c.tell_stop.new.self
     c.tells_stored.ensures.wants_are c.tell_stop.ensures).on
+
+pub returns-in-Ok-clause-payloads : goal.returns-in-Ok-clause-payloads
+returns-in-Ok-clause-payloads g c told =
+    let d = g.D.Disk in
+    let v = c.args.self.now in
+    let mid = c.tell_stop.new.self in
+    let new = c.save_all.new.self in
+    let laws = c.runs_follow.ensures in
+    let run = c.tells_stored.ensures in
+    let came = c.tell_stop.ensures in
+    let between = between_stop laws (list_any is_stop v.machine.past) v mid run.wants_are came in
+    let legal = c.tells_stored-2.ensures.legal in
+    let due = c.in-Ok.due.items in
+    saved_payloads laws d.tells d.faults d.state v mid run came.disk between due
+    (last_went_on laws v mid legal came between due c.in-Ok.ensures.those) (d.state new.disk)
+    (subst (λ (gids : List Gid). SavesPayloads gids mid (d.state mid.disk) (d.state new.disk)) c.deref.ensures.value
+    (c.save_all.ensures.payloads told))
+
+pub returns-in-Err-clause-payloads : goal.returns-in-Err-clause-payloads
+returns-in-Err-clause-payloads g c told =
+    same_payloads g.D.Disk.state c.args.self.now c.tell_stop.new.self.disk c.tell_stop.ensures.disk

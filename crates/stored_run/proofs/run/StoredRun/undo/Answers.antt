@@ -1,4 +1,4 @@
-use Rattle.std.proofs.Common.{arith, subst, sym}
+use Rattle.std.proofs.Common.{arith, subst, sym, ◌∙◌, ap}
 use Rattle.dl_kinds.specs.declared.gid.Gid.{Gid}
 use Rattle.engine_turns.specs.Phases.{AndThen, DeadPhase, JustEvent, UnlistingPhase}
 use Rattle.engine_turns.specs.declared.outcome.Outcome.{Outcome}
@@ -6,10 +6,12 @@ use Rattle.engine_turns.specs.declared.outcome.Outcome.TheVariants.{Went}
 use Rattle.machine_core.specs.declared.events.Event.TheVariants.{Cleared}
 use Rattle.stored_run.specs.Steps.{DoesPart}
 use Rattle.stored_run.proofs.Doing.{continues_on, continues_wider, grown_on, part_on, part_stop}
-use Rattle.stored_run.specs.Views.{own_in}
-use Rattle.stored_run.proofs.Endings.{going_facts}
+use Rattle.stored_run.specs.Views.{GoesOpened, own_in}
+use Rattle.stored_run.specs.declared.run.StoredView.{StoredView}
+use Rattle.stored_run.proofs.Endings.{going_facts, unended}
 use Rattle.stored_run.proofs.Findings.{gid_found}
 use Rattle.stored_run.proofs.Parts.{added_still, grown_by, stores_part}
+use Rattle.resume_core.specs.Wants.{files_in}
 use Rattle.stored_run.proofs.run.StoredRun.undo.Goals as goal
 
 pub clear-requires-clause-unlisted : goal.clear-requires-clause-unlisted
@@ -92,7 +94,25 @@ returns-in_default g c =
       disk = c.unlist.ensures.disk;
       left = c.unlist.ensures.left;
       still = λ went. absurd (c.in_default.not-Went went);
+      payload = c.unlist.ensures.payload;
     }
 
 pub returns-in-Went-clause-left : goal.returns-in-Went-clause-left
 returns-in-Went-clause-left g c over = c.end_where_dead.ensures.left c.clear.ensures.still over
+
+pub returns-in-Went-clause-payload : goal.returns-in-Went-clause-payload
+returns-in-Went-clause-payload g c told want kept =
+    let state = g.D.Disk.state in
+    ap (λ x. files_in want (state x).seen) (c.end_where_dead.ensures.disk ∙ c.clear.ensures.untouched)
+    ∙ c.unlist.ensures.payload told want kept
+
+pub end_where_dead-requires-clause-going : goal.end_where_dead-requires-clause-going
+end_where_dead-requires-clause-going g c =
+    let b = c.clear.new.self in
+    unended c.runs_follow.ensures b.machine.start b.machine.past c.args.gid c.tells_stored-in-Went.ensures.legal
+    c.clear.ensures.still
+
+pub returns-in-Went-clause-still : goal.returns-in-Went-clause-still
+returns-in-Went-clause-still g c went =
+    subst (λ (w : StoredView _). GoesOpened w.machine.start w.machine.past c.args.gid)
+    (sym (c.end_where_dead.ensures.still went)) c.clear.ensures.still
