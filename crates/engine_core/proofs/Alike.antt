@@ -1,17 +1,16 @@
 -- Runs that nothing came between.
-use Rattle.std.proofs.Common.{◌≡◌, ⊎_elim, inl, inr, Option, None, refl, sym, ap, ◌∙◌}
+use Rattle.std.proofs.Common.{◌≡◌, ⊎_elim, inl, inr, ℕ, Option, None, refl, sym, ap, ◌∙◌}
 use Rattle.std.specs.Prelude.{max}
 use Rattle.dl_disk.specs.State.{DiskState}
 use Rattle.dl_kinds.specs.declared.gid.Gid.{Gid}
 use Rattle.dl_kinds.specs.declared.runs.Moment.{Moment}
 use Rattle.machine_core.specs.Claiming.{next_to_open}
-use Rattle.engine_turns.specs.declared.operations.Operation.{Operation}
+use Rattle.engine_turns.specs.declared.operations.Operation.TheVariants as operation
 use Rattle.engine_turns.specs.declared.operations.Said.{Said}
 use Rattle.stored_run.specs.Beginnings.{IsRoomier}
 use Rattle.stored_run.specs.declared.run.StoredView.{StoredView}
-use Rattle.engine_core.specs.Askings.{IsNext}
 use Rattle.engine_core.specs.Beginning.{Begins}
-use Rattle.engine_core.specs.Disks.{IsAlike, Leaves, LeavesRun, LeavesTurn}
+use Rattle.engine_core.specs.Disks.{IsAlike, LeavesPayloads, LeavesRun, LeavesTurn}
 use Rattle.engine_core.specs.declared.state.EngineState.{EngineState}
 
 module _ {D : Type 0} where
@@ -61,14 +60,19 @@ module _ {D : Type 0} where
   pub run_after : (state : D → DiskState) (old mid new : StoredView D) → IsAlike old mid → LeavesRun state mid new
       → LeavesRun state old new
   run_after state old mid new alike leaves = ⊎_elim (λ (none : IsAlike mid new). inl (alike_on old mid new alike none))
-      (λ (some : Leaves state mid new).
-      inr (record { mid = some.mid; alike = alike_on old mid some.mid alike some.alike; leaves = some.leaves })) leaves
+      (λ (some : LeavesPayloads state mid new).
+      let from = some.leaves in
+      inr (record {
+        leaves = record { mid = from.mid; alike = alike_on old mid from.mid alike from.alike; leaves = from.leaves };
+        payloads = some.payloads;
+      })) leaves
 
-  pub run_unopened : (state : D → DiskState) (op : Operation) (now : Moment) (old mid : EngineState D)
+  pub run_unopened : (state : D → DiskState) (worker : ℕ) (now : Moment) (old mid : EngineState D)
       → Begins now old mid → (new : EngineState D) (said : Said)
-      → (IsNext op → next_to_open old.run.machine.start old.run.machine.past ≡ None) → LeavesRun state mid.run new.run
-      → LeavesTurn state op old new said
-  run_unopened state op now old mid begins new said none leaves = ⊎_elim
+      → next_to_open old.run.machine.start old.run.machine.past ≡ None → LeavesRun state mid.run new.run
+      → LeavesTurn state (operation.Next worker now) old new said
+  run_unopened state worker now old mid begins new said none leaves = ⊎_elim
       (λ (alike : IsAlike old.run new.run). inl alike)
-      (λ (some : Leaves state old.run new.run). inr (inl (record { leaves = some; none = none })))
+      (λ (some : LeavesPayloads state old.run new.run).
+      inr (inl (record { leaves = some.leaves; none = λ asked. none; writes = some.payloads })))
       (run_after state old.run mid.run new.run (begun_alike now old mid begins) leaves)

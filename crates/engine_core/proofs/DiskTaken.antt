@@ -115,7 +115,7 @@ module _ {D : Type 0} (laws : RunFollows) (handed : HandedAreActive) (tells : Bo
   pub keeps_promises : KeepsPromises S (t ∷ told) after
   keeps_promises = ⊎_elim still
       (λ more. ⊎_elim
-      (λ (left : LeavesUnopened state t.op old.run new.run).
+      (λ (left : LeavesUnopened state t.op old.run new.run t.answer.said).
       let here = left.leaves in
       by_leaves here.mid here.alike
       (subst (λ (x : D). LeavesDisk here.mid new.run (state x) after) here.alike.disk here.leaves)

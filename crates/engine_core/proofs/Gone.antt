@@ -15,6 +15,8 @@ use Rattle.machine_core.specs.Replays.{is_active_in, is_same_gid, queue_in}
 use Rattle.dl_history.specs.PayloadParts.{is_opened, is_opening}
 use Rattle.machine_core.specs.RunLegal.{IsLegal, doors_left, goes_on_in, is_stop}
 use Rattle.machine_core.specs.Starts.{Download, RunStart}
+use Rattle.machine_core.specs.declared.ends.End.{End}
+use Rattle.machine_core.specs.declared.ends.End.TheVariants as end
 use Rattle.machine_core.specs.declared.events.Event.{Event}
 use Rattle.machine_core.specs.declared.events.Event.TheVariants.{Called, Opened, Sized, Claimed, Landed, Settled, Cleared, Lost, Checked, Saved, Ended, Left, Stopped}
 use Rattle.machine_core.specs.declared.handed.Handed.{Handed}
@@ -41,7 +43,7 @@ use Rattle.stored_run.proofs.Grants.{among_active}
 use Rattle.stored_run.proofs.OpenNext.{before_opening}
 use Rattle.stored_run.proofs.PlainEvents.{gid_added}
 use Rattle.engine_core.specs.Askings.{IsNext, is_opened_in}
-use Rattle.engine_core.proofs.Owned.{AreOf, AreOwned, IsOwnedEvent, gid_of, of_open, opened_by, owned_deliver, owned_lose, owned_no_events, owned_offer, owned_save_event, owned_settled, owned_sized}
+use Rattle.engine_core.proofs.Owned.{AreOf, AreOwned, IsOwnedEvent, gid_of, of_open, opened_by, owned_deliver, owned_lose, owned_no_events, owned_offer, owned_save_event, owned_settled, owned_sized, refused_by}
 use Rattle.engine_core.proofs.Sealed.{handed_is, one_out}
 
 -- ---- downloads of events
@@ -50,7 +52,7 @@ use Rattle.engine_core.proofs.Sealed.{handed_is, one_out}
 abbrev pub IsOpenedNext : RunStart → List Event → Operation → Gid → Type 0
 IsOpenedNext start past op g = IsNext op × (next_to_open start past ≡ Some g)
 
--- the download of the event, if it has one, went on; and one that it opens was to be opened next
+-- the download of the event, if it has one, went on; and one that it opens, or refuses, was to be opened next
 pub record IsOfGoing (start : RunStart) (past : List Event) (op : Operation) (e : Event) : Type 0 where
   pub going : (g : Gid) → gid_of e ≡ Some g → goes_on_in start past g ≡ true
   pub asked : (g : Gid) → opened_by e ≡ Some g → IsOpenedNext start past op g
@@ -85,6 +87,20 @@ owned_going : (start : RunStart) (past : List Event) (op : Operation) (gid : Gid
 owned_going start past op gid goes events own =
     All-weaker (IsOwnedEvent gid) (IsOfGoing start past op) (one_going start past op gid goes) events own
 
+refused_gid : (gid : Gid) (how : End) (g : Gid) → refused_by gid how ≡ Some g → Some gid ≡ Some g
+refused_gid gid (end.Exists length) g is = is
+refused_gid gid (end.PieceLength have want) g is = is
+refused_gid gid (end.Length have want) g is = is
+refused_gid gid end.InfoHash g is = is
+refused_gid gid (end.Unreadable at) g is = is
+refused_gid gid end.Complete g is = absurd cc
+refused_gid gid (end.Dead piece mark) g is = absurd cc
+refused_gid gid (end.Disk count) g is = absurd cc
+refused_gid gid (end.TooLarge total) g is = absurd cc
+refused_gid gid (end.SameFile other) g is = absurd cc
+refused_gid gid (end.SameHash other) g is = absurd cc
+refused_gid gid end.Checksum g is = absurd cc
+
 opened_gid : (e : Event) (g : Gid) → opened_by e ≡ Some g → gid_of e ≡ Some g
 opened_gid (Called session asked now) g is = absurd cc
 opened_gid (Opened gid verified blocks now) g is = is
@@ -96,7 +112,7 @@ opened_gid (Cleared gid piece) g is = absurd cc
 opened_gid (Lost gid id mirror piece mark) g is = absurd cc
 opened_gid (Checked gid right) g is = absurd cc
 opened_gid (Saved gid now) g is = absurd cc
-opened_gid (Ended gid how) g is = absurd cc
+opened_gid (Ended gid how) g is = refused_gid gid how g is
 opened_gid Left g is = absurd cc
 opened_gid Stopped g is = absurd cc
 

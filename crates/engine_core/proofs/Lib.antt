@@ -30,7 +30,13 @@ pub mod PromisesOn
 pub mod Alike
 pub mod DiskTaken
 pub mod ReadOn
+pub mod FoundOn
 pub mod OpenedRead
 pub mod FoundRight
 pub mod ReadTurns
+pub mod LandingRows
+pub mod WrittenTurns
+pub mod KeptPayloads
+pub mod Unchecking
+pub mod FindingsRead
 pub mod GoingOn

@@ -285,7 +285,7 @@ module _ {D : Type 0} (laws : RunFollows) (handed : HandedAreActive) (state : D 
       absurd (was_shut gid verified blocks now opened
       (subst (λ (p : List Event). is_opened_in S p gid ≡ true) (sym same) (is_open gid verified blocks now opened))))
       (λ more. ⊎_elim
-      (λ (left : LeavesUnopened state t.op old.run new.run).
+      (λ (left : LeavesUnopened state t.op old.run new.run t.answer.said).
       absurd (let none = left.none next.0 in
       let some = ap (next_to_open S) past_is ∙ next.1 in
       let never : Some gid ≡ None = sym some ∙ none in cc))
@@ -307,7 +307,7 @@ module _ {D : Type 0} (laws : RunFollows) (handed : HandedAreActive) (state : D 
       (λ (alike : IsAlike old.run new.run).
       subst (λ (x : D). SameFor want d.seen (state x).seen) (sym alike.disk) (record { control = refl; files = refl }))
       (λ more. ⊎_elim
-      (λ (left : LeavesUnopened state t.op old.run new.run).
+      (λ (left : LeavesUnopened state t.op old.run new.run t.answer.said).
       same_left left.leaves.mid left.leaves.alike want apart
       (subst (λ (x : D). LeavesDisk left.leaves.mid new.run (state x) after) left.leaves.alike.disk left.leaves.leaves))
       (λ (opens : OpensNext state t.op old.run new.run t.answer.said).

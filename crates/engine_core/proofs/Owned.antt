@@ -44,12 +44,22 @@ gid_of (Ended gid how) = Some gid
 gid_of Left = None
 gid_of Stopped = None
 
--- the download that the event opens
+-- the download, where an end is a refusal of the store
+abbrev pub refused_by : Gid → End → Option Gid
+refused_by gid (end.Exists length) = Some gid
+refused_by gid (end.PieceLength have want) = Some gid
+refused_by gid (end.Length have want) = Some gid
+refused_by gid end.InfoHash = Some gid
+refused_by gid (end.Unreadable at) = Some gid
+refused_by gid other = None
+
+-- the download that the event opens, or that isn't opened for what its store found
 abbrev pub opened_by : Event → Option Gid
 opened_by (Opened gid verified blocks now) = Some gid
+opened_by (Ended gid how) = refused_by gid how
 opened_by e = None
 
--- the event is of the download, and doesn't open it
+-- the event is of the download, and no finding of an opening
 pub record IsOwnedEvent (gid : Gid) (e : Event) : Type 0 where
   pub gid_is : gid_of e ≡ Some gid
   pub plain : opened_by e ≡ None
@@ -127,12 +137,13 @@ owned_disk at gid due own past events Starved is = owned_no_events gid events is
 one_due : (gid : Gid) (e : Event) → gid_of e ≡ Some gid → opened_by e ≡ None → AreOwned gid (e ∷ [])
 one_due gid e own plain = owned_one gid e (e ∷ []) own plain refl
 
-pub owned_end_disk : (at : TurnStart) (gid : Gid) (how : End) → IsOwned gid (EndAfterDisk at gid how)
-owned_end_disk at gid how past events Went is = absurd is
-owned_end_disk at gid how past events Over is = ⊎_elim
-    (λ (ends : events ≡ Ended gid how ∷ []). owned_one gid (Ended gid how) events refl refl ends)
+pub owned_end_disk : (at : TurnStart) (gid : Gid) (how : End) → refused_by gid how ≡ None
+    → IsOwned gid (EndAfterDisk at gid how)
+owned_end_disk at gid how plain past events Went is = absurd is
+owned_end_disk at gid how plain past events Over is = ⊎_elim
+    (λ (ends : events ≡ Ended gid how ∷ []). owned_one gid (Ended gid how) events refl plain ends)
     (λ fault. owned_one gid (Ended gid (end.Disk fault.0)) events refl refl fault.2) is
-owned_end_disk at gid how past events Starved is = owned_no_events gid events is
+owned_end_disk at gid how plain past events Starved is = owned_no_events gid events is
 
 pub owned_save : (at : TurnStart) (gid : Gid) → IsOwned gid (SavePhase at gid)
 owned_save at gid = owned_disk at gid (Saved gid at.now ∷ []) (one_due gid (Saved gid at.now) refl refl)
@@ -170,11 +181,11 @@ owned_settling at download piece right =
     (owned_finding at download.gid piece right) (owned_after at download piece right)
 
 owned_checked : (at : TurnStart) (gid : Gid) (right : Bool) → IsOwned gid (CheckedPhase at gid right)
-owned_checked at gid true = owned_end_disk at gid end.Complete
+owned_checked at gid true = owned_end_disk at gid end.Complete refl
 owned_checked at gid false = owned_end gid (Ended gid end.Checksum) refl refl
 
 pub owned_completion : (at : TurnStart) (gid : Gid) (checks : Bool) → IsOwned gid (CompletionPhase at gid checks)
-owned_completion at gid false past events o is = owned_end_disk at gid end.Complete past events o is
+owned_completion at gid false past events o is = owned_end_disk at gid end.Complete refl past events o is
 owned_completion at gid true past events o is =
     owned_then gid (AfterDisk at gid (Checked gid is.0 ∷ [])) (CheckedPhase at gid is.0)
     (owned_disk at gid (Checked gid is.0 ∷ []) (one_due gid (Checked gid is.0) refl refl))

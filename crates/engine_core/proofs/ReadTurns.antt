@@ -1,6 +1,6 @@
 -- What was read is as the turns say, and stays told.
 use Rattle.std.proofs.Common.{◌≡◌, ⊎_elim, ◌≤◌, ℕ, Bool, true, List, [], ◌∷◌, ◌++◌, Option, Some, None, refl, sym, ap, ◌∙◌, subst, arith}
-use Rattle.std.specs.Prelude.{◌+◌, ◌-◌, ◌<◌, Contains, IsSome, codes, map, unwrap_or}
+use Rattle.std.specs.Prelude.{◌+◌, ◌-◌, ◌<◌, ◌↔◌, Contains, IsSome, IsTrue, codes, map, unwrap_or}
 use Rattle.std.specs.List.{range_with_len}
 use Rattle.std.proofs.lemmas.List.{append_assoc}
 use Rattle.std.proofs.lemmas.List.Elements.{Contains-append_cases, Contains-append_left, Contains-append_right}
@@ -10,6 +10,7 @@ use Rattle.dl_disk.specs.Passes.{Passes, passes_none}
 use Rattle.dl_disk.specs.State.{DiskState}
 use Rattle.dl_history.specs.PayloadParts.{is_opened}
 use Rattle.dl_kinds.specs.Plan.{piece_end, piece_start, pieces_of}
+use Rattle.dl_kinds.specs.ChecksumView.{ChecksumView}
 use Rattle.dl_kinds.specs.declared.gid.Gid.{Gid}
 use Rattle.dl_kinds.specs.declared.runs.Moment.{Moment}
 use Rattle.engine_turns.specs.Phases.{TurnStart}
@@ -28,12 +29,14 @@ use Rattle.machine_core.specs.Offers.{is_handed_out}
 use Rattle.machine_core.specs.OwnParts.{own_of}
 use Rattle.machine_core.specs.RunLegal.{known_lengths}
 use Rattle.machine_core.specs.Starts.{Download, RunStart, Subject, Listed, Unlisted}
+use Rattle.machine_core.specs.declared.ends.End.{End}
 use Rattle.machine_core.specs.declared.events.Event.{Event}
-use Rattle.machine_core.specs.declared.events.Event.TheVariants.{Opened, Settled}
+use Rattle.machine_core.specs.declared.events.Event.TheVariants.{Checked, Ended, Opened, Settled}
 use Rattle.machine_core.specs.declared.handed.Handed.{Handed}
 use Rattle.option_set.specs.Values.{text_of_word}
 use Rattle.option_set.specs.declared.kinds.Word.TheVariants.{Out}
 use Rattle.payload_files.specs.Names.{name_of}
+use Rattle.payload_files.specs.Payload.{payload_in}
 use Rattle.piece_table.specs.declared.giver.Giver.{Giver}
 use Rattle.resume_core.specs.Resume.{byte_at}
 use Rattle.resume_core.specs.Runs.{ReadsPiece}
@@ -41,19 +44,24 @@ use Rattle.resume_core.specs.Steps.{SameFor}
 use Rattle.span_map.specs.Paths.{IsValidPart}
 use Rattle.span_map.specs.declared.files.FileLen.{FileLen}
 use Rattle.stored_run.specs.Leavings.{AnyChange}
-use Rattle.stored_run.specs.Settlings.{CameBetween}
+use Rattle.stored_run.specs.Refused.{IsRefusalEnd, RefusesAsRead}
+use Rattle.stored_run.specs.Settlings.{CameBetween, IsTruly}
 use Rattle.stored_run.specs.Stored.{AreWantsKept}
 use Rattle.stored_run.specs.Views.{kept_want}
 use Rattle.stored_run.proofs.Between.{after_front}
 use Rattle.url_names.specs.UrlNames.{IsNameBy, IsNameOfUrl}
+use Rattle.verify_piece.specs.Hashes.{digest_by}
 use Rattle.verify_piece.specs.Seals.{PieceBytes}
 use Rattle.engine_core.specs.Disks.{IsAlike, LeavesTurn, LeavesUnopened, OpensNext}
 use Rattle.engine_core.specs.Engines.{past_of, start_of}
 use Rattle.engine_core.specs.Readings.{GivesRead, ReadsElse, ReadsOpened, TakesRead, TakesSeal}
-use Rattle.engine_core.specs.TurnReads.{FitsFiles, GrantsAsRead, HasPieceBytes, IsFoundRight, IsUntouched, LacksPieceBytes, OfItsWant, OpensAsRead, SealsAsRead, TakesAsRead, TurnsFitDisk}
+use Rattle.engine_core.specs.TurnReads.{ChecksAsRead, FitsFiles, GrantsAsRead, HasPieceBytes, IsFoundRight, IsUntouched, LacksPieceBytes, OfItsWant, OpensAsRead, SealsAsRead, TakesAsRead, TurnsFitDisk}
+use Rattle.engine_core.specs.Writings.{KeepsUnwritten, WritesAsTold}
 use Rattle.engine_core.specs.declared.state.EngineState.{EngineState}
 use Rattle.engine_core.proofs.FoundRight.{found_right, sealed_so}
 use Rattle.engine_core.proofs.TurnCases.{some_of}
+use Rattle.engine_core.specs.Askings.{IsWrittenAlone}
+use Rattle.payload_files.specs.Payload.{HasFiles}
 use Rattle.engine_core.proofs.Turned.{same_download}
 
 -- ---- a payload has one name
@@ -90,13 +98,13 @@ one_base d (Unlisted uris) one other a b = named_unlisted (text_of_word d.option
 
 -- ---- wants of one download cut its payload alike
 
-record Payload : Type 0 where
-  dir : List ℕ
-  layout : List FileLen
-  total : ℕ
-  piece_len : ℕ
+pub record Payload : Type 0 where
+  pub dir : List ℕ
+  pub layout : List FileLen
+  pub total : ℕ
+  pub piece_len : ℕ
 
-abbrev payload_cut : Want → Payload
+abbrev pub payload_cut : Want → Payload
 payload_cut want =
     record { dir = want.dir; layout = want.layout; total = want.plan.total; piece_len = want.plan.piece_len }
 
@@ -142,6 +150,14 @@ reads_alike v w piece seen bytes same is = record {
   reaches = subst (ReachesIn piece seen) same is.reaches;
   bytes = subst (λ (p : Payload). bytes ≡ bytes_in piece seen p) same is.bytes;
 }
+
+abbrev payload_at : Files → Payload → List ℕ
+payload_at seen p = payload_in p.dir p.layout seen
+
+pub truly_alike : (v w : Want) (right : Bool) (check : ChecksumView) (seen : Files) → payload_cut v ≡ payload_cut w
+    → IsTruly right check v seen → IsTruly right check w seen
+truly_alike v w right check seen same is =
+    subst (λ (p : Payload). IsTrue right ↔ (digest_by check.hash (payload_at seen p) ≡ check.digest)) same is
 
 -- ---- what is kept of a download is its want
 
@@ -275,16 +291,27 @@ module _ {D : Type 0} (state : D → DiskState) (old new : EngineState D) (told 
   takes_then operation.Leave is answered = tt
   takes_then (operation.Stop now) is answered = tt
 
-  -- with what it opened, and what it left as it was
+  -- with what it opened, what it left as it was, and what it found
   pub fits_files : MayComeAfter S told t → TakesRead state t.op old new.run t.answer.said
       → ((gid : Gid) (verified blocks : List Bool) (now : Moment)
       → Contains t.events (Opened gid verified blocks now) → OpensAsRead S (history_of told) gid verified blocks seen)
       → ((want : Want) → IsUntouched S (t ∷ told) want → SameFor want seen (state new.run.disk).seen)
+      → WritesAsTold S (history_of told) t t.op (state new.run.disk).seen
+      → ((want : Want) → IsWrittenAlone S (t ∷ told) want → HasFiles want.dir want.layout seen
+      → KeepsUnwritten S (history_of told) t want seen (state new.run.disk).seen)
+      → ((gid : Gid) (how : End) → Contains t.events (Ended gid how) → IsRefusalEnd how
+      → RefusesAsRead S (history_of told) gid how seen)
+      → ((gid : Gid) (right : Bool) → Contains t.events (Checked gid right)
+      → ChecksAsRead S (history_of told) gid right (state new.run.disk).seen)
       → FitsFiles S told t seen (state new.run.disk).seen
-  fits_files may takes opened untouched = record {
+  fits_files may takes opened untouched written payload refused checked = record {
     takes = takes_then t.op takes may.answered;
     opened = opened;
+    written = written;
+    payload = payload;
     untouched = untouched;
+    refused = refused;
+    checked = checked;
   }
 
 -- ---- the disk tells it still
@@ -297,7 +324,7 @@ turn_passes state op old new said turn = ⊎_elim
     subst (λ x. Passes AnyChange (state old.run.disk) (state x)) (sym alike.disk)
     (passes_none AnyChange (state old.run.disk) (λ image. tt)))
     (λ more. ⊎_elim
-    (λ (left : LeavesUnopened state op old.run new.run).
+    (λ (left : LeavesUnopened state op old.run new.run said).
     subst (λ x. Passes AnyChange (state x) (state new.run.disk)) left.leaves.alike.disk left.leaves.leaves.time)
     (λ (opens : OpensNext state op old.run new.run said).
     subst (λ x. Passes AnyChange (state x) (state new.run.disk)) opens.alike.disk opens.opens.time) more) turn

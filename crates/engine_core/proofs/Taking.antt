@@ -18,14 +18,17 @@ use Rattle.engine_turns.specs.TurnLaws.{HandedAreActive}
 use Rattle.machine_core.specs.RunLegal.{IsLegal}
 use Rattle.stored_run.specs.Leavings.{AnyChange}
 use Rattle.stored_run.specs.RunFollows.{RunFollows}
-use Rattle.stored_run.specs.Stored.{IsStoredRun}
+use Rattle.stored_run.specs.Stored.{AreWantsKept, IsStoredRun}
 use Rattle.stored_run.specs.declared.run.StoredView.{StoredView}
 use Rattle.engine_core.specs.Disks.{LeavesTurn}
 use Rattle.engine_core.specs.Durable.{KeepsPromises}
 use Rattle.engine_core.proofs.DiskTaken.{keeps_promises}
 use Rattle.engine_core.proofs.ReadTurns.{fits_files, fits_more, turn_passes}
+use Rattle.engine_core.proofs.WrittenTurns.{written_read}
 use Rattle.engine_core.proofs.OpenedRead.{opened_read, untouched_read}
 use Rattle.engine_core.specs.Readings.{TakesRead}
+use Rattle.engine_core.specs.Findings.{FindsRead}
+use Rattle.engine_core.proofs.FindingsRead.{checked_read, refused_read}
 use Rattle.engine_core.specs.TurnReads.{TurnsFitDisk}
 use Rattle.turn_desk.specs.declared.turn.Stamp.{Stamp}
 use Rattle.engine_turns.specs.Levels.{downloads_of, level_of_download, level_on, overall_rate, own_levels, spent_by}
@@ -44,6 +47,7 @@ use Rattle.engine_core.specs.declared.state.EngineState.{EngineState}
 use Rattle.engine_core.proofs.Downloads.{downloads_grow, each_found}
 use Rattle.engine_core.proofs.Handings.{filter_twice}
 use Rattle.engine_core.proofs.Levels.{turn_levels}
+use Rattle.engine_core.proofs.KeptPayloads.{payload_read}
 use Rattle.engine_core.proofs.Turning.{events_behind, in_order}
 
 -- ---- what is handed out
@@ -241,6 +245,12 @@ module _ {D : Type 0} (tells : Bool) (state : D → DiskState) (faults : D → �
       subst (λ (r : StoredView D). TakesRead state op old r said) (sym run)
       (subst (λ (e : EngineState D). TakesRead state op e mid.run said) seen (did.reads told_is))
 
+  -- and what it found there
+  found_since : IsTrue tells → FindsRead state op old.run new.run
+  found_since told_is =
+      subst (λ (r : StoredView D). FindsRead state op old.run r) (sym run)
+      (subst (λ (e : EngineState D). FindsRead state op e.run mid.run) seen (did.finds told_is))
+
   -- the calls of its disk
   pub passed_since : IsTrue tells → Passes AnyChange (state old.run.disk) (state new.run.disk)
   passed_since told_is = turn_passes state op old new said (left_since told_is)
@@ -254,8 +264,9 @@ module _ {D : Type 0} (tells : Bool) (state : D → DiskState) (faults : D → �
 
   pub takes_turn : (laws : RunFollows) → HandedAreActive
       → IsStoredRun tells (faults old.run.disk) (state old.run.disk) old.run → IsLegal (start_of new) (past_of new)
+      → AreWantsKept (start_of new) (past_of new) new.run.wants.items
       → (back : List ℕ) → back ≡ brought_bytes op → TurnTaken tells state faults op old new (record { said = said; back = back })
-  takes_turn laws active was legal back back_is =
+  takes_turn laws active was legal kept_then back back_is =
       let done = done_since in
       let faults_later = subst (λ (n : ℕ). faults old.run.disk ≤ n) (sym (ap (λ r. faults r.disk) run)) done.answers.later in
       let m : Stamp = stamp_of tells state faults old in
@@ -303,7 +314,13 @@ module _ {D : Type 0} (tells : Bool) (state : D → DiskState) (faults : D → �
             (opened_read laws active state old new told turn (left_since told_is) legal_was legal_then may was.wants_are asked past_was
             start_is past_then)
             (untouched_read laws active state old new told turn (left_since told_is) legal_was legal_then may was.wants_are asked past_was
-            start_is past_then)));
+            start_is past_then)
+            (written_read state old new told turn (left_since told_is) was.wants_are past_was past_then may)
+            (payload_read laws state old new told turn (left_since told_is) legal_then was.wants_are asked past_was start_is past_then)
+            (refused_read laws active state old new told turn (found_since told_is) legal_was legal_then may
+            was.wants_are kept_then past_was start_is past_then)
+            (checked_read laws active state old new told turn (found_since told_is) legal_was legal_then may
+            was.wants_are kept_then past_was start_is past_then)));
       }
 
   -- and the buckets have their rates still

@@ -24,6 +24,7 @@ use Rattle.stored_run.specs.Granting.{MayBeGiven}
 use Rattle.stored_run.specs.Steps.{turn_from}
 use Rattle.engine_core.specs.Buckets.{LevelsGoOn}
 use Rattle.engine_core.specs.Disks.{LeavesRun}
+use Rattle.engine_core.specs.Findings.{ChecksRead}
 use Rattle.engine_core.specs.Handing.{IsUnsettled}
 use Rattle.engine_core.specs.Readings.{GivesRead}
 use Rattle.engine_core.specs.Engines.{KeepsRates, past_of, standing_of, start_of}
@@ -78,9 +79,10 @@ module _ {D : Type 0} where
     pub levels : LevelsGoOn (start_of old) (past_of old) (past_of new)
         (spent_by (start_of old) (past_of old) op said) new.run.now.0 old.limits new.limits
 
-  -- .. and, where that is told, to the disk, and what it hands out of it
+  -- .. and, where that is told, to the disk, what it hands out of it, and what whole checks found there
   pub record MakesTurn (tells : Bool) (state : D → DiskState) (faults : D → ℕ) (op : Operation)
       (Row : TurnStart → RunStanding → List Event → Said → Type 0) (old new : EngineState D) (said : Said) : Type 0 where
     pub makes : MakesRow op Row old (faults old.run.disk) new (faults new.run.disk) said
     pub disk : IsTrue tells → LeavesRun state old.run new.run
     pub reads : IsTrue tells → GivesRead old.run said (state old.run.disk).seen
+    pub finds : IsTrue tells → ChecksRead state old.run new.run

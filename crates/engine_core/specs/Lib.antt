@@ -7,7 +7,9 @@ pub mod Performing
 pub mod Handing
 pub mod Giving
 pub mod Askings
+pub mod Writings
 pub mod Durable
 pub mod TurnReads
 pub mod Disks
 pub mod Readings
+pub mod Findings

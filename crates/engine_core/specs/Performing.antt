@@ -13,6 +13,7 @@ use Rattle.engine_turns.specs.declared.operations.Operation.{Operation}
 use Rattle.engine_turns.specs.declared.operations.Said.{Said}
 use Rattle.engine_core.specs.Buckets.{LevelsGoOn}
 use Rattle.engine_core.specs.Disks.{LeavesTurn}
+use Rattle.engine_core.specs.Findings.{FindsRead}
 use Rattle.engine_core.specs.Handing.{IsUnsettled}
 use Rattle.engine_core.specs.Readings.{TakesRead}
 use Rattle.engine_core.specs.Engines.{KeepsRates, past_of, standing_of, start_of}
@@ -51,9 +52,10 @@ module _ {D : Type 0} where
     pub out : HandsUnsettled old new
     pub rates : KeepsRates new
 
--- What an operation does to a run and, where that is told, to its disk, and what it took from it.
+-- What an operation does to a run and, where that is told, to its disk, and what it took from it and found there.
 pub record PerformsTurn {D : Type 0} (tells : Bool) (state : D → DiskState) (faults : D → ℕ) (op : Operation)
     (old new : EngineState D) (said : Said) : Type 0 where
   pub performs : Performs op old (faults old.run.disk) new (faults new.run.disk) said
   pub disk : IsTrue tells → LeavesTurn state op old new said
   pub reads : IsTrue tells → TakesRead state op old new.run said
+  pub finds : IsTrue tells → FindsRead state op old.run new.run

@@ -1,9 +1,10 @@
 -- What the disk of a run reads beside what its turns say.
-use Rattle.std.specs.Prelude.{◌≡◌, ◌≤◌, ◌↔◌, ℕ, Bool, true, false, Contains, None, List, ◌∷◌}
+use Rattle.std.specs.Prelude.{◌≡◌, ◌≤◌, ◌↔◌, ℕ, Bool, true, false, Contains, None, Some, List, ◌∷◌}
 use Rattle.control_file.specs.Wants.{IsListedWant}
 use Rattle.control_file.specs.declared.want.Want.{Want}
 use Rattle.dl_disk.specs.Files.{Files}
 use Rattle.dl_disk.specs.State.{DiskState}
+use Rattle.dl_kinds.specs.ChecksumView.{ChecksumView}
 use Rattle.dl_kinds.specs.declared.gid.Gid.{Gid}
 use Rattle.dl_kinds.specs.declared.runs.Moment.{Moment}
 use Rattle.engine_turns.specs.Told.{AllTurns, RunTurn, handed_in, history_of}
@@ -14,9 +15,12 @@ use Rattle.engine_turns.specs.declared.operations.Said.{Said}
 use Rattle.engine_turns.specs.declared.operations.Said.TheVariants.{Grant, Void}
 use Rattle.machine_core.specs.DownloadWants.{HasWant}
 use Rattle.machine_core.specs.Offers.{is_handed_out}
-use Rattle.machine_core.specs.Starts.{RunStart}
+use Rattle.machine_core.specs.RunLegal.{download_in}
+use Rattle.machine_core.specs.Starts.{Download, RunStart}
+use Rattle.machine_core.specs.declared.ends.End.{End}
 use Rattle.machine_core.specs.declared.events.Event.{Event}
-use Rattle.machine_core.specs.declared.events.Event.TheVariants.{Opened, Settled}
+use Rattle.machine_core.specs.declared.events.Event.TheVariants.{Checked, Ended, Opened, Settled}
+use Rattle.payload_files.specs.Payload.{HasFiles}
 use Rattle.piece_table.specs.declared.giver.Giver.{Giver}
 use Rattle.resume_core.specs.Openings.{OpensJust, is_compared}
 use Rattle.resume_core.specs.Refusals.{open_refusal}
@@ -26,8 +30,11 @@ use Rattle.resume_core.specs.Sharing.{share_names}
 use Rattle.resume_core.specs.Steps.{SameFor}
 use Rattle.resume_core.specs.Wants.{files_in}
 use Rattle.stored_run.specs.Opening.{is_checked_in}
+use Rattle.stored_run.specs.Refused.{IsRefusalEnd, RefusesAsRead}
+use Rattle.stored_run.specs.Settlings.{IsTruly, SpellsCheckOf}
 use Rattle.verify_piece.specs.Seals.{PieceBytes}
-use Rattle.engine_core.specs.Askings.{IsAsked}
+use Rattle.engine_core.specs.Askings.{IsAsked, IsWrittenAlone}
+use Rattle.engine_core.specs.Writings.{WritesAsTold, KeepsUnwritten}
 
 -- ---- pieces
 
@@ -86,6 +93,16 @@ pub record OpensAsRead (start : RunStart) (past : List Event) (gid : Gid) (verif
   pub just : OpensJust (is_compared want (is_checked_in start past gid)) want files
       (record { verified = verified; blocks = blocks })
 
+-- ---- whole checks
+
+-- A whole check of a download is right just where its payload in the files has the digest that an option of it spells.
+pub record ChecksAsRead (start : RunStart) (past : List Event) (gid : Gid) (right : Bool) (files : Files) : Type 0 where
+  pub download : Download
+  pub added : download_in start past gid ≡ Some download
+  pub check : ChecksumView
+  pub spelled : SpellsCheckOf download check
+  pub truly : OfItsWant start past gid (λ want. IsTruly right check want files)
+
 -- ---- a turn
 
 -- no download whose store was asked writes a file of the want
@@ -94,12 +111,20 @@ IsUntouched start told want =
     (gid : Gid) (other : Want) → IsAsked start told gid → HasWant start (history_of told) gid other
     → share_names other want ≡ false
 
--- The turn is as the files say that the disk read at the mark before it, and at the mark behind it.
+-- The turn is as the files say that the disk read at the mark before it, and at the mark behind it: in what it takes, opens
+-- and writes.
 pub record FitsFiles (start : RunStart) (before : List RunTurn) (t : RunTurn) (old new : Files) : Type 0 where
   pub takes : TakesAsRead start before t t.op old
   pub opened : (gid : Gid) (verified blocks : List Bool) (now : Moment)
       → Contains t.events (Opened gid verified blocks now) → OpensAsRead start (history_of before) gid verified blocks old
+  pub written : WritesAsTold start (history_of before) t t.op new
+  pub payload : (want : Want) → IsWrittenAlone start (t ∷ before) want → HasFiles want.dir want.layout old
+      → KeepsUnwritten start (history_of before) t want old new
   pub untouched : (want : Want) → IsUntouched start (t ∷ before) want → SameFor want old new
+  pub refused : (gid : Gid) (how : End) → Contains t.events (Ended gid how) → IsRefusalEnd how
+      → RefusesAsRead start (history_of before) gid how old
+  pub checked : (gid : Gid) (right : Bool) → Contains t.events (Checked gid right)
+      → ChecksAsRead start (history_of before) gid right new
 
 -- .. of both of which the disk tells now
 pub record FitsDisk (start : RunStart) (disk : DiskState) (before : List RunTurn) (t : RunTurn) : Type 0 where

@@ -25,7 +25,8 @@ returns g c =
     from_is back.run back.limits back.pieces c.runs_follow.ensures c.turns_tell_runs.ensures.handed
     (subst (λ (e : EngineState g.row.D.Denot). IsStoredRun g.D.Disk.tells (g.D.Disk.faults e.run.disk) (g.D.Disk.state e.run.disk) e.run)
     was c.tells_stored.ensures)
-    c.tells_stored-2.ensures.legal c.perform-answer.result.back c.perform-answer.ensures.back in
+    c.tells_stored-2.ensures.legal c.tells_stored-2.ensures.wants_are c.perform-answer.result.back
+    c.perform-answer.ensures.back in
     let passes = passed_since g.D.Disk.tells g.D.Disk.state g.D.Disk.faults c.args.op c.perform-answer.result.said
     c.args.self.now.state c.self.inside.state c.perform-answer.new.self c.take_back.new.self c.len-from.result was
     c.perform-answer.ensures.turn from_is back.run back.limits back.pieces in

@@ -6,7 +6,7 @@ use Rattle.engine_core.specs.Beginning.{IsBrokenOff}
 use Rattle.engine_core.specs.Buckets.{FollowOptions}
 use Rattle.engine_core.specs.Engines.{past_of, start_of}
 use Rattle.engine_core.specs.Performing.{Performs}
-use Rattle.engine_core.specs.Disks.{Leaves}
+use Rattle.engine_core.specs.Disks.{LeavesUnopened}
 use Rattle.engine_core.proofs.Called.{call_performed, called_few, follow_from, roomier_performs}
 use Rattle.engine_core.proofs.Performed.{broken_off}
 use Rattle.engine_core.proofs.Alike.{begun_alike}
@@ -23,6 +23,7 @@ returns-in-Err g c = record {
       );
   disk = λ told. inl (begun_alike c.args.now c.args.self.now c.begin.new.self c.begin.ensures.same);
   reads = λ told. tt;
+  finds = λ told. tt;
 }
 
 pub returns-in-Err-reserve : goal.returns-in-Err-reserve
@@ -40,6 +41,7 @@ returns-in-Err-reserve g c = record {
       );
   disk = λ told. inl (begun_alike c.args.now c.args.self.now c.begin.new.self c.begin.ensures.same);
   reads = λ told. tt;
+  finds = λ told. tt;
 }
 
 pub follow_options-requires : goal.follow_options-requires
@@ -75,14 +77,18 @@ returns-in-Ok g c = record {
       (g.D.Disk.faults run.disk) new said (omega (arith, same)) c.requires.rates c.in_default.ensures.none c.call-said.ensures.row
       c.call-said.ensures.on.start c.call-said.ensures.on.now c.follow_options.ensures.run c.follow_options.ensures.handed follow)
       );
-  disk = λ told. inr (inl (record {
-    leaves = subst (Leaves g.D.Disk.state c.args.self.now.run) (sym c.follow_options.ensures.run)
-        (record {
+  disk = λ told. inr (inl (subst
+      (λ r. LeavesUnopened g.D.Disk.state (operation.Call c.args.session c.args.call c.args.now) c.args.self.now.run r c.call-said.result)
+      (sym c.follow_options.ensures.run)
+      (record {
+        leaves = record {
           mid = c.begin.new.self.run;
           alike = begun_alike c.args.now c.args.self.now c.begin.new.self c.begin.ensures.same;
           leaves = c.call-said.ensures.leaves told;
-        });
-    none = λ never. absurd never;
-  }));
+        };
+        none = λ never. absurd never;
+        writes = c.call-said.ensures.payloads told;
+      })));
   reads = λ told. tt;
+  finds = λ told. tt;
 }

@@ -5,6 +5,7 @@ use Rattle.engine_turns.specs.declared.operations.Operation.TheVariants as opera
 use Rattle.engine_core.proofs.CalmRows.{calm_claim, calm_deliver}
 use Rattle.engine_core.proofs.Performed.{broken_off, row_performed}
 use Rattle.engine_core.proofs.Alike.{begun_alike}
+use Rattle.engine_core.proofs.FoundOn.{checks_before, checks_nothing}
 use Rattle.engine_core.proofs.state.EngineState.deliver.Goals as goal
 
 pub returns-in-Ok : goal.returns-in-Ok
@@ -22,8 +23,12 @@ returns-in-Ok g c = record {
   disk = λ told. inr (inl (record {
     leaves = record { mid = c.begin.new.self.run; alike = begun_alike c.args.now c.args.self.now c.begin.new.self c.begin.ensures.same; leaves = c.deliver.ensures.leaves told };
     none = λ never. absurd never;
+    writes = record { written = c.deliver.ensures.written told; kept = c.deliver.ensures.kept told };
   }));
   reads = λ told. tt;
+  finds = λ told. checks_before g.D.Disk.state c.args.self.now.run c.begin.new.self.run
+      (begun_alike c.args.now c.args.self.now c.begin.new.self c.begin.ensures.same) c.deliver.new.self
+      (c.deliver.ensures.checks told);
 }
 
 pub returns-in-Err : goal.returns-in-Err
@@ -37,4 +42,6 @@ returns-in-Err g c = record {
       );
   disk = λ told. inl (begun_alike c.args.now c.args.self.now c.begin.new.self c.begin.ensures.same);
   reads = λ told. tt;
+  finds = λ told. checks_nothing g.D.Disk.state c.args.self.now.run c.begin.new.self.run
+      (begun_alike c.args.now c.args.self.now c.begin.new.self c.begin.ensures.same);
 }

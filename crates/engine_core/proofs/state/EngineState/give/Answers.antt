@@ -17,6 +17,7 @@ returns-in-Whole g c = record {
       );
   disk = λ told. c.give_whole.ensures.disk told;
   reads = λ told. c.give_whole.ensures.reads told;
+  finds = λ told. c.give_whole.ensures.finds told;
 }
 
 pub give_blocks-requires : goal.give_blocks-requires
@@ -33,6 +34,7 @@ returns-in-Blocks g c = record {
       );
   disk = λ told. c.give_blocks.ensures.disk told;
   reads = λ told. c.give_blocks.ensures.reads told;
+  finds = λ told. c.give_blocks.ensures.finds told;
 }
 
 pub give_probe-requires : goal.give_probe-requires
@@ -49,4 +51,5 @@ returns-in-Probe g c = record {
       );
   disk = λ told. c.give_probe.ensures.disk told;
   reads = λ told. c.give_probe.ensures.reads told;
+  finds = λ told. c.give_probe.ensures.finds told;
 }

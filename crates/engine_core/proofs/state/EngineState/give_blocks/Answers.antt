@@ -12,10 +12,14 @@ use Rattle.engine_turns.specs.declared.operations.Said.TheVariants.{NoMemory}
 use Rattle.stored_run.specs.Granting.{MakesClaim}
 use Rattle.engine_core.specs.Engines.{past_of, start_of}
 use Rattle.engine_core.specs.Giving.{GivenRow}
-use Rattle.engine_core.specs.Disks.{Leaves}
+use Rattle.engine_core.specs.Disks.{LeavesPayloads}
 use Rattle.engine_core.proofs.Allowing.{place_added}
 use Rattle.engine_core.proofs.Granted.{blocks_given, gives_nothing, is_first, is_within, place_there}
-use Rattle.engine_core.proofs.Alike.{alike_same}
+use Rattle.engine_core.proofs.Alike.{alike_same, roomier_alike}
+use Rattle.stored_run.proofs.KeptBytes.{same_payloads}
+use Rattle.stored_run.proofs.Unchecked.{unchecked_one}
+use Rattle.engine_core.specs.Findings.{ChecksRead}
+use Rattle.engine_core.proofs.FoundOn.{checks_nothing}
 use Rattle.engine_core.proofs.state.EngineState.give_blocks.Goals as goal
 
 pub unwrap-place-requires : goal.unwrap-place-requires
@@ -34,8 +38,17 @@ returns-in_default g c = record {
       (g.D.Disk.faults c.claim_blocks.new.self.disk) NoMemory (omega (arith, same)) c.requires.rates is.machine.start_is is.now
       is.machine.past_is refl refl refl (λ from below. inl (refl, refl))
       );
-  disk = λ told. inr (record { mid = c.args.self.now.run; alike = alike_same c.args.self.now.run; leaves = c.claim_blocks.ensures.leaves told });
+  disk = λ told. inr (record {
+    leaves = record {
+      mid = c.args.self.now.run;
+      alike = alike_same c.args.self.now.run;
+      leaves = c.claim_blocks.ensures.leaves told;
+    };
+    payloads = same_payloads g.D.Disk.state c.args.self.now.run c.claim_blocks.new.self.disk c.in_default.ensures.same.disk;
+  });
   reads = λ told. tt;
+  finds = λ told. checks_nothing g.D.Disk.state c.args.self.now.run c.claim_blocks.new.self
+      (roomier_alike c.args.self.now.run c.claim_blocks.new.self c.in_default.ensures.same);
 }
 
 pub let_go-allow-requires-clause-place : goal.let_go-allow-requires-clause-place
@@ -78,7 +91,17 @@ returns g c = record {
       c.let_go-allow.ensures.handed
       (c.let_go-allow.ensures.limits ∙ ap (λ (m : Moment). levels_taken place m.0 (Go c.let_go-allow.result) old.limits) now)
       );
-  disk = λ told. inr (subst (Leaves g.D.Disk.state c.args.self.now.run) (sym c.let_go-allow.ensures.run)
-      (record { mid = c.args.self.now.run; alike = alike_same c.args.self.now.run; leaves = c.claim_blocks.ensures.leaves told }));
+  disk = λ told. inr (subst (LeavesPayloads g.D.Disk.state c.args.self.now.run) (sym c.let_go-allow.ensures.run)
+      (record {
+        leaves = record {
+          mid = c.args.self.now.run;
+          alike = alike_same c.args.self.now.run;
+          leaves = c.claim_blocks.ensures.leaves told;
+        };
+        payloads = same_payloads g.D.Disk.state c.args.self.now.run c.claim_blocks.new.self.disk c.in-Ok.ensures.event.disk;
+      }));
   reads = λ told. tt;
+  finds = λ told. subst (ChecksRead g.D.Disk.state c.args.self.now.run) (sym c.let_go-allow.ensures.run)
+      (unchecked_one c.args.self.now.run c.claim_blocks.new.self (g.D.Disk.state c.claim_blocks.new.self.disk).seen
+      _ c.in-Ok.ensures.event.past tt);
 }

@@ -9,6 +9,7 @@ use Rattle.engine_core.specs.Giving.{UnopenedRow}
 use Rattle.engine_core.proofs.Granted.{gives_nothing, gives_offer, may_give}
 use Rattle.engine_core.proofs.Alike.{alike_same, roomier_alike, run_after}
 use Rattle.engine_core.proofs.ReadOn.{gives_before}
+use Rattle.engine_core.proofs.FoundOn.{checks_before, checks_nothing}
 use Rattle.engine_core.proofs.state.EngineState.give_offer.Goals as goal
 
 pub returns-in_default : goal.returns-in_default
@@ -22,6 +23,8 @@ returns-in_default g c = record {
       );
   disk = λ told. inl (alike_same c.args.self.now.run);
   reads = λ told. tt;
+  finds = λ told. checks_nothing g.D.Disk.state c.args.self.now.run c.args.self.now.run
+      (alike_same c.args.self.now.run);
 }
 
 pub returns-in-Err : goal.returns-in-Err
@@ -38,6 +41,8 @@ returns-in-Err g c = record {
       );
   disk = λ told. inl (roomier_alike c.args.self.now.run c.offer.new.self c.offer.ensures.same);
   reads = λ told. tt;
+  finds = λ told. checks_nothing g.D.Disk.state c.args.self.now.run c.offer.new.self
+      (roomier_alike c.args.self.now.run c.offer.new.self c.offer.ensures.same);
 }
 
 pub returns-in-Ok-Held : goal.returns-in-Ok-Held
@@ -62,6 +67,8 @@ returns-in-Ok-Held g c = record {
       );
   disk = λ told. inl (roomier_alike c.args.self.now.run c.offer.new.self c.offer.ensures.same);
   reads = λ told. tt;
+  finds = λ told. checks_nothing g.D.Disk.state c.args.self.now.run c.offer.new.self
+      (roomier_alike c.args.self.now.run c.offer.new.self c.offer.ensures.same);
 }
 
 pub returns-in-Ok-Idle : goal.returns-in-Ok-Idle
@@ -85,6 +92,8 @@ returns-in-Ok-Idle g c = record {
       );
   disk = λ told. inl (roomier_alike c.args.self.now.run c.offer.new.self c.offer.ensures.same);
   reads = λ told. tt;
+  finds = λ told. checks_nothing g.D.Disk.state c.args.self.now.run c.offer.new.self
+      (roomier_alike c.args.self.now.run c.offer.new.self c.offer.ensures.same);
 }
 
 pub give-requires : goal.give-requires
@@ -116,4 +125,7 @@ returns-in-Ok-Next g c = record {
       (roomier_alike c.args.self.now.run c.offer.new.self c.offer.ensures.same) (c.give.ensures.disk told);
   reads = λ told. gives_before g.D.Disk.state c.args.self.now.run c.offer.new.self
       (roomier_alike c.args.self.now.run c.offer.new.self c.offer.ensures.same) c.give.result (c.give.ensures.reads told);
+  finds = λ told. checks_before g.D.Disk.state c.args.self.now.run c.offer.new.self
+      (roomier_alike c.args.self.now.run c.offer.new.self c.offer.ensures.same) c.give.new.self.run
+      (c.give.ensures.finds told);
 }

@@ -4,7 +4,10 @@ use Rattle.engine_turns.specs.declared.operations.Said.TheVariants.{NoMemory}
 use Rattle.machine_core.specs.declared.offers.Offer.TheVariants as offer
 use Rattle.engine_core.specs.Giving.{GivenRow}
 use Rattle.engine_core.proofs.Granted.{gives_nothing, probe_given}
-use Rattle.engine_core.proofs.Alike.{alike_same}
+use Rattle.engine_core.proofs.Alike.{alike_same, roomier_alike}
+use Rattle.stored_run.proofs.KeptBytes.{same_payloads}
+use Rattle.stored_run.proofs.Unchecked.{unchecked_one}
+use Rattle.engine_core.proofs.FoundOn.{checks_nothing}
 use Rattle.engine_core.proofs.state.EngineState.give_probe.Goals as goal
 
 pub returns-in-Ok : goal.returns-in-Ok
@@ -18,8 +21,17 @@ returns-in-Ok g c = record {
       (g.D.Disk.faults old.run.disk) (g.D.Disk.faults c.claim_probe.new.self.disk) (omega (arith, same)) c.requires.rates
       c.requires.added a.mirror c.in-Ok.claim c.in-Ok.url given.event given.url refl refl
       );
-  disk = λ told. inr (record { mid = c.args.self.now.run; alike = alike_same c.args.self.now.run; leaves = c.claim_probe.ensures.leaves told });
+  disk = λ told. inr (record {
+    leaves = record {
+      mid = c.args.self.now.run;
+      alike = alike_same c.args.self.now.run;
+      leaves = c.claim_probe.ensures.leaves told;
+    };
+    payloads = same_payloads g.D.Disk.state c.args.self.now.run c.claim_probe.new.self.disk c.in-Ok.ensures.event.disk;
+  });
   reads = λ told. tt;
+  finds = λ told. unchecked_one c.args.self.now.run c.claim_probe.new.self
+      (g.D.Disk.state c.claim_probe.new.self.disk).seen _ c.in-Ok.ensures.event.past tt;
 }
 
 pub returns-in-Err : goal.returns-in-Err
@@ -34,6 +46,15 @@ returns-in-Err g c = record {
       (g.D.Disk.faults c.claim_probe.new.self.disk) NoMemory (omega (arith, same)) c.requires.rates is.machine.start_is is.now
       is.machine.past_is refl refl refl (λ from below. inl (refl, refl))
       );
-  disk = λ told. inr (record { mid = c.args.self.now.run; alike = alike_same c.args.self.now.run; leaves = c.claim_probe.ensures.leaves told });
+  disk = λ told. inr (record {
+    leaves = record {
+      mid = c.args.self.now.run;
+      alike = alike_same c.args.self.now.run;
+      leaves = c.claim_probe.ensures.leaves told;
+    };
+    payloads = same_payloads g.D.Disk.state c.args.self.now.run c.claim_probe.new.self.disk c.in-Err.ensures.same.disk;
+  });
   reads = λ told. tt;
+  finds = λ told. checks_nothing g.D.Disk.state c.args.self.now.run c.claim_probe.new.self
+      (roomier_alike c.args.self.now.run c.claim_probe.new.self c.in-Err.ensures.same);
 }

@@ -19,8 +19,16 @@ returns-in-Ok g c = record {
       a.piece c.in-Ok.bytes c.requires.may.1 given.listed given.len given.same given.on.now
       (ap (λ (h : HandedList). h.pieces) c.hand_out.ensures) refl
       );
-  disk = λ told. inr (record { mid = c.args.self.now.run; alike = alike_same c.args.self.now.run; leaves = c.give_whole.ensures.leaves told });
+  disk = λ told. inr (record {
+    leaves = record {
+      mid = c.args.self.now.run;
+      alike = alike_same c.args.self.now.run;
+      leaves = c.give_whole.ensures.leaves told;
+    };
+    payloads = c.give_whole.ensures.payloads told;
+  });
   reads = λ told. record { opened = c.requires.may.0.opened; reads = c.in-Ok.ensures.read told };
+  finds = λ told. c.give_whole.ensures.checks told;
 }
 
 pub returns-in-Err : goal.returns-in-Err
@@ -33,11 +41,19 @@ returns-in-Err g c = record {
       (g.D.Disk.faults old.run.disk) (g.D.Disk.faults c.give_whole.new.self.disk) not_given.row.later c.requires.rates
       c.requires.added a.piece c.in-Err.said not_given.row not_given.on.start not_given.on.now refl refl
       );
-  disk = λ told. inr (record { mid = c.args.self.now.run; alike = alike_same c.args.self.now.run; leaves = c.give_whole.ensures.leaves told });
+  disk = λ told. inr (record {
+    leaves = record {
+      mid = c.args.self.now.run;
+      alike = alike_same c.args.self.now.run;
+      leaves = c.give_whole.ensures.leaves told;
+    };
+    payloads = c.give_whole.ensures.payloads told;
+  });
   reads = λ told.
       let old = c.args.self.now in
       let row = c.in-Err.ensures.row in
       gives_none old.run c.in-Err.said (g.D.Disk.state old.run.disk).seen
       (calm_ungiven c.args.gid c.args.piece (turn_from old.run (g.D.Disk.faults old.run.disk)) (standing_of old) row.events c.in-Err.said
       (row.is (g.D.Disk.faults old.run.disk) (standing_of old) (omega arith) refl)).1;
+  finds = λ told. c.give_whole.ensures.checks told;
 }

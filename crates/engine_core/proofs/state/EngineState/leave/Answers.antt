@@ -4,6 +4,7 @@ use Rattle.engine_turns.specs.declared.operations.Operation.TheVariants as opera
 use Rattle.engine_core.proofs.CalmRows.{calm_leave}
 use Rattle.engine_core.proofs.Performed.{row_performed, stays_at}
 use Rattle.engine_core.proofs.Alike.{alike_same}
+use Rattle.stored_run.proofs.KeptBytes.{same_payloads}
 use Rattle.engine_core.proofs.state.EngineState.leave.Goals as goal
 
 pub returns : goal.returns
@@ -19,6 +20,8 @@ returns g c = record {
   disk = λ told. inr (inl (record {
     leaves = record { mid = c.args.self.now.run; alike = alike_same c.args.self.now.run; leaves = c.leave.ensures.leaves told };
     none = λ never. absurd never;
+    writes = same_payloads g.D.Disk.state c.args.self.now.run c.leave.new.self.disk c.leave.ensures.disk;
   }));
   reads = λ told. tt;
+  finds = λ told. tt;
 }

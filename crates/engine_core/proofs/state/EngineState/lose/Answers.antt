@@ -5,6 +5,7 @@ use Rattle.engine_turns.specs.declared.operations.Operation.TheVariants as opera
 use Rattle.engine_core.proofs.CalmRows.{calm_claim, calm_lose}
 use Rattle.engine_core.proofs.Performed.{broken_off, row_performed}
 use Rattle.engine_core.proofs.Alike.{begun_alike}
+use Rattle.stored_run.proofs.KeptBytes.{same_payloads}
 use Rattle.engine_core.proofs.state.EngineState.lose.Goals as goal
 
 pub returns-in-Ok : goal.returns-in-Ok
@@ -22,8 +23,10 @@ returns-in-Ok g c = record {
   disk = λ told. inr (inl (record {
     leaves = record { mid = c.begin.new.self.run; alike = begun_alike c.args.now c.args.self.now c.begin.new.self c.begin.ensures.same; leaves = c.lose.ensures.leaves told };
     none = λ never. absurd never;
+    writes = same_payloads g.D.Disk.state c.begin.new.self.run c.lose.new.self.disk c.lose.ensures.disk;
   }));
   reads = λ told. tt;
+  finds = λ told. tt;
 }
 
 pub returns-in-Err : goal.returns-in-Err
@@ -37,4 +40,5 @@ returns-in-Err g c = record {
       );
   disk = λ told. inl (begun_alike c.args.now c.args.self.now c.begin.new.self c.begin.ensures.same);
   reads = λ told. tt;
+  finds = λ told. tt;
 }

@@ -35,6 +35,7 @@ returns-in-Some g c = record {
       );
   disk = λ told. inl (come_alike c.args.now c.args.self.now.run c.come_to.new.self c.come_to.ensures);
   reads = λ told. tt;
+  finds = λ told. tt;
 }
 
 pub returns-in_default-place_of_claim : goal.returns-in_default-place_of_claim
@@ -54,6 +55,7 @@ returns-in_default-place_of_claim g c = record {
       );
   disk = λ told. inl (come_alike c.args.now c.args.self.now.run c.come_to.new.self c.come_to.ensures);
   reads = λ told. tt;
+  finds = λ told. tt;
 }
 
 pub returns-then-want-eq0 : goal.returns-then-want-eq0
@@ -74,6 +76,7 @@ returns-then-want-eq0 g c = record {
       );
   disk = λ told. inl (come_alike c.args.now c.args.self.now.run c.come_to.new.self c.come_to.ensures);
   reads = λ told. tt;
+  finds = λ told. tt;
 }
 
 pub take-requires-clause-place : goal.take-requires-clause-place
@@ -108,6 +111,7 @@ returns-in-Go g c = record {
       );
   disk = λ told. inl (come_alike c.args.now c.args.self.now.run c.come_to.new.self c.come_to.ensures);
   reads = λ told. tt;
+  finds = λ told. tt;
 }
 
 pub returns-in-Hold : goal.returns-in-Hold
@@ -134,4 +138,5 @@ returns-in-Hold g c = record {
       );
   disk = λ told. inl (come_alike c.args.now c.args.self.now.run c.come_to.new.self c.come_to.ensures);
   reads = λ told. tt;
+  finds = λ told. tt;
 }

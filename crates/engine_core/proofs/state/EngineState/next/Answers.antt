@@ -10,6 +10,7 @@ use Rattle.stored_run.specs.Steps.{turn_from}
 use Rattle.engine_core.specs.Engines.{past_of, standing_of, start_of}
 use Rattle.engine_core.proofs.Letting.{front_lets_none}
 use Rattle.engine_core.proofs.ReadOn.{gives_before, gives_none}
+use Rattle.engine_core.proofs.FoundOn.{finds_before, finds_nothing, finds_unopened}
 use Rattle.engine_core.proofs.state.EngineState.next.Goals as goal
 
 pub returns-in-Err : goal.returns-in-Err
@@ -24,6 +25,8 @@ returns-in-Err g c = record {
   disk = λ told. inl (begun_alike c.args.now c.args.self.now c.begin.new.self c.begin.ensures.same);
   reads = λ told. gives_none c.args.self.now.run c.in-Err.said (g.D.Disk.state c.args.self.now.run.disk).seen
       (front_lets_none true true (start_of c.args.self.now) (past_of c.args.self.now) c.in-Err.said c.in-Err.ensures.broken_off);
+  finds = λ told. finds_nothing g.D.Disk.state c.args.self.now.run c.begin.new.self.run
+      (begun_alike c.args.now c.args.self.now c.begin.new.self c.begin.ensures.same);
 }
 
 pub open_next-requires-clause-next : goal.open_next-requires-clause-next
@@ -67,6 +70,9 @@ returns-in-Some g c = record {
       gives_none old.run c.open_next.result (g.D.Disk.state old.run.disk).seen
       (calm_opens c.in-Some.gid (turn_from mid.run (g.D.Disk.faults mid.run.disk)) (standing_of mid) row.events c.open_next.result
       (row.is (g.D.Disk.faults mid.run.disk) (standing_of mid) (omega arith) refl)).1;
+  finds = λ told. finds_before g.D.Disk.state c.args.self.now.run c.begin.new.self.run
+      (begun_alike c.args.now c.args.self.now c.begin.new.self c.begin.ensures.same) c.open_next.new.self
+      (c.open_next.ensures.checks told) (c.open_next.ensures.ends told);
 }
 
 pub give_offer-requires-clause-rates : goal.give_offer-requires-clause-rates
@@ -93,12 +99,18 @@ returns-in-None g c = record {
       (λ at s events row. rest_answers a.worker a.now at s events said row)
       (λ at s events row. rest_calm a.worker at s events said row)
       );
-  disk = λ told. run_unopened g.D.Disk.state (operation.Next c.args.worker c.args.now) c.args.now c.args.self.now
+  disk = λ told. run_unopened g.D.Disk.state c.args.worker c.args.now c.args.self.now
       c.begin.new.self c.begin.ensures.same c.give_offer.new.self c.give_offer.result
-      (λ asked. next_was c.args.now c.args.self.now c.begin.new.self c.begin.ensures.same None
+      (next_was c.args.now c.args.self.now c.begin.new.self c.begin.ensures.same None
       (sym (ap (λ (m : MachineView). next_to_open m.start m.past) c.machine.ensures) ∙ (sym c.next_to_open.ensures ∙ c.in-None.is)))
       (c.give_offer.ensures.disk told);
   reads = λ told. gives_before g.D.Disk.state c.args.self.now.run c.begin.new.self.run
       (begun_alike c.args.now c.args.self.now c.begin.new.self c.begin.ensures.same) c.give_offer.result
       (c.give_offer.ensures.reads told);
+  finds = λ told. finds_unopened g.D.Disk.state c.args.self.now.run c.begin.new.self.run
+      (begun_alike c.args.now c.args.self.now c.begin.new.self c.begin.ensures.same) c.give_offer.new.self.run
+      (next_was c.args.now c.args.self.now c.begin.new.self c.begin.ensures.same None
+      (sym (ap (λ (m : MachineView). next_to_open m.start m.past) c.machine.ensures)
+      ∙ (sym c.next_to_open.ensures ∙ c.in-None.is)))
+      (c.give_offer.ensures.finds told);
 }

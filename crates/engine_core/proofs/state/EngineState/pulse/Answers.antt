@@ -21,6 +21,7 @@ returns-in-Some g c = record {
       );
   disk = λ told. inl (alike_same c.args.self.now.run);
   reads = λ told. tt;
+  finds = λ told. tt;
 }
 
 pub returns-in-None : goal.returns-in-None
@@ -35,4 +36,5 @@ returns-in-None g c = record {
       );
   disk = λ told. inl (alike_same c.args.self.now.run);
   reads = λ told. tt;
+  finds = λ told. tt;
 }

@@ -17,6 +17,7 @@ use Rattle.engine_core.proofs.Performed.{nothing_came, out_same, row_came}
 use Rattle.engine_core.proofs.Sealed.{but_none, but_untaken, calm_sealed, front_takes_none, is_out, out_going, out_settled, sealed_after, sealed_row}
 use Rattle.engine_core.proofs.Alike.{begun_alike}
 use Rattle.engine_core.proofs.ReadOn.{seals_nothing, takes_seal}
+use Rattle.engine_core.proofs.FoundOn.{checks_before, checks_nothing}
 use Rattle.engine_core.proofs.state.EngineState.seal.Goals as goal
 
 pub returns-in-Err : goal.returns-in-Err
@@ -44,6 +45,8 @@ returns-in-Err g c = record {
       let yes : true ≡ false = sym (ap is_taken is) ∙ untaken in absurd cc)
       (λ there. (is_out (start_of c.args.self.now) (past_of c.args.self.now) c.args.gid c.args.sealed.now.piece
       c.args.self.now.handed.pieces there c.requires.out).unsettled.awaits.within);
+  finds = λ told. checks_nothing g.D.Disk.state c.args.self.now.run c.begin.new.self.run
+      (begun_alike c.args.now c.args.self.now c.begin.new.self c.begin.ensures.same);
 }
 
 pub returns-then-not-is_out : goal.returns-then-not-is_out
@@ -80,6 +83,8 @@ returns-then-not-is_out g c = record {
       let yes : true ≡ false = sym out ∙ none in absurd cc)
       (λ there. (is_out (start_of c.args.self.now) (past_of c.args.self.now) c.args.gid c.args.sealed.now.piece
       c.args.self.now.handed.pieces there c.requires.out).unsettled.awaits.within);
+  finds = λ told. checks_nothing g.D.Disk.state c.args.self.now.run c.begin.new.self.run
+      (begun_alike c.args.now c.args.self.now c.begin.new.self c.begin.ensures.same);
 }
 
 pub seal-said-requires-clause-going : goal.seal-said-requires-clause-going
@@ -158,6 +163,7 @@ returns g c = record {
   disk = λ told. inr (inl (record {
     leaves = record { mid = c.begin.new.self.run; alike = begun_alike c.args.now c.args.self.now c.begin.new.self c.begin.ensures.same; leaves = c.seal-said.ensures.leaves told };
     none = λ never. absurd never;
+    writes = c.seal-said.ensures.payloads told;
   }));
   reads = λ told.
       let a = c.args in
@@ -173,4 +179,7 @@ returns g c = record {
       (c.seal-said.ensures.void told)
       (λ there. (is_out (start_of c.args.self.now) (past_of c.args.self.now) c.args.gid c.args.sealed.now.piece
       c.args.self.now.handed.pieces there c.requires.out).unsettled.awaits.within);
+  finds = λ told. checks_before g.D.Disk.state c.args.self.now.run c.begin.new.self.run
+      (begun_alike c.args.now c.args.self.now c.begin.new.self c.begin.ensures.same) c.seal-said.new.self
+      (c.seal-said.ensures.checks told);
 }

@@ -26,6 +26,8 @@ returns g c = record {
       leaves = c.stop.ensures.leaves told;
     };
     none = λ never. absurd never;
+    writes = c.stop.ensures.payloads told;
   }));
   reads = λ told. tt;
+  finds = λ told. tt;
 }
