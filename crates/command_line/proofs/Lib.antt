@@ -1,2 +1,3 @@
 pub mod OptionLists
 pub mod Parsed
+pub mod OneLine

@@ -2,10 +2,12 @@
 #![tactic(auto)]
 
 mod command;
+mod laws;
 mod line;
 mod options;
 mod source;
 
+pub use laws::lines_are_one;
 pub use line::{CommandLine, read};
 pub use source::Source;
 pub use std::alloc::AllocError as NoMemory;
