@@ -41,7 +41,20 @@ AddsTorrent info uris options other = ⊥
 abbrev pub AddsSaid : Option (List ℕ) → List (List ℕ) → List Assigned → Call → Type 0
 AddsSaid file uris options call = (info : Info) × Says file info × AddsTorrent info uris options call
 
--- the call adds what the source names, with these options
+-- .. whatever the file says
+abbrev pub AddsNamed : List (List ℕ) → List Assigned → Call → Type 0
+AddsNamed uris options (AddTorrent meta its_uris its_options position) =
+    (its_uris ≡ uris) × (its_options ≡ options) × (position ≡ None)
+AddsNamed uris options other = ⊥
+
+-- the call adds what the source names, with these options; of a metainfo file, whatever it says
+abbrev pub IsNamedCall : Source → List Assigned → Option Call → Type 0
+IsNamedCall (source.Metainfo file uris) options None = ⊥
+IsNamedCall (source.Metainfo file uris) options (Some call) = AddsNamed uris options call
+IsNamedCall (source.Mirrors uris) options call = call ≡ Some (AddUri uris options None)
+IsNamedCall source.Console options call = call ≡ None
+
+-- .. and of a metainfo file, what it says
 abbrev pub IsCallOf : Files → Source → List Assigned → Option Call → Type 0
 IsCallOf seen (source.Metainfo file uris) options None = ⊥
 IsCallOf seen (source.Metainfo file uris) options (Some call) = AddsSaid (seen file) uris options call

@@ -3,8 +3,10 @@ ghost use Rattle.std.specs.Prelude.{◌≤◌, IsTrue, IfOk, IfSome, IsErrOf, Ma
 ghost use Rattle.dl_words.specs.Counts.{Rose};
 ghost use Rattle.command_line.specs.Sources.{AreUris};
 ghost use Rattle.dl_disk.specs.Calls.{Stays};
+ghost use Rattle.dl_disk.specs.Files.{IsSame};
+ghost use Rattle.dl_disk.specs.Passes.{Passes};
 ghost use Rattle.machine_core.specs.LawfulCalls.{AreOfDownloads, IsLawful};
-ghost use Rattle.first_call.specs.Sources.{AddsSaid, AreNamed, IsCallOf, RefusesMetainfo, RefusesSource};
+ghost use Rattle.first_call.specs.Sources.{AddsNamed, AddsSaid, AreNamed, IsCallOf, IsNamedCall, RefusesMetainfo, RefusesSource};
 ghost use Rattle.first_call.specs.declared.refusals.SourceErr.TheVariants.{Fault};
 
 use crate::file::read_metainfo_file;
@@ -29,10 +31,12 @@ fn torrent_call<D: Disk>(
     ensures told { IsTrue D.tells → MatchResult result
         (λ call. AddsSaid ((D.state disk.old).seen file.now) uris options call)
         (RefusesMetainfo ((D.state disk.old).seen file.now) uris) }
+    ensures named { IfOk result (AddsNamed uris options) }
     ensures lawful { IfOk result IsLawful }
     ensures fault { IsErrOf result Fault → Rose (D.faults disk.old) (D.faults disk.new) }
     ensures later { D.faults disk.old ≤ D.faults disk.new }
     ensures stays { IsTrue D.tells → Stays (D.state disk.old) (D.state disk.new) }
+    ensures passes { IsTrue D.tells → Passes IsSame (D.state disk.old) (D.state disk.new) }
 {
     let meta = read_metainfo_file(alloc, disk, file.as_str())?;
     let mirrors = meta.seeds.len() as u64 + uris.len() as u64;
@@ -60,10 +64,12 @@ pub fn first_call<D: Disk>(
     ensures told { IsTrue D.tells → MatchResult result
         (IsCallOf (D.state disk.old).seen source options)
         (RefusesSource (D.state disk.old).seen source) }
+    ensures named { IfOk result (IsNamedCall source options) }
     ensures lawful { IfOk result (λ call. IfSome call IsLawful) }
     ensures fault { IsErrOf result Fault → Rose (D.faults disk.old) (D.faults disk.new) }
     ensures later { D.faults disk.old ≤ D.faults disk.new }
     ensures stays { IsTrue D.tells → Stays (D.state disk.old) (D.state disk.new) }
+    ensures passes { IsTrue D.tells → Passes IsSame (D.state disk.old) (D.state disk.new) }
 {
     match source {
         Source::Metainfo { file, uris } => {

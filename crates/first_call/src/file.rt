@@ -2,6 +2,8 @@
 ghost use Rattle.std.specs.Prelude.{◌≡◌, ◌≤◌, ℕ, List, Option, IsTrue, IfOk, IsErrOf, MatchResult, length};
 ghost use Rattle.dl_words.specs.Counts.{Rose};
 ghost use Rattle.dl_disk.specs.Calls.{Stays};
+ghost use Rattle.dl_disk.specs.Files.{IsSame};
+ghost use Rattle.dl_disk.specs.Passes.{Passes};
 ghost use Rattle.metainfo.specs.Info.{info_of};
 ghost use Rattle.metainfo.specs.Rules.{IsMetaOfSome};
 ghost use Rattle.first_call.specs.Files.{HasBytes, RefusesFile, Says};
@@ -39,6 +41,7 @@ fn bytes_of<D: Disk>(alloc: Global, disk: &mut D, name: &str) -> Result<Vec<u8>,
     ensures fault { IsErrOf result Fault → Rose (D.faults disk.old) (D.faults disk.new) }
     ensures later { D.faults disk.old ≤ D.faults disk.new }
     ensures stays { IsTrue D.tells → Stays (D.state disk.old) (D.state disk.new) }
+    ensures passes { IsTrue D.tells → Passes IsSame (D.state disk.old) (D.state disk.new) }
 {
     let len = match disk.len(name)? {
         None => return Err(SourceErr::Missing),
@@ -80,6 +83,7 @@ pub fn read_metainfo_file<D: Disk>(
     ensures fault { IsErrOf result Fault → Rose (D.faults disk.old) (D.faults disk.new) }
     ensures later { D.faults disk.old ≤ D.faults disk.new }
     ensures stays { IsTrue D.tells → Stays (D.state disk.old) (D.state disk.new) }
+    ensures passes { IsTrue D.tells → Passes IsSame (D.state disk.old) (D.state disk.new) }
 {
     let bytes = bytes_of(alloc, disk, name)?;
     meta_of(alloc, &bytes)
