@@ -11,9 +11,12 @@ use Rattle.engine_turns.specs.declared.operations.Operation.TheVariants as opera
 use Rattle.engine_turns.specs.declared.operations.Said.{Said}
 use Rattle.engine_turns.specs.declared.operations.Said.TheVariants as said
 use Rattle.link_source.specs.Exchanges.{Exchange}
+use Rattle.reply_reader.specs.declared.loss.Loss.{Loss}
+use Rattle.dl_kinds.specs.declared.marks.Mark.{Mark}
 use Rattle.request_chain.specs.Chains.{received_by}
 use Rattle.verify_piece.specs.Seals.{PieceBytes}
 use Rattle.conn_worker.specs.Allowed.{IsUsedFor, LinksReceiveWhatIsAllowed, ReceivesAllowed, ReceivesAtMost, allowed_by, allowed_in}
+use Rattle.conn_worker.specs.Brought.{EndsClaim}
 use Rattle.conn_worker.specs.Facts.{HasUsed, IsFetchingAt}
 use Rattle.conn_worker.specs.Hands.{Fetching, Hand, Nothing, Fetches, Probes, Seals, LinkAt, Probing, WorkerAt, allowing, delivered, fresh}
 use Rattle.conn_worker.specs.Sound.{NoGrant}
@@ -341,6 +344,50 @@ turns_go tells worker (t ∷ ts) a b end works =
     λ spending. hand_goes tells ts t b.link a.hand a.link
     (turn_goes tells ts b.link worker t.op (turn_moment works.0 a.moment) t.answer.said a.hand a.link m.hand m.link
     does.op does.follows spending goes)
+
+-- ---- behind a claim's end
+
+-- a loss leaves nothing of its claim in hand
+lost_goes : (tells : Bool) (ts : List RunTurn) (last : LinkAt) (f : Fetching) (loss : Loss) (mark : Mark) (answer : Said)
+    (link : LinkAt) (hand' : Hand) (link' : LinkAt) → f.gain ≡ Lost loss mark
+    → FollowsAnswer tells (Fetches f) answer link hand' link' → Goes tells ts last hand' link'
+    → Behind tells answer ts last link
+lost_goes tells ts last f loss mark (said.Grant granted) link hand' link' is follows goes =
+    grant_goes tells ts last granted link hand' link' follows goes
+lost_goes tells ts last f loss mark answer link hand' link' is follows goes =
+    not_used tells answer ts last link tt
+    (left_nothing tells ts last link hand' link'
+    (subst (λ (g : Gain). FollowsFetch tells f g answer link hand' link') is
+    (fetch_followed tells f answer link hand' link' tt follows)) goes)
+
+module _ (tells : Bool) (ts : List RunTurn) (last : LinkAt) (worker : ℕ) (op : Operation) (now : Moment) (ends : EndsClaim op)
+    (answer : Said) (link : LinkAt) (hand' : Hand) (link' : LinkAt) (goes : Goes tells ts last hand' link') where
+  ended_fetch : (f : Fetching) (gain : Gain) → f.gain ≡ gain → op ≡ fetch_op worker f now gain
+      → FollowsAnswer tells (Fetches f) answer link hand' link' → Behind tells answer ts last link
+  ended_fetch f (Ready run bytes end) is due follows = absurd (subst EndsClaim due ends)
+  ended_fetch f (Lost loss mark) is due follows =
+      lost_goes tells ts last f loss mark answer link hand' link' is follows goes
+  ended_fetch f Open is due follows = absurd (subst EndsClaim due ends)
+  ended_fetch f Starved is due follows = absurd (subst EndsClaim due ends)
+
+  ended_hand : (hand : Hand) → op ≡ due_op worker hand now → FollowsAnswer tells hand answer link hand' link'
+      → Behind tells answer ts last link
+  ended_hand Nothing due follows = absurd (subst EndsClaim due ends)
+  ended_hand (Fetches f) due follows = ended_fetch f f.gain refl due follows
+  ended_hand (Probes p) due follows =
+      turn_goes tells ts last worker op now answer (Probes p) link hand' link' due follows tt goes
+  ended_hand (Seals gid sealed) due follows = absurd (subst EndsClaim due ends)
+
+-- from a turn that ends its claim on
+pub ended_goes : (tells : Bool) (worker : ℕ) (t : RunTurn) (ts : List RunTurn) (a b : WorkerAt) (end : Option WorkEnd)
+    → Works tells worker (t ∷ ts) a b end → EndsClaim t.op → ReceivesAllowed tells (t ∷ ts) a.link b.link
+ended_goes tells worker t ts a b end works ends =
+    let m = works.1 in
+    let does = works.2 in
+    let goes = goes_by tells worker ts m b (end_behind t.answer.said m.hand) end
+    (turns_go tells worker ts m b end) works.3 in
+    ended_hand tells ts b.link worker t.op (turn_moment works.0 a.moment) ends t.answer.said a.link m.hand m.link goes a.hand
+    does.op does.follows
 
 pub receives_allowed : LinksReceiveWhatIsAllowed
 receives_allowed tells worker turns link b end works = turns_go tells worker turns (fresh link) b end works tt

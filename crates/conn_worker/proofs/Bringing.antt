@@ -22,7 +22,7 @@ use Rattle.reply_reader.specs.declared.loss.Loss.TheVariants.{Link}
 use Rattle.request_chain.specs.Links.{CountsLinkLoss}
 use Rattle.span_map.specs.Jobs.{run_end, run_start}
 use Rattle.span_map.specs.declared.jobs.Job.{Job}
-use Rattle.conn_worker.specs.Brought.{BringsWhatCame, LastGrant, TurnsBringWhatCame, brought_in}
+use Rattle.conn_worker.specs.Brought.{BringsWhatCame, EndsClaim, IsLaterLink, LastGrant, TurnsBringWhatCame, brought_in}
 use Rattle.conn_worker.specs.Facts.{HasUsed, IsFetchingAt, IsGain, IsProbingAt, IsProbeEnd, TellsRest}
 use Rattle.conn_worker.specs.Hands.{Fetching, Hand, Nothing, Fetches, Probes, Seals, LinkAt, Probing, WorkerAt, allowing, begun_fetch, delivered, fresh}
 use Rattle.conn_worker.specs.Sound.{NoGrant}
@@ -33,7 +33,8 @@ use Rattle.conn_worker.specs.declared.hands.Gain.{Gain}
 use Rattle.conn_worker.specs.declared.hands.Gain.TheVariants.{Lost, Open, Ready, Starved}
 use Rattle.conn_worker.specs.declared.hands.ProbeEnd.{ProbeEnd}
 use Rattle.conn_worker.specs.declared.hands.ProbeEnd.TheVariants.{Told, Missed, Lacking}
-use Rattle.conn_worker.proofs.Allowing.{fetch_followed, nothing_followed, probe_followed, seal_followed}
+use Rattle.conn_worker.proofs.Allowing.{ended_goes, fetch_followed, nothing_followed, probe_followed, seal_followed}
+use Rattle.conn_worker.proofs.Later.{receives_later}
 use Rattle.conn_worker.proofs.Turns.{one_more}
 
 -- ---- counts
@@ -341,9 +342,10 @@ module _ (tells : Bool) (worker : ℕ) (link : LinkAt) where
 
   -- ---- each turn
 
-  abbrev Found : List RunTurn → RunTurn → Type 0
-  Found before t = (at : WorkerAt) × Works tells worker before (fresh link) at None
+  abbrev Found : List RunTurn → RunTurn → LinkAt → Type 0
+  Found before t last = (at : WorkerAt) × Works tells worker before (fresh link) at None
       × BringsWhatCame tells worker link before at.link t.op
+      × (EndsClaim t.op → IsLaterLink tells at.link last)
 
   goes_by : (ts : List RunTurn) (m b : WorkerAt) (by end : Option WorkEnd) → (ts ≡ [] → ⊥)
       → EndsOrGoesOn by ((ts ≡ []) × (b ≡ m) × (end ≡ by)) (Works tells worker ts m b end)
@@ -357,15 +359,17 @@ module _ (tells : Bool) (worker : ℕ) (link : LinkAt) where
 
   turns_bring : (past before : List RunTurn) (t : RunTurn) (behind : List RunTurn) (a b : WorkerAt)
       (end : Option WorkEnd) → Works tells worker past (fresh link) a None → IsGranted past a.hand a.link
-      → Works tells worker (before ++ t ∷ behind) a b end → Found (past ++ before) t
+      → Works tells worker (before ++ t ∷ behind) a b end → Found (past ++ before) t b.link
   turns_bring past [] t behind a b end so_far is works =
       let moment = turn_moment works.0 a.moment in
       let op = works.2.op in
-      subst (λ (ts : List RunTurn). Found ts t) (sym (append-nil past)) (
+      subst (λ (ts : List RunTurn). Found ts t b.link) (sym (append-nil past)) (
         a,
         so_far,
         subst (λ (o : Operation). BringsWhatCame tells worker link past a.link o) (sym op)
             (hand_brings past a.hand a.link moment is),
+        λ ends. receives_later tells (t ∷ behind) a.link b.link
+            (ended_goes tells worker t behind a b end works ends),
       )
   turns_bring past (u ∷ before) t behind a b end so_far is works =
       let m = works.1 in
@@ -373,7 +377,7 @@ module _ (tells : Bool) (worker : ℕ) (link : LinkAt) where
       let goes = goes_by (before ++ t ∷ behind) m b (end_behind u.answer.said m.hand) end (not_last before t behind)
       works.3 in
       let more = one_more tells worker past (fresh link) a m works.0 u None so_far does goes.0 in
-      subst (λ (ts : List RunTurn). Found ts t) (append_assoc past (u ∷ []) before)
+      subst (λ (ts : List RunTurn). Found ts t b.link) (append_assoc past (u ∷ []) before)
       (turns_bring (past ++ u ∷ []) before t behind m b end more
       (turn_granted past u u.answer.said (turn_moment works.0 a.moment) a m.hand m.link refl does.op so_far does.follows is)
       goes.1)

@@ -5,5 +5,6 @@ pub mod Asking
 pub mod Turns
 pub mod Sounds
 pub mod Allowing
+pub mod Later
 pub mod Bringing
 pub mod TakingTurns

@@ -1,5 +1,5 @@
 -- What the turns of a worker bring is what came over its link for the claim that was granted last.
-use Rattle.std.specs.Prelude.{◌≡◌, ◌<◌, ◌+◌, ℕ, Bool, IsTrue, List, [], ◌∷◌, ◌++◌, length, Option, Some, None, All}
+use Rattle.std.specs.Prelude.{◌≡◌, ◌<◌, ◌≤◌, ◌+◌, ℕ, Bool, IsTrue, List, [], ◌∷◌, ◌++◌, length, Option, Some, None, All}
 use Rattle.dl_kinds.specs.declared.gid.Gid.{Gid}
 use Rattle.dl_kinds.specs.declared.marks.Mark.{Mark}
 use Rattle.dl_kinds.specs.declared.runs.Run.{Run}
@@ -17,6 +17,7 @@ use Rattle.fetch_session.specs.Fetches.{IsFrontOfFetched}
 use Rattle.link_source.specs.Exchanges.{Exchange}
 use Rattle.reply_reader.specs.Losses.{mark_of}
 use Rattle.reply_reader.specs.declared.loss.Loss.{Loss}
+use Rattle.request_chain.specs.Chains.{Gains}
 use Rattle.request_chain.specs.Probes.{Probed, TellsProbeLoss, Told as TellsTotal}
 use Rattle.span_map.specs.Jobs.{run_end, run_start}
 use Rattle.conn_worker.specs.Facts.{HasUsed, TellsRest}
@@ -111,10 +112,32 @@ BringsWhatCame tells worker link turns now (operation.More claim want moment) =
 BringsWhatCame tells worker link turns now (operation.Next asked moment) = asked ≡ worker
 BringsWhatCame tells worker link turns now op = ⊥
 
--- each turn of a worker, with the worker as it was then
+-- ---- the link meanwhile
+
+-- the link went on from the one to the other: no fault is forgotten, and these exchanges came on top
+pub record IsLaterLink (tells : Bool) (older newer : LinkAt) : Type 0 where
+  pub faults : older.faults ≤ newer.faults
+  pub used : List Exchange
+  pub gained : IsTrue tells → Gains older.state.exchanges newer.state.exchanges used
+
+-- what it tells ends its claim
+abbrev pub EndsClaim : Operation → Type 0
+EndsClaim (operation.Lose claim mark moment) = Unit {0}
+EndsClaim (operation.Sized claim total moment) = Unit {0}
+EndsClaim op = ⊥
+
+-- Each turn of a worker, with the worker as it was then. From a turn that ends its claim the link goes on to where it is behind
+-- them all.
 abbrev pub TurnsBringWhatCame : Type 0
 TurnsBringWhatCame =
     (tells : Bool) (worker : ℕ) (link : LinkAt) (before : List RunTurn) (t : RunTurn) (behind : List RunTurn)
     (b : WorkerAt) (end : Option WorkEnd) → Works tells worker (before ++ t ∷ behind) (fresh link) b end
     → (at : WorkerAt) × Works tells worker before (fresh link) at None
     × BringsWhatCame tells worker link before at.link t.op
+    × (EndsClaim t.op → IsLaterLink tells at.link b.link)
+
+-- the link of a worker goes on from where it was before the first of its turns
+abbrev pub LinksGoOn : Type 0
+LinksGoOn =
+    (tells : Bool) (worker : ℕ) (turns : List RunTurn) (link : LinkAt) (b : WorkerAt) (end : Option WorkEnd)
+    → Works tells worker turns (fresh link) b end → IsLaterLink tells link b.link

@@ -1,6 +1,6 @@
 // Laws. They do nothing when they run.
 ghost use Rattle.conn_worker.specs.Allowed.{LinksReceiveWhatIsAllowed};
-ghost use Rattle.conn_worker.specs.Brought.{TurnsBringWhatCame};
+ghost use Rattle.conn_worker.specs.Brought.{LinksGoOn, TurnsBringWhatCame};
 ghost use Rattle.conn_worker.specs.Sound.{AnswersAreSound};
 
 /// Blocks that a run grants are blocks of a plan, and an allowance is of a byte at least.
@@ -16,6 +16,8 @@ pub fn links_receive_what_is_allowed()
 
 /// A worker asks for work under its own number, and each other turn is of what was granted to it last: the blocks, the loss, the
 /// length or the digest that it brings are what came over its link since then, and more bytes are asked for of these blocks alone.
+/// Its link goes on all the while, also from where a loss or a length was told.
 pub fn turns_bring_what_came()
-    ensures { TurnsBringWhatCame }
+    ensures brought { TurnsBringWhatCame }
+    ensures links { LinksGoOn }
 {}
