@@ -31,14 +31,15 @@ module _ {O : Type 0} (sinks : SinkSays O) where
   EndsBy {D} false v out out' ending = Reports v out out' ending
 
   -- the journal is the engine's legal history, and the disk is its own
-  pub record Finishes {D : Type 0} (v : EngineView D) (short : Bool) (out : O) (ended : Ended D) (out' : O) : Type 0 where
-    pub disk : ended.disk ≡ v.state.run.disk
-    pub journal : ended.journal.events.items ≡ reverse (past_of v.state)
-    pub legal : IsLegal (start_of v.state) (past_of v.state)
-    pub ends : EndsBy short v out out' ended.ending
+  pub record Finishes {D : Type 0} (v : EngineView D) (short : Bool) (out : O) (ended : Ended D) (out' : O) : Type 0
+    where
+      pub disk : ended.disk ≡ v.state.run.disk
+      pub journal : ended.journal.events.items ≡ reverse (past_of v.state)
+      pub legal : IsLegal (start_of v.state) (past_of v.state)
+      pub ends : EndsBy short v out out' ended.ending
 
 module _ {D L O : Type 0} (says : DiskSays D) (links : LinkSays L) (sinks : SinkSays O) where
-  -- the run ended before it began: of the outside nothing changed
+  -- the run ended before it began: the disk was read at most, a refusal was told, and the link is as it was
   pub record NeverBegan (words : List (List ℕ)) (disk : D) (link : L) (out : O) (ended : Ended D) (link' : L) (out' : O)
       : Type 0 where
     pub refusal : RunEnding
@@ -55,8 +56,8 @@ module _ {D L O : Type 0} (says : DiskSays D) (links : LinkSays L) (sinks : Sink
     pub works : WorksThrough says links begun.desk link engine link' work_short
     pub finishes : Finishes sinks engine (begun.is_short || work_short) out ended out'
 
-  pub record Ran (words : List (List ℕ)) (gids : ℕ) (disk : D) (link : L) (out : O) (ended : Ended D) (link' : L) (out' : O)
-      : Type 0 where
+  pub record Ran (words : List (List ℕ)) (gids : ℕ) (disk : D) (link : L) (out : O) (ended : Ended D) (link' : L)
+      (out' : O) : Type 0 where
     pub begun : Begun D
     pub begins : HasBegun says words gids disk begun
     pub goes : GoesThrough begun link out ended link' out'

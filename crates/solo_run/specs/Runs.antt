@@ -1,11 +1,11 @@
 -- What a run over one link did.
-use Rattle.std.specs.Prelude.{◌≡◌, ◌||◌, ◌++◌, ℕ, Bool, true, false, List, [], ◌∷◌, Result, Ok, Err}
+use Rattle.std.specs.Prelude.{◌≡◌, ◌||◌, Bool, true, false, List, Result, Ok}
 use Rattle.conn_worker.specs.Works.{RunSight, Worked}
 use Rattle.conn_worker.specs.declared.ends.Spent.{Spent}
 use Rattle.conn_worker.specs.declared.ends.WorkEnd.{WorkEnd}
 use Rattle.conn_worker.specs.declared.ends.WorkEnd.TheVariants as end
 use Rattle.dl_disk.specs.declared.disk.Disk.{Ghosts as DiskSays}
-use Rattle.engine_core.specs.Beginnings.{beginning_of, events_in, stands_for, ties_run}
+use Rattle.engine_core.specs.Beginnings.{beginning_of, events_in, mark_of, stands_for, ties_run}
 use Rattle.engine_core.specs.EngineViews.{EngineStart, EngineView}
 use Rattle.engine_turns.specs.Told.{RunTurn}
 use Rattle.engine_turns.specs.declared.operations.Answer.{Answer}
@@ -14,7 +14,7 @@ use Rattle.engine_turns.specs.declared.operations.Said.{Said}
 use Rattle.link_source.specs.declared.Links.{Ghosts as LinkSays}
 use Rattle.machine_core.specs.declared.events.Event.{Event}
 use Rattle.turn_desk.specs.Sights.{Took}
-use Rattle.turn_desk.specs.Turns.{AreTurns, history}
+use Rattle.turn_desk.specs.Turns.{AreTurns, history, last_mark}
 use Rattle.turn_desk.specs.declared.turn.Given.{Given}
 use Rattle.solo_run.specs.Begins.{is_no_memory}
 
@@ -32,6 +32,7 @@ module _ {D : Type 0} (says : DiskSays D) where
     pub stands : stands_for says.tells says.state v turns
     pub start : beginning_of v ≡ given.start
     pub events : events_in v ≡ history given turns
+    pub mark : mark_of says.tells says.state says.faults v ≡ last_mark given.mark turns
     pub ties : AreTurns ties_run given turns
 
   -- The worker's turns came, and a last one that stops the run; of each it was seen whether memory was wanting.

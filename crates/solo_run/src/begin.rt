@@ -50,7 +50,7 @@ fn desk_of<D: Disk>(
     gids: u64,
     globals: Options,
 ) -> Result<SoloDesk<Engine<D>>, D>
-    ensures desk { IfOk result (IsDeskOf disk gids globals) }
+    ensures desk { IfOk result (IsDeskOf D.Disk disk gids globals) }
     ensures disk { IfErr result (λ given_back. given_back ≡ disk) }
 {
     let engine = Engine::new(alloc, disk, gids, globals, 0)?;

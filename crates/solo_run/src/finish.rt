@@ -1,8 +1,9 @@
 // The end of a run.
-ghost use Rattle.std.specs.Prelude.{◌≡◌, ◌||◌, map, string_bytes};
+ghost use Rattle.std.specs.Prelude.{◌≡◌, ◌||◌, [], map, string_bytes};
 ghost use Rattle.solo_run.specs.Finishes.{EndsBy, Finishes, GoesThrough, PrintsRefusal, RunsOver};
 
 use crate::begin::{Begun, Unbegun, begin};
+use crate::laws::begun_runs_are_stopped;
 use crate::work::{Worked, work_through};
 use dl_clock::Clock;
 use dl_disk::Disk;
@@ -99,9 +100,11 @@ pub(crate) fn run_over<D: Disk, L: Links, K: Clock, O: Sink>(
     gids: u64,
     out: &mut O,
 ) -> Ended<D>
-    ensures { RunsOver D.Disk L.Links O.Sink (map string_bytes words.now) gids disk
+    ensures runs { RunsOver D.Disk L.Links O.Sink (map string_bytes words.now) gids disk
         link.old out.old result link.new out.new }
+    ensures clock { result.journal.events.items ≡ [] → clock.new ≡ clock.old }
 {
+    begun_runs_are_stopped::<D, L, O>();
     match begin(alloc, words, disk, gids) {
         Ok(begun) => go_through(alloc, begun, link, clock, out),
         Err(Unbegun { ending, disk }) => Ended {

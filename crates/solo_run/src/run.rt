@@ -1,14 +1,23 @@
 // A run over one link.
 ghost use Rattle.std.specs.Prelude.{◌≡◌, ◌≤◌, IsTrue, length, map, string_bytes};
-ghost use Rattle.solo_run.specs.Headline.{DoesAlone, IsHistory, SurvivesRun};
+ghost use Rattle.solo_run.specs.DiskCauses.{LeavesOtherFiles, ShowsDisk};
+ghost use Rattle.solo_run.specs.Endings.{EndsAsShown};
+ghost use Rattle.solo_run.specs.Headline.{DoesAlone, SurvivesRun, ended_of};
+ghost use Rattle.solo_run.specs.Histories.{IsHistory};
+ghost use Rattle.solo_run.specs.LinkCauses.{ShowsFirstLink};
+ghost use Rattle.solo_run.specs.Printing.{PrintsText};
+ghost use Rattle.solo_run.specs.Untouched.{LeavesUnused};
 
 use crate::finish::{Ended, run_over};
+use crate::laws::{
+    begun_runs_are_stopped, runs_end_as_shown, runs_have_whole_histories, runs_leave_other_files,
+    runs_print_one_text, runs_show_their_disk, runs_show_their_link, runs_survive_crashes,
+};
 use dl_clock::Clock;
 use dl_disk::Disk;
 use dl_kinds::Sink;
 use link_source::Links;
 use machine_core::Journal;
-use run_promises::disks_keep_runs;
 use run_report::RunEnding;
 use std::alloc::Global;
 
@@ -38,14 +47,36 @@ pub fn run_alone<D: Disk, L: Links, K: Clock, A, O: Sink>(
     // What was done over the first link, from the words to the summary.
     ensures does { DoesAlone D.Disk L.Links O.Sink (map string_bytes words.now) gids disk links.items
         out.old result out.new }
-    // One legal history.
-    ensures history { IsHistory (map string_bytes words.now) gids result }
+    // How it ended is shown.
+    ensures ending { EndsAsShown D.Disk O.Sink (map string_bytes words.now) gids disk
+        out.old (ended_of result) out.new }
+    // Why it didn't begin is printed, or the summary, and nothing else.
+    ensures output { PrintsText D.Disk O.Sink (map string_bytes words.now) gids disk
+        out.old (ended_of result) out.new }
+    // One legal history, which begins with the call of the line and leaves nothing unsaved.
+    ensures history { IsHistory D.Disk (map string_bytes words.now) gids disk (ended_of result) }
+    // What it tells of the disk was so, and files that weren't asked for are as they were.
+    ensures disk { ShowsDisk D.Disk (map string_bytes words.now) gids disk (ended_of result) }
+    ensures others { IsTrue D.tells
+        → LeavesOtherFiles D.Disk (map string_bytes words.now) gids disk (ended_of result) }
+    // What it tells of the link came over it.
+    ensures link { ShowsFirstLink L.Links (map string_bytes words.now) gids
+        result.journal.events.items links.items result.links.items }
     // What is complete has its digests, and nothing that was promised is lost by a crash.
-    ensures survives { IsTrue D.tells → SurvivesRun D.Disk (map string_bytes words.now) gids disk result }
+    ensures survives { IsTrue D.tells
+        → SurvivesRun D.Disk (map string_bytes words.now) gids disk (ended_of result) }
     // Nothing else is touched.
+    ensures untouched { LeavesUnused D.Disk disk links.items (ended_of result) result.links.items }
     ensures doors { result.doors ≡ doors }
 {
-    disks_keep_runs::<D>();
+    begun_runs_are_stopped::<D, L, O>();
+    runs_end_as_shown::<D, L, O>();
+    runs_print_one_text::<D, L, O>();
+    runs_have_whole_histories::<D, L, O>();
+    runs_show_their_disk::<D, L, O>();
+    runs_leave_other_files::<D, L, O>();
+    runs_show_their_link::<D, L, O>();
+    runs_survive_crashes::<D, L, O>();
     let mut links = links;
     let (link, clock) = &mut links[0];
     let Ended {

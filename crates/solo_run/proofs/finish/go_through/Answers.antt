@@ -8,6 +8,7 @@ returns g c = record {
   work_short = c.work_through-worked.result.is_short;
   works = c.work_through-worked.ensures;
   finishes = subst
-      (λ (short : Bool). Finishes g.O.Sink c.work_through-worked.result.engine short c.args.out.now c.finish.result c.finish.new.out)
+      (λ (short : Bool). Finishes g.O.Sink c.work_through-worked.result.engine short c.args.out.now c.finish.result
+      c.finish.new.out)
       c.either.ensures c.finish.ensures;
 }

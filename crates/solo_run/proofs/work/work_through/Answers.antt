@@ -1,6 +1,4 @@
-use Rattle.std.proofs.Common.{◌≡◌, List, sym, subst}
-use Rattle.conn_worker.specs.Works.{RunSight}
-use Rattle.engine_core.specs.Beginnings.{stands_for}
+use Rattle.std.proofs.Common.{List, subst}
 use Rattle.engine_turns.specs.Told.{RunTurn}
 use Rattle.solo_run.specs.Runs.{IsAfter}
 use Rattle.solo_run.proofs.work.work_through.Goals as goal
@@ -22,6 +20,7 @@ returns g c =
             stands = came.at.stands_for;
             start = came.at.start_is;
             events = came.at.entries_are;
+            mark = came.at.mark_is;
             ties = came.knows.whole;
           });
     }

@@ -1,0 +1,68 @@
+// What follows from all that a run over one link did. Laws do nothing when they run.
+ghost use Rattle.solo_run.specs.HeadlineLaws.{BegunAreStopped, RunsEndAsShown, RunsHaveHistories, RunsLeaveOtherFiles, RunsPrintText, RunsShowDisk, RunsShowLink, RunsSurvive};
+
+use command_line::lines_are_one;
+use conn_worker::turns_bring_what_came;
+use dl_disk::Disk;
+use dl_kinds::Sink;
+use engine_turns::{downloads_go_on_once, turns_tell_runs};
+use link_source::Links;
+use machine_core::{downloads_stay, wants_stay};
+use run_promises::disks_keep_runs;
+
+/// A run that began was stopped, so its history isn't empty.
+pub fn begun_runs_are_stopped<D: Disk, L: Links, O: Sink>()
+    ensures { BegunAreStopped D.Disk L.Links O.Sink }
+{
+    turns_tell_runs();
+}
+
+/// The words, the named file, the history or a count of faults show how a run ended, but for want of memory.
+pub fn runs_end_as_shown<D: Disk, L: Links, O: Sink>()
+    ensures { RunsEndAsShown D.Disk L.Links O.Sink }
+{
+    lines_are_one();
+}
+
+/// A run prints why it didn't begin, or the summary of its history, and nothing else.
+pub fn runs_print_one_text<D: Disk, L: Links, O: Sink>()
+    ensures { RunsPrintText D.Disk L.Links O.Sink }
+{}
+
+/// The history of a run begins with the call of its line, and leaves nothing unsaved.
+pub fn runs_have_whole_histories<D: Disk, L: Links, O: Sink>()
+    ensures { RunsHaveHistories D.Disk L.Links O.Sink }
+{
+    downloads_go_on_once();
+    downloads_stay();
+    turns_tell_runs();
+}
+
+/// What a run told complete has its digests, and nothing that it promised is lost by a crash.
+pub fn runs_survive_crashes<D: Disk, L: Links, O: Sink>()
+    ensures { RunsSurvive D.Disk L.Links O.Sink }
+{
+    disks_keep_runs::<D>();
+}
+
+/// What the history tells of the disk was so at a moment of the run.
+pub fn runs_show_their_disk<D: Disk, L: Links, O: Sink>()
+    ensures { RunsShowDisk D.Disk L.Links O.Sink }
+{
+    turns_tell_runs();
+}
+
+/// A run leaves the files of all wants as they are but those that it opened.
+pub fn runs_leave_other_files<D: Disk, L: Links, O: Sink>()
+    ensures { RunsLeaveOtherFiles D.Disk L.Links O.Sink }
+{
+    wants_stay();
+}
+
+/// What the history tells of the link came over it.
+pub fn runs_show_their_link<D: Disk, L: Links, O: Sink>()
+    ensures { RunsShowLink D.Disk L.Links O.Sink }
+{
+    downloads_stay();
+    turns_bring_what_came();
+}
