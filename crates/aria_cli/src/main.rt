@@ -1,8 +1,8 @@
 //! The downloader over real files, TCP and standard output.
 #![tactic(auto)]
 
-use aria_top::{Finished, run};
-use real_edge::{FileDisk, StdOut, TcpLinks};
+use real_edge::{FileDisk, StdClock, StdOut, TcpLinks};
+use solo_run::{Finished, run_alone};
 use std::io::ErrorKind;
 use std::process::ExitCode;
 use std::random::RandomSource;
@@ -20,17 +20,21 @@ fn download(rt: &HostRuntime) -> io::Result<u8> {
     let alloc = rt.alloc();
     let words = words(rt)?;
     let mut links = Vec::new(alloc);
-    links.push(TcpLinks::new(rt))?;
+    links.push((TcpLinks::new(rt), StdClock::new(rt)?))?;
     let mut gids = [0; 8];
     rt.fill_bytes(&mut gids)?;
     let gids = u64::from_ne_bytes(gids);
     let mut out = StdOut::new(rt.stdout());
+    let disk = FileDisk::new(rt);
+    let doors = Vec::<((), StdClock<HostRuntime>)>::new(alloc);
     let Finished {
-        status,
+        ending,
         disk: _disk,
         links: _links,
-    } = run(alloc, &words, FileDisk::new(rt), links, gids, &mut out);
-    Ok(status)
+        doors: _doors,
+        journal: _journal,
+    } = run_alone(alloc, &words, disk, links, doors, gids, &mut out);
+    Ok(ending.code())
 }
 
 // The words of the command line after the program's name. A word that isn't UTF-8 makes the whole line faulty, as no
