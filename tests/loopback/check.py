@@ -8,9 +8,30 @@ import subprocess
 import sys
 import tempfile
 
-from cases import connections, layouts, metainfos, moves, one_request, peers, replies, rests, stores  # each lists its cases
+from cases import (  # each lists its cases
+    chosen,
+    connections,
+    faults,
+    layouts,
+    metainfos,
+    moves,
+    one_request,
+    peers,
+    rates,
+    replies,
+    rests,
+    resumes,
+    several,
+    stores,
+    uris,
+    words,
+)
 from lib.mirrors import free_port
-from lib.rooms import CASES, PROGRAM, STORE, Room, Skipped, Wrong
+from lib.rooms import CASES, PROGRAM, STORE, Room
+from lib.wants import Skipped, Wrong
+
+
+MEMORY = "/dev/shm"
 
 
 def has_ipv6():
@@ -36,12 +57,21 @@ def lacking():
     return gone
 
 
-def attempt(function, needs, gone):
-    """What became of a case, and why."""
+def memory():
+    """A folder in memory, where a file is synced at once; None where that has little room."""
+    try:
+        return MEMORY if shutil.disk_usage(MEMORY).free > 2 << 30 else None
+    except OSError:
+        return None
+
+
+def attempt(function, needs, gone, where):
+    """What became of a case in a folder there, and why."""
     missing = [it for it in needs if it in gone]
     if missing:
         return "skipped", f"it needs {' and '.join(missing)}, not to be had here"
-    folder = tempfile.mkdtemp(prefix="loopback-")
+    folder = tempfile.mkdtemp(prefix="loopback-", dir=where)
+    import time; begun=time.monotonic()
     try:
         function(Room(folder))
     except Skipped as why:
@@ -52,6 +82,7 @@ def attempt(function, needs, gone):
         return "FAILED", f"{type(why).__name__}: {why}"
     finally:
         shutil.rmtree(folder, ignore_errors=True)
+        print("TOOK", round(time.monotonic()-begun,2), function.__code__.co_filename[-20:], function.__code__.co_firstlineno)
     return "passed", ""
 
 
@@ -59,21 +90,28 @@ def main():
     # a stop from outside unwinds, so that each server is ended
     signal.signal(signal.SIGTERM, lambda *_: sys.exit(1))
     resource.setrlimit(resource.RLIMIT_CORE, (0, 0))
+    # a mirror that sends byte by byte isn't to wait for threads that compute
+    sys.setswitchinterval(0.0002)
     for program in (PROGRAM, STORE):
         if not os.access(program, os.X_OK):
             print(f"there is no program at {program}: rt ci makes it")
             print(f"0 passed, {len(CASES)} failed")
             return 1
+    chosen = [it for it in CASES if not sys.argv[2:] or any(part in it[0] for part in sys.argv[2:])]
     counts = {"passed": 0, "skipped": 0, "FAILED": 0}
     gone = lacking()
+    # the slow ones wait rather than work, and they alone are tried on the disk
     with concurrent.futures.ThreadPoolExecutor(max_workers=8) as pool:
-        # the slow ones wait rather than work, so they begin first
-        order = sorted(CASES, key=lambda it: not it[2])
-        running = {it: pool.submit(attempt, it[3], it[1], gone) for it in order}
-        for it in CASES:
-            ended, why = running[it].result()
-            counts[ended] += 1
-            print(f"{ended}: {it[0]}{': ' if why else ''}{why}", flush=True)
+        with concurrent.futures.ThreadPoolExecutor(max_workers=12) as waiting:
+            running = {}
+            for it in chosen:
+                _, needs, slow, function = it
+                where = (waiting, None) if slow else (pool, memory())
+                running[it] = where[0].submit(attempt, function, needs, gone, where[1])
+            for it in chosen:
+                ended, why = running[it].result()
+                counts[ended] += 1
+                print(f"{ended}: {it[0]}{': ' if why else ''}{why}", flush=True)
     if counts["skipped"]:
         print(f"skipped, as told above: {counts['skipped']}")
     print(f"{counts['passed']} passed, {counts['FAILED']} failed")

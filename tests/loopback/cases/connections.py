@@ -3,23 +3,23 @@ import os
 
 from lib.buffers import LARGE, with_buffers
 from lib.mirrors import Nginx, Site, head, reply, sends
-from lib.payloads import PIECE, THREE, all_asked
+from lib.payloads import LONG, MIB, PIECE
 from lib.recording import Recording
-from lib.rooms import about, case, want, want_asked
+from lib.rooms import BY_MIB, PLAIN, case, want_asked
+from lib.wants import about, want
+
+# Each piece is a claim of its own, and asked for by itself.
+PIECES = [("/a.bin", 0, MIB - 1), ("/a.bin", MIB, 2 * MIB - 1), ("/a.bin", 2 * MIB, len(LONG) - 1)]
 
 
 def part(asked, *fields):
     """The reply with what is asked of the payload, in a head with more fields."""
-    content = THREE[asked.first : asked.last + 1]
-    return reply(content, *fields, first=asked.first, total=len(THREE))
+    content = LONG[asked.first : asked.last + 1]
+    return reply(content, *fields, first=asked.first, total=len(LONG))
 
 
 def in_old_version(asked):
     return part(asked).replace(b"HTTP/1.1", b"HTTP/1.0", 1)
-
-
-def all_asked_of_one():
-    return [("/a.bin", first, last) for _, first, last in all_asked(THREE)]
 
 
 def want_connections(mirror, count):
@@ -28,10 +28,10 @@ def want_connections(mirror, count):
 
 @case("one connection for all pieces")
 def _(room):
-    with Site({"/a.bin": THREE}) as site:
-        room.torrent(site.url(), THREE, piece_length=PIECE)
-        room.fetches(THREE)
-        want_asked(site, all_asked_of_one())
+    with Site({"/a.bin": LONG}) as site:
+        room.torrent(site.url(), LONG, piece_length=MIB)
+        room.fetches(LONG, words=BY_MIB)
+        want_asked(site, PIECES)
         want_connections(site, 1)
 
 
@@ -47,19 +47,20 @@ def _(room):
         ("closed for bytes behind a reply", lambda asked: part(asked) + head(b"Content-Length: 0"), 3),
     ):
         with about(name), Recording(said) as mirror:
-            room.torrent(mirror.url(), THREE, piece_length=PIECE)
-            room.fetches(THREE)
-            want_asked(mirror, all_asked_of_one())
+            room.torrent(mirror.url(), LONG, piece_length=MIB)
+            room.fetches(LONG, words=BY_MIB)
+            want_asked(mirror, PIECES)
             want_connections(mirror, count)
-            os.remove(room.path("a"))
 
 
 @case("a reply that ends early on a connection that was kept")
 def _(room):
-    with Site({"/a.bin": THREE}, instead={1: reply(THREE[PIECE : 2 * PIECE], first=PIECE, total=len(THREE))[:-1]}) as site:
-        room.torrent(site.url(), THREE, piece_length=PIECE)
-        room.fails(6, THREE, completed=PIECE)
-        want_asked(site, all_asked_of_one()[:2])
+    cut = reply(LONG[MIB : 2 * MIB], first=MIB, total=len(LONG))[:-1]
+    with Site({"/a.bin": LONG}, instead={1: cut}) as site:
+        room.torrent(site.url(), LONG, piece_length=MIB)
+        # the last block of the second piece didn't come whole
+        room.fails(6, LONG, completed=2 * MIB - PIECE, words=BY_MIB)
+        want_asked(site, PIECES[:2])
         want_connections(site, 1)
 
 
@@ -75,19 +76,25 @@ def _(room):
         os.mkdir(folder)
         with about(name):
             with Nginx(folder, ("127.0.0.1",), more) as mirror:
-                mirror.put("a.bin", THREE)
-                room.torrent(mirror.url(), THREE, piece_length=PIECE)
-                room.fetches(THREE)
-                os.remove(room.path("a"))
+                mirror.put("a.bin", LONG)
+                room.torrent(mirror.url(), LONG, piece_length=MIB)
+                room.fetches(LONG, words=BY_MIB)
             want_connections(mirror, count)
 
 
 @case("buffers that are made once, for all pieces", "cc")
 def _(room):
-    payload = bytes(range(256)) * (5 * LARGE // 256)
+    count = 5
+    payload = bytes(range(256)) * (count * LARGE // 256)
     with Site({"/a.bin": payload}) as site:
         room.torrent(site.url(), payload, piece_length=LARGE)
-        # two of a fetch, and one for the piece
-        room.fetches(payload, shell=f"export LD_PRELOAD={with_buffers(room.folder, 3)}")
-        ended, _ = room.run("t.torrent", shell=f"export LD_PRELOAD={with_buffers(room.folder, 2)}")
-        want(ended == 40, f"it ended with {ended} for want of a third buffer")
+        # two of a fetch, and for each piece one that is hashed and one that it is compared with
+        made, standing = 2 + 2 * count, 4
+        for words in (PLAIN, BY_MIB):
+            room.fetches(payload, words=words, shell=f"export LD_PRELOAD={with_buffers(room.folder, made, standing)}")
+        for buffers in ((made - 1, standing), (made, standing - 1)):
+            room.clear()
+            preload = f"export LD_PRELOAD={with_buffers(room.folder, *buffers)}"
+            with about(f"{buffers}"):
+                ended = room.run("t.torrent", shell=preload, leaves=True)
+                want(ended == (40, b""), f"it ended with {ended}")

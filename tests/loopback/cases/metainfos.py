@@ -3,8 +3,9 @@ import os
 
 from lib import broken
 from lib.mirrors import Site
-from lib.rooms import about, case, want
+from lib.rooms import case
 from lib.torrents import MOST_FILE, metainfo
+from lib.wants import about, want
 
 
 @case("no metainfo file")
@@ -72,7 +73,6 @@ def _(room):
             room.put("t.torrent", content)
             with about(name):
                 room.fetches(b"hello")
-            os.remove(room.path("a"))
 
 
 @case("the first seed that can be used")
@@ -81,17 +81,21 @@ def _(room):
         room.torrent([*broken.WRONG_SEEDS, first.url(), second.url()])
         room.fetches(b"hello")
         want(len(first.connections) == 1, f"{len(first.connections)} connections came")
-        os.remove(room.path("a"))
-        room.torrent([*broken.WRONG_SEEDS, first.url(target="/b.bin"), second.url()])
-        room.fails(3)
         want(not second.connections, "the second seed was asked")
+        # the second one is asked once the first has failed
+        room.torrent([*broken.WRONG_SEEDS, first.url(target="/b.bin"), second.url()])
+        room.fetches(b"hello")
+        want((len(first.requests), len(second.requests)) == (2, 1), f"{first.requests} and {second.requests} came")
 
 
 @case("a payload with the name of its metainfo file")
 def _(room):
     with Site({"/a.bin": b"hello"}) as site:
         room.torrent(site.url(), name="t.torrent")
-        room.fetches(b"hello", "t.torrent")
+        made = room.get("t.torrent")
+        # it stands as a payload that is longer, and is overwritten
+        room.fetches(b"hello", "t.torrent", anew=False)
+        want(len(made) > 5 and len(site.requests) == 1, f"{len(site.requests)} requests came")
 
 
 @case("a folder with the name of its metainfo file")

@@ -1,9 +1,10 @@
 """The cases of redirects."""
 from lib.mirrors import RANGE, free_port, head, reply, sends, sends_byte_by_byte, sends_for_ever
-from lib.payloads import PIECE, SMALL, THREE, all_asked, served
+from lib.payloads import LONG, MIB, PIECE, SMALL, THREE, all_asked, served
 from lib.recording import CHUNKED, MANNERS, Recording, by_manner, in_chunks, interims, moved, part, shorter, whole
-from lib.rests import FRONT, LOST, in_steps
-from lib.rooms import about, case, want, want_asked
+from lib.rests import FRONT, LOST, OTHER, in_steps
+from lib.rooms import BY_MIB, case, want_asked
+from lib.wants import about, want
 
 # A reply that says where else the resource is leads there.
 
@@ -90,15 +91,15 @@ def _(room):
 # At most 20 redirects are taken for a request.
 
 
-def chain(count, payload=b"hello"):
-    """A script by which each resource is moved so often, each time to a next place, before it is served."""
+def chain(count, payload=b"hello", most=PIECE):
+    """A script by which each resource is moved so often, each time to a next place, before it is served in such parts."""
 
     def answer(asked):
         target, _, steps = asked.target.partition("?")
         taken = int(steps or 0)
         if taken < count:
             return moved(b"%s?%d" % (target.encode(), taken + 1))
-        return shorter(PIECE)(payload, asked.first, asked.last)
+        return shorter(most)(payload, asked.first, asked.last)
 
     return answer
 
@@ -154,13 +155,16 @@ def _(room):
         want_asked(second, [("/b", 0, 4)] * 10)
 
 
+# Each piece is a claim of its own.
+PIECES = [(0, MIB - 1), (MIB, 2 * MIB - 1), (2 * MIB, len(LONG) - 1)]
+
+
 @case("20 redirects for each piece")
 def _(room):
-    with Recording(chain(20, THREE)) as mirror:
-        room.torrent(mirror.url(), THREE)
-        room.fetches(THREE)
-        asked = [(0, PIECE - 1), (PIECE, 2 * PIECE - 1), (2 * PIECE, 39_999)]
-        want_asked(mirror, [it for first, last in asked for it in steps(20, first, last)])
+    with Recording(chain(20, LONG, MIB)) as mirror:
+        room.torrent(mirror.url(), LONG, piece_length=MIB)
+        room.fetches(LONG, words=BY_MIB)
+        want_asked(mirror, [it for first, last in PIECES for it in steps(20, first, last)])
 
 
 @case("20 redirects for each rest of a part that came shorter")
@@ -228,7 +232,7 @@ def _(room):
     for status, how, answer in [*LOST, (22, "with 304", head(b"Location: /c", status=b"304 Not Modified"))]:
         with about(how), Recording([FRONT, moved(b"/b"), answer]) as mirror:
             room.torrent(mirror.url())
-            room.fails(status)
+            room.fails(status, stands=OTHER if status == 32 else None)
             want_asked(mirror, [("/a.bin", 0, 4), ("/a.bin", 2, 4), ("/b", 2, 4)])
 
 
@@ -238,14 +242,13 @@ def _(room):
 @case("pieces that are moved")
 def _(room):
     for name, manner in {"right parts": part, **MANNERS}.items():
-        with Recording(by_manner({"/b.bin": THREE}, manner)) as second:
+        with Recording(by_manner({"/b.bin": LONG}, manner)) as second:
             place = second.url(target="/b.bin")
             with about(name), Recording(lambda _, it=place: moved(it)) as first:
-                room.torrent(first.url(), THREE)
-                room.fetches(THREE)
-                asked = [(0, PIECE - 1), (PIECE, 2 * PIECE - 1), (2 * PIECE, 39_999)]
-                want_asked(first, [("/a.bin", *it) for it in asked])
-                want_asked(second, [("/b.bin", *it) for it in asked])
+                room.torrent(first.url(), LONG, piece_length=MIB)
+                room.fetches(LONG, words=BY_MIB)
+                want_asked(first, [("/a.bin", *it) for it in PIECES])
+                want_asked(second, [("/b.bin", *it) for it in PIECES])
 
 
 @case("files that are moved")
@@ -262,23 +265,23 @@ def _(room):
 
 @case("a second piece that is moved in vain")
 def _(room):
-    for status, answer in (
-        (3, head(status=b"404 Not Found")),
-        (22, moved(b"https://127.0.0.1/")),
-        (6, sends(part(THREE, PIECE, 2 * PIECE - 1)[:-1])),
+    for status, landed, answer in (
+        (3, 0, head(status=b"404 Not Found")),
+        (22, 0, moved(b"https://127.0.0.1/")),
+        (6, 63, sends(part(LONG, *PIECES[1])[:-1])),
     ):
-        with Recording([part(THREE, 0, PIECE - 1), moved(b"/b"), answer]) as mirror:
-            room.torrent(mirror.url(), THREE)
-            room.fails(status, THREE, PIECE)
-            want_asked(mirror, [("/a.bin", 0, PIECE - 1), *[(it, PIECE, 2 * PIECE - 1) for it in ("/a.bin", "/b")]])
+        with Recording([part(LONG, *PIECES[0]), moved(b"/b"), answer]) as mirror:
+            room.torrent(mirror.url(), LONG, piece_length=MIB)
+            room.fails(status, LONG, MIB + landed * PIECE, words=BY_MIB)
+            want_asked(mirror, [("/a.bin", *PIECES[0]), *[(it, *PIECES[1]) for it in ("/a.bin", "/b")]])
 
 
 @case("redirects to whole files")
 def _(room):
-    content = whole(THREE)
+    content = whole(LONG)
     with Recording([moved(b"/b"), content, content, moved(b"/c"), content]) as mirror:
-        room.torrent(mirror.url(), THREE)
-        room.fetches(THREE)
-        first, second, third = (0, PIECE - 1), (PIECE, 2 * PIECE - 1), (2 * PIECE, 39_999)
+        room.torrent(mirror.url(), LONG, piece_length=MIB)
+        room.fetches(LONG, words=BY_MIB)
+        first, second, third = PIECES
         asked = [("/a.bin", *first), ("/b", *first), ("/a.bin", *second), ("/a.bin", *third), ("/c", *third)]
         want_asked(mirror, asked)

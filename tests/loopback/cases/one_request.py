@@ -4,10 +4,12 @@ import signal
 import threading
 import time
 
+from lib.controls import BLOCK
 from lib.mirrors import (
     LENGTH,
     RANGE,
     Mirror,
+    Site,
     deaf_port,
     free_port,
     head,
@@ -19,8 +21,10 @@ from lib.mirrors import (
     sends_byte_by_byte,
     sends_for_ever,
 )
-from lib.rooms import BUILT, LITTLE, PROGRAM, TOP, Skipped, case, request, want
+from lib.payloads import MIB
+from lib.rooms import BUILT, LITTLE, PROGRAM, TOP, case, request, want_asked
 from lib.torrents import MOST_PIECE
+from lib.wants import Skipped, about, want
 
 # Runs under these limits of 48 MiB of memory, and of one kilobyte a file at most.
 TOO_LITTLE = "ulimit -v 49152"
@@ -156,7 +160,7 @@ def _(room):
     for length, pause in ((1_000, 0.001), (65_000, 0)):
         with Mirror(sends_byte_by_byte(reply(b"hello", b"X: " + b"y" * length), pause)) as mirror:
             room.torrent(mirror.url())
-            room.fetches(b"hello")
+            room.fetches(b"hello", limit=100)
 
 
 @case("a reply that comes while the program is stopped")
@@ -207,21 +211,37 @@ def _(room):
         room.fetches(b"hello")
 
 
-@case("a payload that stands is fetched anew")
+@case("a payload that stands is kept where it is right")
 def _(room):
-    for old in (b"HELLO", b"hello, world", b"h"):
+    for old, count in ((b"HELLO", 1), (b"hell", 1), (b"", 1), (b"hello", 0), (b"hello, world", 0)):
         room.put("a", old)
-        with Mirror(sends(reply(b"hello"))) as mirror:
+        with about(f"{old}"), Mirror(sends(reply(b"hello"))) as mirror:
             room.torrent(mirror.url())
-            room.fetches(b"hello")
+            room.fetches(b"hello", anew=False)
+            want(len(mirror.requests) == count, f"{len(mirror.requests)} requests came")
 
 
-@case("a payload of one byte, with a name of 255 bytes")
+# Behind the name stands `.aria2__temp` while progress is put, and a file of the system has a name of at most 255 bytes.
+MOST_NAME = 255 - len(".aria2__temp")
+
+
+@case("a payload of one byte, with a name of 243 bytes")
 def _(room):
-    name = "é" * 127 + "x"
+    name = "é" * (MOST_NAME // 2) + "x"
     with Mirror(sends(reply(b"!"))) as mirror:
         room.torrent(mirror.url(), b"!", name=name.encode())
         room.fetches(b"!", name)
+
+
+@case("a name that leaves no room for those of its control file")
+def _(room):
+    with Mirror(sends(reply(b"!"))) as mirror:
+        for length in (MOST_NAME + 1, 249, 250, 255):
+            with about(f"{length} bytes"):
+                room.torrent(mirror.url(), b"!", name=b"x" * length)
+                room.ends(17, 1, "x" * length)
+                want(os.listdir(room.folder) == ["t.torrent"], f"files were made: {os.listdir(room.folder)}")
+        want(not mirror.connections, "the seed was asked")
 
 
 # Replies that are wrong. Status 6: the connection failed or ended early; 22: it isn't the reply that was asked for;
@@ -233,7 +253,7 @@ def _(room):
     for payload in (b"hellO", b"\0" * 5):
         with Mirror(sends(reply(payload))) as mirror:
             room.torrent(mirror.url(), b"hello")
-            room.fails(32)
+            room.fails(32, stands=payload)
 
 
 @case("nobody listens")
@@ -373,14 +393,16 @@ def _(room):
     payload = os.urandom(100_000)
     with Mirror(sends(reply(payload))) as mirror:
         room.torrent(mirror.url(), payload, piece_length=131_072)
-        room.ends(17, len(payload), shell=NO_DISK)
+        # the control file is put before the payload gets its length
+        room.ends(17, len(payload), shell=NO_DISK, leaves=True)
+        want(not mirror.connections, "the seed was asked")
 
 
 @case("standard output is full")
 def _(room):
     with Mirror(sends(reply(b"hello"))) as mirror, open("/dev/full", "wb") as full:
         room.torrent(mirror.url())
-        ended, _ = room.run("t.torrent", out=full)
+        ended, _ = room.run("t.torrent", out=full, leaves=False)
     want(ended == 41, f"status {ended}")
     want(room.get("a") == b"hello", f"the payload is {room.get('a')}")
 
@@ -391,7 +413,7 @@ def _(room):
     os.close(reader)
     with Mirror(sends(reply(b"hello"))) as mirror, open(writer, "wb") as out:
         room.torrent(mirror.url())
-        ended, _ = room.run("t.torrent", out=out)
+        ended, _ = room.run("t.torrent", out=out, leaves=False)
     want(ended == 41, f"status {ended}")
     want(room.get("a") == b"hello", f"the payload is {room.get('a')}")
 
@@ -399,7 +421,13 @@ def _(room):
 @case("no memory for the piece")
 def _(room):
     payload = bytes(MOST_PIECE)
-    with Mirror(sends(reply(payload))) as mirror:
-        room.torrent(mirror.url(), payload, piece_length=MOST_PIECE)
-        ended, wrote = room.run("t.torrent", shell=TOO_LITTLE)
-    want((ended, wrote) == (40, b""), f"status {ended}, output {wrote!r}")
+    with Site({"/a.bin": payload}) as site:
+        room.torrent(site.url(), payload, piece_length=MOST_PIECE)
+        ended = room.run("t.torrent", shell=TOO_LITTLE, leaves=True)
+        want(ended == (40, b""), f"it ended with {ended}")
+        asked = [(20 * MIB * claim, min(20 * MIB * (claim + 1), MOST_PIECE) - 1) for claim in range(4)]
+        want_asked(site, [("/a.bin", *it) for it in asked])
+        # all blocks came and were saved, so that a run with memory asks for none
+        room.lists(range(MOST_PIECE // BLOCK), len(payload))
+        room.fetches(payload, anew=False)
+        want(len(site.requests) == 4, f"{len(site.requests)} requests came")

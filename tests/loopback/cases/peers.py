@@ -5,9 +5,12 @@ import os
 import subprocess
 import tempfile
 
+from lib.controls import BLOCK
 from lib.mirrors import Nginx, PythonServer
-from lib.rooms import LITTLE, Wrong, case, files_of, want
+from lib.payloads import MIB
+from lib.rooms import BY_MIB, LITTLE, ONCE, PLAIN, case, files_of
 from lib.torrents import MOST_PIECE, bencoded, info_of, whole
+from lib.wants import Wrong, want
 
 
 @contextlib.contextmanager
@@ -54,13 +57,15 @@ def _(room):
 def _(room):
     with nginx() as mirror:
         mirror.put("a.bin", b"hellO")
-        room.torrent(mirror.url())
-        room.fails(32)
-        room.torrent(mirror.url(target="/b.bin"))
-        room.fails(3)
-        mirror.put("a.bin", b"hell")
-        room.torrent(mirror.url())
-        room.fails(22)
+        for words in (ONCE, PLAIN):
+            mirror.put("a.bin", b"hellO")
+            room.torrent(mirror.url())
+            room.fails(32, stands=b"hellO", words=words)
+            room.torrent(mirror.url(target="/b.bin"))
+            room.fails(3, words=words)
+            mirror.put("a.bin", b"hell")
+            room.torrent(mirror.url())
+            room.fails(22, words=words)
 
 
 @case("a piece of 64 MiB from nginx", "nginx")
@@ -72,23 +77,24 @@ def _(room):
         room.fetches(payload, limit=100)
 
 
-LONG = os.urandom(64 << 20)
+LARGE = os.urandom(64 * MIB)
 
 
 @case("64 MiB in pieces of 1 MiB from nginx", "nginx")
 def _(room):
     with nginx() as mirror:
-        mirror.put("a.bin", LONG)
-        room.torrent(mirror.url(), LONG, piece_length=1 << 20)
-        room.fetches(LONG, limit=100, shell=LITTLE)
+        mirror.put("a.bin", LARGE)
+        room.torrent(mirror.url(), LARGE, piece_length=MIB)
+        for words in (PLAIN, BY_MIB):
+            room.fetches(LARGE, limit=100, shell=LITTLE, words=words)
 
 
-@case("64 MiB in pieces of 1 MiB from http.server, which sends the whole file for each", slow=True)
+@case("64 MiB in pieces of 1 MiB from http.server, which sends the whole file for each claim", slow=True)
 def _(room):
     with http_server() as mirror:
-        mirror.put("a.bin", LONG)
-        room.torrent(mirror.url(), LONG, piece_length=1 << 20)
-        room.fetches(LONG, limit=100, shell=LITTLE)
+        mirror.put("a.bin", LARGE)
+        room.torrent(mirror.url(), LARGE, piece_length=MIB)
+        room.fetches(LARGE, limit=100, shell=LITTLE)
 
 
 @case("several files from http.server")
@@ -99,8 +105,8 @@ def _(room):
         room.torrent(mirror.url(target="/"), TREE, name="bäume x", piece_length=PIECE)
         room.fetches(TREE, "bäume x")
         os.remove(f"{mirror.www}/bäume x/5/a/b/c/d/e/f")
-        os.rename(room.path("bäume x"), room.path("fetched"))
-        room.fails(3, TREE, len(whole(TREE)) // PIECE * PIECE, "bäume x")
+        # the last block has the byte of that file
+        room.fails(3, TREE, (len(whole(TREE)) - 1) // BLOCK * BLOCK, "bäume x")
 
 
 @case("a folder's name, which is moved to the name with a slash", "nginx")
@@ -235,6 +241,6 @@ def _(room):
         for path, content in files_of(TREE, "n"):
             mirror.put(path, content)
         room.torrent(mirror.url(target="/"), TREE, name="n")
-        room.fetches(TREE, "n")
+        room.fetches(TREE, "n", anew=False)
     for path, content in others.items():
         want(room.get(path) == content, f"{path} has {room.get(path)}")

@@ -1,8 +1,9 @@
 """The cases of one reply: what is taken, in whatever way it comes, and what isn't."""
 from lib.mirrors import LENGTH, RANGE, head, reply, sends, sends_and_resets, sends_byte_by_byte, sends_for_ever
-from lib.payloads import PIECE, SMALL, THREE, served, want_all_asked
+from lib.payloads import LONG, MIB, SMALL, served, want_all_asked
 from lib.recording import CHUNKED, MANNERS, OK, Recording, by_manner, in_chunks, interims, part
-from lib.rooms import LITTLE, about, case, want, want_asked
+from lib.rooms import BY_MIB, LITTLE, case, want_asked
+from lib.wants import about, want
 
 # Replies to a request for all of `hello`. They are taken once its bytes came, whatever comes behind those.
 
@@ -31,11 +32,11 @@ def takes(room, serve):
         want_asked(mirror, [("/a.bin", 0, 4)])
 
 
-def refuses(room, status, serve):
+def refuses(room, status, serve, **how):
     """The run ends with this status, and asks once."""
     with Recording([serve]) as mirror:
         room.torrent(mirror.url())
-        room.fails(status, shell=LITTLE)
+        room.fails(status, shell=LITTLE, **how)
         want_asked(mirror, [("/a.bin", 0, 4)])
 
 
@@ -309,19 +310,22 @@ def _(room):
     for name, whole in TAKEN:
         at = whole.rindex(b"o")
         with about(name):
-            refuses(room, 32, whole[:at] + b"O" + whole[at + 1 :])
+            refuses(room, 32, whole[:at] + b"O" + whole[at + 1 :], stands=b"hellO")
 
 
 # Payloads of several pieces and files, each request of which is answered in one manner.
+
+# Each piece is a claim of its own.
+PIECES = [(0, MIB - 1), (MIB, 2 * MIB - 1), (2 * MIB, len(LONG) - 1)]
 
 for _name, _manner in MANNERS.items():
 
     @case(f"pieces and files {_name}")
     def _(room, manner=_manner):
-        with Recording(by_manner({"/a.bin": THREE}, manner)) as mirror:
-            room.torrent(mirror.url(), THREE)
-            room.fetches(THREE)
-            want_asked(mirror, [("/a.bin", 0, 16_383), ("/a.bin", 16_384, 32_767), ("/a.bin", 32_768, 39_999)])
+        with Recording(by_manner({"/a.bin": LONG}, manner)) as mirror:
+            room.torrent(mirror.url(), LONG, piece_length=MIB)
+            room.fetches(LONG, words=BY_MIB)
+            want_asked(mirror, [("/a.bin", *it) for it in PIECES])
         with Recording(by_manner(served(SMALL, "n"), manner)) as mirror:
             room.torrent(mirror.url(target="/"), SMALL, name="n", piece_length=16)
             room.fetches(SMALL, "n")
@@ -330,31 +334,33 @@ for _name, _manner in MANNERS.items():
 
 @case("two pieces from a mirror that sends whole files")
 def _(room):
-    payload = b"hello, world"
-    for name, fields in (("with a length", [b"Content-Length: 12"]), ("without one", [])):
+    payload = LONG[: MIB + 100_000]
+    for name, fields in (("with a length", [b"Content-Length: %d" % len(payload)]), ("without one", [])):
         with about(name), Recording(lambda _, it=head(*fields, status=OK): it + payload) as mirror:
-            room.torrent(mirror.url(), payload, piece_length=7)
-            room.fetches(payload)
-            want_asked(mirror, [("/a.bin", 0, 6), ("/a.bin", 7, 11)])
+            room.torrent(mirror.url(), payload, piece_length=MIB)
+            room.fetches(payload, words=BY_MIB)
+            want_asked(mirror, [("/a.bin", 0, MIB - 1), ("/a.bin", MIB, len(payload) - 1)])
 
 
 @case("a second piece that ends within what stands before it")
 def _(room):
-    answers = [part(THREE, 0, PIECE - 1), head(CHUNKED, status=OK) + in_chunks(THREE[:16_000], 1_000)]
+    answers = [part(LONG, 0, MIB - 1), head(CHUNKED, status=OK) + in_chunks(LONG[:1_000_000], 1_000)]
     with Recording(answers) as mirror:
-        room.torrent(mirror.url(), THREE)
-        room.fails(6, THREE, PIECE)
+        room.torrent(mirror.url(), LONG, piece_length=MIB)
+        room.fails(6, LONG, MIB, words=BY_MIB)
 
 
 @case("mirrors that change their manner")
 def _(room):
     manners = list(MANNERS.values())
-    pieces = range(0, len(THREE), 1_000)
-    answers = [manners[place % len(manners)](THREE, at, at + 999) for place, at in enumerate(pieces)]
+    payload = LONG * 4
+    pieces = range(0, len(payload), MIB)
+    parts = [(at, min(at + MIB, len(payload)) - 1) for at in pieces]
+    answers = [manners[place % len(manners)](payload, *it) for place, it in enumerate(parts)]
     with Recording(answers) as mirror:
-        room.torrent(mirror.url(), THREE, piece_length=1_000)
-        room.fetches(THREE)
-        want_asked(mirror, [("/a.bin", at, at + 999) for at in pieces])
+        room.torrent(mirror.url(), payload, piece_length=MIB)
+        room.fetches(payload, words=BY_MIB)
+        want_asked(mirror, [("/a.bin", *it) for it in parts])
 
 
 @case("a connection is closed once its bytes came")
@@ -365,9 +371,9 @@ def _(room):
         for it in mirror.threads[:-1]:
             it.join(5)
             still.append(it.is_alive())
-        return MANNERS["with the whole file"](THREE, asked.first, asked.last)
+        return MANNERS["with the whole file"](LONG, asked.first, asked.last)
 
     with Recording(answer) as mirror:
-        room.torrent(mirror.url(), THREE)
-        room.fetches(THREE)
+        room.torrent(mirror.url(), LONG, piece_length=MIB)
+        room.fetches(LONG, words=BY_MIB)
     want(still == [False] * 3, f"connections that were open: {still}")

@@ -1,11 +1,10 @@
 """The cases of parts that come shorter than what was asked for."""
-import os
-
 from lib.mirrors import head, reply, sends
 from lib.payloads import SMALL, THREE, all_asked, served
 from lib.recording import CHUNKED, Recording, by_manner, in_chunks, shorter
-from lib.rests import FRONT, FRONTS, LOST, RIGHT, STAYING, in_steps
-from lib.rooms import about, case, want_asked
+from lib.rests import FRONT, FRONTS, LOST, OTHER, RIGHT, STAYING, in_steps
+from lib.rooms import case, want_asked
+from lib.wants import about
 
 # The rest of what was asked for is asked for by a further request.
 
@@ -25,7 +24,7 @@ def _(room):
     with Recording(by_manner({"/a.bin": payload}, shorter(1))) as mirror:
         room.torrent(mirror.url(), payload, piece_length=200)
         room.fetches(payload)
-        want_asked(mirror, in_steps([("/a.bin", 0, 199), ("/a.bin", 200, 299)], 1))
+        want_asked(mirror, in_steps([("/a.bin", 0, 299)], 1))
 
 
 @case("pieces of several files in parts that are shorter")
@@ -44,10 +43,9 @@ def _(room):
             with about(f"{name}, and then one {how}"), Recording([front, rest]) as mirror:
                 room.torrent(mirror.url())
                 if status:
-                    room.fails(status)
+                    room.fails(status, stands=OTHER if status == 32 else None)
                 else:
                     room.fetches(b"hello")
-                    os.remove(room.path("a"))
                 again = how == "with nothing" and name in STAYING
                 want_asked(mirror, [("/a.bin", 0, 4), ("/a.bin", 2, 4)] + [("/a.bin", 2, 4)] * again)
 

@@ -1,21 +1,17 @@
 """The cases of the store over real files: it reads what aria2 left, aria2 takes ours, and what else may stand."""
-import hashlib
 import os
 import re
 import shutil
 import subprocess
 
-from lib.controls import ARIA2, BLOCK, blocks_of, interrupted, packed, read, rows_of, written
+from lib.aria2 import ARIA2, interrupted
+from lib.controls import BLOCK, blocks_of, packed, read, rows_of, written
 from lib.mirrors import Site
 from lib.payloads import SMALL
-from lib.rooms import LIMIT, about, case, want
-from lib.torrents import bencoded, info_of, whole
-
-PIECE = 32_768
-# Seven pieces of two blocks, but for the last one, which is one block of 3,392 bytes.
-SEVEN = os.urandom(200_000)
-HASH = hashlib.sha1(bencoded(info_of(SEVEN, b"a", PIECE))).digest()
-ALL = written(HASH, PIECE, len(SEVEN), b"\xfe")
+from lib.rooms import LIMIT, case
+from lib.sevens import ALL, HASH, PIECE, SEVEN, refused
+from lib.torrents import whole
+from lib.wants import about, want
 
 
 def clear(room):
@@ -38,17 +34,6 @@ def holds(room, listed, payload=SEVEN):
 def brings(listed):
     """The words that bring the store these blocks, one after the other."""
     return [f"bring:{block}:1:payload" for block, is_listed in enumerate(listed) if is_listed]
-
-
-def standing(room):
-    """Each file by its path with its bytes, and each folder with none."""
-    found = {}
-    for folder, folders, files in os.walk(room.folder):
-        found.update({f"{folder}/{it}": None for it in folders})
-        for it in files:
-            with open(f"{folder}/{it}", "rb") as file:
-                found[f"{folder}/{it}"] = file.read()
-    return found
 
 
 # After how many bytes aria2 is stopped: in the midst of a block, and at the end of one.
@@ -152,48 +137,16 @@ def _(room):
             room.stores(told)
 
 
-# Where each field begins in the control file of a listed download.
-FIELDS = (0, 2, 6, 10, 30, 34, 42, 50, 54, 55)
-
-
-def refused():
-    """Control files that can't be used, each with its name and what is told."""
-    for length in range(len(ALL)):
-        at = max(it for it in FIELDS if it <= length) if length >= 2 else 0
-        yield f"cut to {length} bytes", ALL[:length], f"the control file is wrong at byte {at}"
-    wrong = "the control file is wrong at byte "
-    yield "a byte longer", ALL + b"\0", f"{wrong}{len(ALL)}"
-    yield "version 2", b"\0\2" + ALL[2:], f"{wrong}0"
-    yield "version 1 as version 0", b"\0\0" + ALL[2:], f"{wrong}6"
-    yield "a spare bit", ALL[:54] + b"\xff" + ALL[55:], f"{wrong}54"
-    yield "an extension 2", ALL[:5] + b"\2" + ALL[6:], f"{wrong}2"
-    yield "a hash of 2^32 - 1 bytes", ALL[:6] + b"\xff" * 4 + ALL[10:], f"{wrong}6"
-    yield "pieces of no bytes", ALL[:30] + b"\0" * 4 + ALL[34:], f"{wrong}30"
-    yield "a total of 2^64 - 1 bytes", ALL[:34] + b"\xff" * 8 + ALL[42:], f"{wrong}34"
-    yield "a bit field of 2^32 - 1 bytes", ALL[:50] + b"\xff" * 4 + ALL[54:], f"{wrong}50"
-    yield "2^32 - 1 pieces in flight", ALL[:55] + b"\xff" * 4, f"{wrong}55"
-    one = written(HASH, PIECE, 200_000, b"\x80", [(0, PIECE, b"\x80")])
-    yield "a verified piece in flight", one, f"{wrong}59"
-    twice = written(HASH, PIECE, 200_000, b"\x80", [(1, PIECE, b"\x80")] * 2)
-    yield "a piece in flight twice", twice, f"{wrong}72"
-    yield "another hash", written(b"x" * 20, PIECE, 200_000, b"\xfe"), "the control file is of another info hash"
-    yield "no hash", written(b"", PIECE, 200_000, b"\xfe"), "the control file is of another info hash"
-    other = written(HASH, BLOCK, 200_000, b"\xff\xf8")
-    yield "another piece length", other, f"the control file is of pieces of {BLOCK} bytes, not of {PIECE}"
-    shorter = written(HASH, PIECE, 199_999, b"\xfe")
-    yield "another total", shorter, "the control file is of 199999 bytes, not of 200000"
-
-
 @case("the store refuses a control file, and changes nothing")
 def _(room):
     room.torrent(None, SEVEN, b"a", PIECE)
     room.put("a", SEVEN[:100_000])
-    for name, content, told in refused():
+    for name, content, told, _ in refused():
         with about(name):
             room.put("a.aria2", content)
-            stood = standing(room)
+            stood = room.standing()
             room.stores(told, told, words=("open", "check"))
-            want(standing(room) == stood, "something has changed")
+            want(room.standing() == stood, "something has changed")
 
 
 @case("a folder stands in the place of a file of the store")

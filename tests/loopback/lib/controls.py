@@ -1,27 +1,10 @@
-"""Control files (aria2 manual, Technical Notes, "Control File (*.aria2) Format"), version 1, and what writes them here."""
-import signal
+"""Control files (aria2 manual, Technical Notes, "Control File (*.aria2) Format"), version 1."""
 import struct
-import subprocess
-import time
 from typing import NamedTuple
 
-from lib.mirrors import Site, one_request, rest_of
-from lib.rooms import want
+from lib.wants import want
 
 BLOCK = 16_384
-
-# The first port that aria2 tries is taken where another one of it runs, and then it takes the next.
-ARIA2 = [
-    "aria2c",
-    "--no-conf",
-    "--quiet",
-    "--enable-dht=false",
-    "--enable-dht6=false",
-    "--bt-enable-lpd=false",
-    "--enable-peer-exchange=false",
-    "--seed-time=0",
-    "--file-allocation=none",
-]
 
 
 class Control(NamedTuple):
@@ -84,47 +67,3 @@ def blocks_of(control):
 def rows_of(control):
     """What the store tells of a download that is opened with just what this lists."""
     return f"pieces {control.pieces.hex()} blocks {packed(blocks_of(control)).hex()}"
-
-
-class Stalling(Site):
-    """Gives so many bytes of content, and then no more."""
-
-    def __init__(self, files, most):
-        super().__init__(files)
-        self.left = most
-
-    def converse(self, connection):
-        while asked := one_request(connection):
-            self.requests.append(asked)
-            begin, _, content = self.answer(asked).partition(b"\r\n\r\n")
-            given = content[: self.left]
-            self.left -= len(given)
-            connection.sendall(begin + b"\r\n\r\n" + given)
-            if len(given) < len(content):
-                rest_of(connection)
-                return
-
-
-def interrupted(room, payload, most, piece_length):
-    """aria2 fetches so many bytes of the payload in the room, and is stopped then. Told is its control file."""
-    with Stalling({"/a.bin": payload}, most) as site:
-        room.torrent(site.url(), payload, b"a", piece_length)
-        started = subprocess.Popen(
-            [*ARIA2, "t.torrent"], cwd=room.folder, stdin=subprocess.DEVNULL, stdout=subprocess.DEVNULL
-        )
-        try:
-            for _ in range(200):
-                if site.requests and site.left == 0 and len(room.get("a") or b"") >= most // BLOCK * BLOCK:
-                    break
-                time.sleep(0.05)
-            # what came is written by blocks, a moment after it came
-            time.sleep(1)
-            started.send_signal(signal.SIGINT)
-            started.wait(30)
-        finally:
-            if started.poll() is None:
-                started.kill()
-                started.wait()
-    content = room.get("a.aria2")
-    want(content is not None, "aria2 left no control file")
-    return content

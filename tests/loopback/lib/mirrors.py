@@ -94,6 +94,10 @@ class Mirror:
         return f"http://{host}:{self.port}{target}".encode()
 
 
+class Ending(bytes):
+    """A reply behind which the connection is closed."""
+
+
 class Site(Mirror):
     """Serves ranges of files by their targets, and records each request.
 
@@ -112,7 +116,10 @@ class Site(Mirror):
             if place in self.instead:
                 connection.sendall(self.instead[place])
                 return
-            connection.sendall(self.answer(asked))
+            answer = self.answer(asked)
+            connection.sendall(answer)
+            if isinstance(answer, Ending):
+                return
 
     def answer(self, asked):
         found = re.match(rb"GET (\S+) HTTP/1\.1\r\n(?s:.*)Range: bytes=(\d+)-(\d+)\r\n", asked)
@@ -164,7 +171,8 @@ def sends_byte_by_byte(whole, pause=0.001):
     def serve(connection):
         for at in range(len(whole)):
             connection.sendall(whole[at : at + 1])
-            time.sleep(pause)
+            if pause:
+                time.sleep(pause)
 
     return serve
 

@@ -1,12 +1,16 @@
-"""Payloads, where a mirror has their files, and what is asked for their pieces."""
+"""Payloads, where a mirror has their files, and what is asked for their blocks."""
 import itertools
 import os
 from urllib.parse import quote
 
+from lib.controls import BLOCK
 from lib.rooms import files_of, want_asked
+from lib.torrents import whole
 
+MIB = 1 << 20
+# The length of a piece of one block.
 PIECE = 16_384
-# Three pieces, the last one of 7,232 bytes.
+# Three pieces of one block, the last one of 7,232 bytes.
 THREE = os.urandom(40_000)
 # Pieces of 16 bytes: the first lies in the first file, the second spans three files, the third begins in an empty file.
 SMALL = [
@@ -16,6 +20,13 @@ SMALL = [
     ("d/none", b""),
     ("w", b"wxyz"),
 ]
+# Three pieces of a mebibyte, the last one of 400,000 bytes, and files of such pieces in the proportions of the small ones.
+LONG = os.urandom(2 * MIB + 400_000)
+SPREAD = [(path, os.urandom(len(content) * MIB // 16)) for path, content in SMALL]
+
+# How claims are cut where nothing is said of it, and by the words that make them of 64 blocks.
+LARGE_CLAIMS = {"split": 5, "least": 20 * MIB}
+MIB_CLAIMS = {"split": 64, "least": MIB}
 
 
 def served(payload, name="a"):
@@ -23,22 +34,62 @@ def served(payload, name="a"):
     return {f"/{quote(path)}": content for path, content in files_of(payload, name)}
 
 
-def parts(files, piece_length):
-    """For each piece, each file that it touches, with the first and the last byte of it there."""
-    begins = list(itertools.accumulate((len(content) for _, content in files), initial=0))
-    for start in range(0, begins[-1], piece_length):
-        stop = min(start + piece_length, begins[-1])
-        for (path, _), begin, end in zip(files, begins, begins[1:]):
-            if max(start, begin) < min(stop, end):
-                yield path, max(start, begin) - begin, min(stop, end) - begin - 1
+def blocks_in(total, piece_length):
+    """The first byte of each block and the one behind its last: blocks are the parts of pieces."""
+    for start in range(0, total, piece_length):
+        stop = min(start + piece_length, total)
+        yield from ((at, min(at + BLOCK, stop)) for at in range(start, stop, BLOCK))
 
 
-def all_asked(payload, piece_length=PIECE, name="a"):
-    """Each part of each piece, in order, as a target with its first and last byte."""
-    asked = parts(files_of(payload, name), piece_length)
-    return [(f"/{quote(path)}", first, last) for path, first, last in asked]
+def blocks_of(pieces, total, piece_length):
+    """The numbers of the blocks of these pieces."""
+    full = -(-piece_length // BLOCK)
+    for piece in pieces:
+        length = min(piece_length, total - piece * piece_length)
+        yield from range(piece * full, piece * full - (-length // BLOCK))
 
 
-def want_all_asked(site, payload, piece_length=PIECE, name="a"):
-    """The mirror was asked for each part of each piece, in order."""
-    want_asked(site, all_asked(payload, piece_length, name))
+def claims(free, total, split, least):
+    """The claims of one connection, in order, as the first block of each and the one behind its last.
+
+    Each is the first blocks of the longest stretch of free ones, of which the lowest counts.
+    """
+    most = max(-(-total // split), -(-least // BLOCK))
+    stretches = []
+    for _, them in itertools.groupby(enumerate(sorted(free)), lambda it: it[1] - it[0]):
+        blocks = [block for _, block in them]
+        stretches.append((blocks[0], blocks[-1] + 1))
+    while stretches:
+        longest = max(stretches, key=lambda it: (it[1] - it[0], -it[0]))
+        first, behind = longest
+        end = min(first + most, behind)
+        yield first, end
+        stretches.remove(longest)
+        if end < behind:
+            stretches.append((end, behind))
+
+
+def parts(files, start, stop):
+    """Each file that these bytes of a payload touch, with the first and the last byte of them there."""
+    begins = itertools.accumulate((len(content) for _, content in files), initial=0)
+    for (path, content), begin in zip(files, begins):
+        end = begin + len(content)
+        if max(start, begin) < min(stop, end):
+            yield path, max(start, begin) - begin, min(stop, end) - begin - 1
+
+
+def all_asked(payload, piece_length=PIECE, name="a", free=None, split=5, least=20 * MIB):
+    """What one connection asks for, where each reply is right: each part of each claim of the free blocks, in order.
+
+    Each is a target with its first and last byte. Without being told all blocks are free.
+    """
+    blocks = [*blocks_in(len(whole(payload)), piece_length)]
+    free = range(len(blocks)) if free is None else free
+    for first, behind in claims(free, len(blocks), split, least):
+        for path, begin, last in parts(files_of(payload, name), blocks[first][0], blocks[behind - 1][1]):
+            yield f"/{quote(path)}", begin, last
+
+
+def want_all_asked(site, payload, piece_length=PIECE, name="a", **claimed):
+    """The mirror was asked for each part of each claim, in order."""
+    want_asked(site, [*all_asked(payload, piece_length, name, **claimed)])

@@ -54,10 +54,12 @@ def asked_by(request):
 def in_chunks(content, *sizes, extension=b"", trailers=()):
     """The content in chunks of these sizes, of which the last one holds for all that follow (RFC 9112 section 7.1)."""
     written = []
+    at = 0
     for size in itertools.chain(sizes or [len(content)], itertools.repeat(sizes[-1] if sizes else 1)):
-        if not content:
+        if at >= len(content):
             break
-        chunk, content = content[:size], content[size:]
+        chunk = content[at : at + size]
+        at += size
         written.append(b"%x%s\r\n%s\r\n" % (len(chunk), extension, chunk))
     return b"".join([*written, b"0%s\r\n" % extension, *(b"%s\r\n" % it for it in trailers), b"\r\n"])
 

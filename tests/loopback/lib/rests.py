@@ -36,6 +36,8 @@ LOST = [
     (6, "with a reset", sends_and_resets(reply(b"llo", first=2, total=5)[:-1])),
     (32, "with other bytes", reply(b"LLO", first=2, total=5)),
 ]
+# What stands on the disk behind those other bytes.
+OTHER = b"heLLO"
 
 
 def in_steps(asked, step):

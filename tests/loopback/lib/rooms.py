@@ -1,12 +1,15 @@
 """A folder in which the program runs, what is wanted of a run, and the list of cases."""
-import contextlib
+import hashlib
 import itertools
 import os
 import re
+import shutil
 import subprocess
 import sys
 
-from lib.torrents import metainfo, whole
+from lib import controls
+from lib.torrents import bencoded, info_of, whole, written
+from lib.wants import Wrong, want
 
 TOP = os.path.realpath(f"{os.path.dirname(__file__)}/../../..")
 BUILT = f"{TOP}/crates/aria_cli/out/aria_cli"
@@ -24,13 +27,14 @@ LITTLE = "ulimit -v 65536"
 HEADER = b"gid|stat|completed|total|code|path\n"
 CASES = []
 
+# The words of a run that asks as often as it does without being told, and of one that the first loss ends.
+PLAIN = ("t.torrent",)
+ONCE = ("--max-tries=1", "t.torrent")
+# Words by which a claim is of 64 blocks where the payload has 4,096 at most: that is one piece of a mebibyte.
+BY_MIB = ("--split=64", "--min-split-size=1M", *ONCE)
 
-class Wrong(Exception):
-    """What a case wants isn't so."""
-
-
-class Skipped(Exception):
-    """A case can't be tried here."""
+# The statuses of a download that was opened and that no mirror could complete.
+LOST = {3, 6, 22, 23, 24, 29, 32}
 
 
 def case(name, *needs, slow=False):
@@ -41,20 +45,6 @@ def case(name, *needs, slow=False):
         return function
 
     return add
-
-
-def want(holds, text):
-    if not holds:
-        raise Wrong(text)
-
-
-@contextlib.contextmanager
-def about(name):
-    """Says which of several things a case found wrong."""
-    try:
-        yield
-    except Wrong as why:
-        raise Wrong(f"{name}: {why}") from None
 
 
 def request(host, last, target="/a.bin", first=0):
@@ -90,6 +80,8 @@ class Room:
 
     def __init__(self, folder):
         self.folder = folder
+        # The info hash and the length of the pieces that a control file has to tell, where they are known.
+        self.right = None
 
     def path(self, name):
         return f"{self.folder}/{name}"
@@ -107,26 +99,63 @@ class Room:
         except FileNotFoundError:
             return None
 
-    def torrent(self, *words, **more):
-        self.put("t.torrent", metainfo(*words, **more))
+    def torrent(self, seeds, payload=b"hello", name=b"a", piece_length=16384):
+        self.told_by(info_of(payload, name, piece_length), seeds)
+
+    def told_by(self, info, seeds):
+        """The metainfo file says this."""
+        self.put("t.torrent", written(info, seeds))
+        self.right = (hashlib.sha1(bencoded(info)).digest(), info["piece length"])
+
+    def unlisted(self, piece_length=1 << 20):
+        """There is no metainfo file."""
+        self.right = (b"", piece_length)
+
+    def clear(self, name="a"):
+        """Nothing stands of the download of this name."""
+        for it in (name, f"{name}.aria2", f"{name}.aria2__temp"):
+            path = self.path(it)
+            if os.path.isdir(path):
+                shutil.rmtree(path)
+            elif os.path.lexists(path):
+                os.remove(path)
+
+    def standing(self):
+        """Each file by its path with its bytes, and each folder with none."""
+        found = {}
+        for folder, folders, files in os.walk(self.folder):
+            found.update({f"{folder}/{it}": None for it in folders})
+            for it in files:
+                with open(f"{folder}/{it}", "rb") as file:
+                    found[f"{folder}/{it}"] = file.read()
+        return found
 
     def control_files(self):
-        return {it for it in os.listdir(self.folder) if it.endswith(".aria2")}
+        """The control files that stand anywhere, with the temporary ones."""
+        found = set()
+        for folder, _, files in os.walk(self.folder):
+            found |= {os.path.relpath(f"{folder}/{it}", self.folder) for it in files if ".aria2" in it}
+        return found
 
-    def run(self, *words, program=PROGRAM, out=subprocess.PIPE, shell="", within=(), meanwhile=None, limit=LIMIT):
-        """Runs the program on these words, and gives its status and what it wrote.
-
-        A line of shell may come first, and another command may begin it all; `meanwhile` gets the process.
-        """
+    def start(self, *words, program=PROGRAM, out=subprocess.PIPE, shell="", within=()):
+        """The process of the program on these words. A line of shell may come first, and another command begin it all."""
         begin = ["sh", "-c", f'{shell}\nexec "$@"', "sh"] if shell else []
-        stood = self.control_files()
-        started = subprocess.Popen(
+        return subprocess.Popen(
             [*within, *begin, program, *words],
             cwd=self.folder,
             stdin=subprocess.DEVNULL,
             stdout=out,
             stderr=subprocess.PIPE,
         )
+
+    def run(self, *words, name="a", leaves=None, meanwhile=None, limit=LIMIT, **how):
+        """Runs the program on these words, and gives its status and what it wrote.
+
+        `meanwhile` gets the process. `leaves` is whether the control file of the download of this name stands behind the
+        run: without it, that is as it was before. No other control file comes or goes.
+        """
+        stood = self.control_files()
+        started = self.start(*words, **how)
         try:
             if meanwhile:
                 meanwhile(started)
@@ -138,8 +167,10 @@ class Room:
                 started.kill()
                 started.communicate()
         want(said == b"", f"it wrote to standard error: {said[:200]!r}")
-        made = self.control_files() - stood
-        want(not made, f"a control file stands: {made}")
+        own = {f"{name}.aria2", f"{name}.aria2__temp"}
+        right = stood if leaves is None else stood - own | ({f"{name}.aria2"} if leaves else set())
+        stands = self.control_files()
+        want(stands == right, f"status {started.returncode}, and the control files {stands} stand, not {right}")
         return started.returncode, wrote
 
     def store(self, *words):
@@ -166,24 +197,51 @@ class Room:
         line = b"error %d\n" % status
         want((ended, wrote) == (status, line), f"status {ended}, output {wrote!r}, and not {line!r}")
 
-    def ends(self, status, total, name="a", completed=0, words=("t.torrent",), **how):
-        """The run ends with this status, and writes the summary of one download, whole or with so many bytes."""
-        ended, wrote = self.run(*words, **how)
-        stat, completed = ("OK", total) if status == 0 else ("ERR", completed)
+    def ends(self, status, total, name="a", completed=None, words=ONCE, leaves=None, lists=(), **how):
+        """The run ends with this status, and writes the summary of one download, with so many bytes.
+
+        Without being told, those are all where it went well, and else none. Where the download was opened and isn't
+        complete, its control file stands, and lists just these blocks, if that is told.
+        """
+        leaves = status in LOST if leaves is None and status in {0, *LOST} else leaves
+        ended, wrote = self.run(*words, name=name, leaves=leaves, **how)
+        completed = (0 if status else total) if completed is None else completed
+        stat = "ERR" if status else "OK"
         line = f"|{stat}|{completed}|{total}|{status}|{name}\n".encode()
         said = f"status {ended}, output {wrote!r}, and not status {status} with {line!r} after the gid"
         want(ended == status, said)
         want(re.fullmatch(re.escape(HEADER) + rb"[0-9a-f]{16}" + re.escape(line), wrote), said)
+        if leaves and lists is not None:
+            self.lists(lists, total, name)
 
-    def fetches(self, payload, name="a", **how):
-        """The run ends well, and the payload has these bytes."""
+    def fetches(self, payload, name="a", anew=True, **how):
+        """The run ends well, and the payload has these bytes. Nothing stands of it before, unless it isn't to begin anew."""
+        if anew:
+            self.clear(name)
         self.ends(0, len(whole(payload)), name, **how)
         self.has(payload, name)
 
-    def fails(self, status, payload=b"hello", completed=0, name="a", **how):
-        """The run ends so once these bytes were written, and the payload has no others of those that came."""
+    def fails(self, status, payload=b"hello", completed=0, name="a", stands=None, anew=True, **how):
+        """The run ends so once these first bytes had landed.
+
+        The payload has no others of those that came, unless it is told how it stands.
+        """
+        if anew:
+            self.clear(name)
         self.ends(status, len(whole(payload)), name, completed, **how)
-        self.has(payload, name, completed)
+        if stands is None:
+            self.has(payload, name, completed)
+        else:
+            self.has(stands, name)
+
+    def lists(self, blocks, total, name="a"):
+        """The control file of a download lists just these blocks, and is of the right payload."""
+        control = controls.read(self.get(f"{name}.aria2"))
+        listed = [block for block, is_listed in enumerate(controls.blocks_of(control)) if is_listed]
+        want(listed == [*blocks], f"the control file lists the blocks {listed}, and not {[*blocks]}")
+        want(control.total == total, f"the control file is of {control.total} bytes")
+        if self.right is not None:
+            want(control[:2] == self.right, f"the control file is of {control[:2]}, and not of {self.right}")
 
     def has(self, payload, name="a", completed=None):
         """Each file stands with its length and bytes; past the completed ones they are 0."""

@@ -1,0 +1,234 @@
+"""The cases of several mirrors: which one is asked for what, who is blamed, and how often each is tried."""
+import random
+import socket
+
+from lib import controls
+from lib.acting import BROKEN, BUSY, GONE, SHUT, acts, apart, some_payload, some_ways
+from lib.choices import Model, Way
+from lib.mirrors import Site, free_port, head, reply
+from lib.payloads import LONG, MIB, PIECE, THREE, blocks_in
+from lib.rooms import ONCE, PLAIN, case, want_asked
+from lib.torrents import whole
+from lib.wants import about, want
+
+
+@case("a mirror that fails is asked again, as often as the words say")
+def _(room):
+    for way, status in ((GONE, 3), (SHUT, 24), (BUSY, 29), (BROKEN, 22), (Way("cut", 0), 6), (Way("turned", 1), 32)):
+        for tries in (1, 2, 5):
+            with about(f"{way}, {tries} tries"):
+                right = acts(room, b"hello", 5, [[way] * 100], tries)
+                want((right.status, len(right.asked[0])) == (status, tries), f"the model ends with {right}")
+                # the last one is right
+                right = acts(room, b"hello", 5, [[way] * (tries - 1)], tries)
+                want((right.status, len(right.asked[0])) == (0, tries), f"the model ends with {right}")
+
+
+@case("a mirror is asked five times where nothing is said")
+def _(room):
+    for status, answer in ((3, head(b"Content-Length: 0", status=b"404 No")), (32, reply(b"hellO"))):
+        with Site(instead={it: answer for it in range(10)}) as site:
+            room.torrent(site.url())
+            room.fails(status, b"hello", words=PLAIN, stands=b"hellO" if status == 32 else None)
+            want_asked(site, [("/a.bin", 0, 4)] * 5)
+
+
+@case("a hundred tries")
+def _(room):
+    right = acts(room, b"hello", 5, [[Way("turned", 4)] * 99], 100)
+    want(len(right.asked[0]) == 100, f"the model ends with {right}")
+
+
+@case("three seeds, one of which is wrong in two pieces, and one of which has no such file")
+def _(room):
+    wrong = bytearray(LONG * 3)
+    payload = bytes(wrong)
+    for piece in (1, 5):
+        wrong[piece * MIB + 77_777] ^= 1
+    for order in ((0, 1, 2), (2, 1, 0), (1, 2, 0)):
+        with Site({"/a.bin": payload}) as right, Site({"/a.bin": bytes(wrong)}) as bad, Site() as empty:
+            seeds = [right.url(), bad.url(), empty.url()]
+            room.torrent([seeds[it] for it in order], payload, piece_length=MIB)
+            for words in (PLAIN, ("--split=64", "--min-split-size=1M", "t.torrent"), ONCE):
+                for it in (right, bad, empty):
+                    it.requests.clear()
+                with about(f"seeds {order}, {words}"):
+                    room.fetches(payload, words=words)
+                    counts = [len(it.requests) for it in (right, bad, empty)]
+                    # the one that is empty is marked by its first reply, so that the others come first from then on
+                    want(counts[2] <= 1 or counts[2] <= 3 and len(words) > 1, f"{counts} requests came")
+
+
+@case("what one mirror gave is kept where it fails, and the others are asked for the rest")
+def _(room):
+    # the claim of the whole is cut behind so many blocks, so that the next one begins there
+    for cut in (1, PIECE - 1, PIECE, 2 * PIECE + 5, 100_000):
+        with about(f"cut at {cut}"):
+            right = acts(room, LONG[:200_000], 50_000, [[Way("cut", cut)], [], []])
+            want(right.status == 0 and len(right.asked[1]) == 1 and not right.asked[2], f"the model ends with {right}")
+    # a mirror with a mark comes behind those without
+    right = acts(room, LONG[:200_000], 50_000, [[Way("cut", 60_000)], [Way("cut", 60_000)], [GONE], []])
+    want([len(it) for it in right.asked] == [1, 1, 1, 1], f"the model ends with {right}")
+
+
+@case("a piece that two mirrors gave is given by one, once it was wrong")
+def _(room):
+    payload = LONG[: 4 * PIECE]
+    # the first mirror gives a wrong block and is lost, the second gives the rest
+    for ways, status in (
+        ([[Way("turned", 5), Way("cut", 1)], []], 0),
+        ([[Way("cut", PIECE)], [Way("turned", 5)]], 0),
+        ([[Way("cut", PIECE), Way("turned", 5)], [Way("turned", 5)] * 9], 0),
+        ([[Way("cut", PIECE)] + [Way("turned", 5)] * 9, [Way("turned", 5)] * 9], 32),
+    ):
+        for piece_length in (2 * PIECE, 4 * PIECE):
+            with about(f"{ways}, pieces of {piece_length}"):
+                right = acts(room, payload, piece_length, ways, 3)
+                want(right.status == status, f"the model ends with {right}")
+
+
+@case("each mirror is right in another piece")
+def _(room):
+    payload = LONG[: 2 * PIECE]
+    # mirror 0 is wrong in the first piece and mirror 1 in the second: by two claims the payload is whole
+    with Site({"/a.bin": payload[::-1][:PIECE] + payload[PIECE:]}) as first:
+        with Site({"/a.bin": payload[:PIECE] + payload[::-1][PIECE:]}) as second:
+            room.torrent([first.url(), second.url()], payload)
+            room.fetches(payload, words=PLAIN)
+            want_asked(first, [("/a.bin", 0, 2 * PIECE - 1)])
+            want_asked(second, [("/a.bin", 0, PIECE - 1)])
+
+
+@case("no mirror is right in a piece")
+def _(room):
+    payload = THREE
+    wrong = payload[:20_000] + b"x" + payload[20_001:]
+    with Site({"/a.bin": wrong}) as first, Site({"/a.bin": wrong}) as second, Site({"/a.bin": wrong}) as third:
+        room.torrent([first.url(), second.url(), third.url()], payload)
+        whole_of, piece = ("/a.bin", 0, 39_999), ("/a.bin", PIECE, 2 * PIECE - 1)
+        for tries, words in ((1, ONCE), (5, PLAIN)):
+            for it in (first, second, third):
+                it.requests.clear()
+            with about(f"{tries} tries"):
+                room.fails(32, payload, len(payload) - PIECE, stands=wrong, words=words)
+                want_asked(first, [whole_of] + [piece] * (tries - 1))
+                for it in (second, third):
+                    want_asked(it, [piece] * tries)
+
+
+@case("a mirror that dies in the midst, and others that go on")
+def _(room):
+    class Dying(Site):
+        """Gives so many bytes, and is then gone for good."""
+
+        def answer(self, asked):
+            self.listener.shutdown(socket.SHUT_RDWR)
+            return super().answer(asked)[:1_234_567]
+
+        def converse(self, connection):
+            self.requests.append(connection.recv(65_536))
+            connection.sendall(self.answer(self.requests[-1]))
+
+    with Dying({"/a.bin": LONG}) as dying, Site({"/a.bin": LONG}) as second, Site({"/a.bin": LONG}) as third:
+        room.torrent([dying.url(), second.url(), third.url()], LONG, piece_length=MIB)
+        room.fetches(LONG, words=PLAIN)
+        want_asked(dying, [("/a.bin", 0, len(LONG) - 1)])
+        want(not third.requests, "the third was asked")
+        begin = int(second.requests[0].split(b"bytes=")[1].split(b"-")[0])
+        # the head is of some 100 bytes
+        want(begin == (1_234_567 - 100) // PIECE * PIECE, f"the second was asked from {begin} on")
+        want_asked(second, [("/a.bin", begin, len(LONG) - 1)])
+
+
+@case("mirrors where nobody listens")
+def _(room):
+    with Site({"/a.bin": THREE}) as site:
+        gone = [b"http://127.0.0.1:%d/a.bin" % free_port("127.0.0.1") for _ in range(3)]
+        # the same comes of them as of mirrors that end each reply before its first byte
+        right = Model(THREE, PIECE, [[Way("cut", 0)] * 9] * 3 + [[]], 1).run()
+        room.torrent([*gone, site.url()], THREE)
+        room.fetches(THREE)
+        want_asked(site, [("/a.bin", first, last) for _, first, last in right.asked[3]])
+        room.torrent(gone, THREE)
+        room.fails(6, THREE, words=PLAIN)
+
+
+@case("the code of a piece that no mirror gives is the last one's")
+def _(room):
+    for ways, status in (
+        ([[GONE], [BUSY]], 29),
+        ([[BUSY], [GONE]], 3),
+        ([[GONE], [SHUT], [BROKEN]], 22),
+        ([[BROKEN], [Way("turned", 0)]], 32),
+        ([[Way("turned", 0)], [Way("cut", 3)]], 6),
+    ):
+        with about(f"{ways}"):
+            right = acts(room, b"hello", 5, ways, 1)
+            want(right.status == status, f"the model ends with {right}")
+
+
+# Runs that are made up by chance, each with a seed of its own. The model tells all of it: what each mirror is asked, and in
+# which order, how the run ends, and what stands behind it.
+
+
+for _group in range(4):
+
+    @case(f"mirrors of any ways, {_group}")
+    def _(room, group=_group):
+        ended = set()
+        for seed in range(group * 1_000, group * 1_000 + 40):
+            chance = random.Random(seed)
+            payload = some_payload(chance)
+            piece_length = chance.choice([PIECE, 3 * PIECE, 20_000, 50_000, 100_000, 5_000])
+            ways = [some_ways(chance) for _ in range(chance.randrange(1, 5))]
+            with about(f"the seed {seed}"):
+                ended.add(acts(room, payload, piece_length, ways, chance.randrange(1, 4)).status)
+        want(len(ended) > 3, f"they all ended with {ended}")
+
+
+def some_progress(chance, payload, piece_length):
+    """Some verified pieces and some blocks in flight, with the payload's bytes, a few of which are wrong, and their control file."""
+    content = whole(payload)
+    blocks = [*blocks_in(len(content), piece_length)]
+    pieces = -(-len(content) // piece_length)
+    verified = [it for it in range(pieces) if chance.random() < 0.3]
+    listed, flying = [], []
+    stands = bytearray(len(content))
+    for piece in range(pieces):
+        mine = [it for it, (at, _) in enumerate(blocks) if at // piece_length == piece]
+        bits = [chance.random() < 0.7 for _ in mine]
+        length = blocks[mine[-1]][1] - blocks[mine[0]][0]
+        is_wrong = chance.random() < 0.3
+        for block, is_there in zip(mine, bits):
+            at, end = blocks[block]
+            if piece in verified or is_there:
+                stands[at:end] = content[at:end][:: -1 if is_wrong and piece not in verified else 1]
+        if piece not in verified and any(bits):
+            flying.append((piece, length, controls.packed(bits)))
+            listed += [it for it, is_there in zip(mine, bits) if is_there]
+    row = controls.packed([it in verified for it in range(pieces)])
+    return verified, listed, bytes(stands), row, flying
+
+
+for _group in range(2):
+
+    @case(f"mirrors of any ways, where a control file tells of progress, {_group}")
+    def _(room, group=_group):
+        ended = set()
+        for seed in range(10_000 + group * 1_000, 10_000 + group * 1_000 + 40):
+            chance = random.Random(seed)
+            payload = some_payload(chance)
+            piece_length = chance.choice([PIECE, 3 * PIECE, 20_000, 50_000, 100_000])
+            ways = [some_ways(chance) for _ in range(chance.randrange(1, 4))]
+            verified, listed, stands, row, flying = some_progress(chance, payload, piece_length)
+            room.clear()
+            files = [("a", stands)] if isinstance(payload, bytes) else [(f"a/{it}", bits) for it, bits in apart(stands, payload)]
+            for path, content in files:
+                room.put(path, content)
+            # the info hash is of what the metainfo file says but for its seeds
+            room.torrent(None, payload, "a", piece_length)
+            room.put("a.aria2", controls.written(room.right[0], piece_length, len(whole(payload)), row, flying))
+            known = {"verified": verified, "listed": listed, "stands": stands}
+            with about(f"the seed {seed}"):
+                ended.add(acts(room, payload, piece_length, ways, chance.randrange(1, 4), anew=False, **known).status)
+        want(len(ended) > 3, f"they all ended with {ended}")
