@@ -71,7 +71,6 @@ def attempt(function, needs, gone, where):
     if missing:
         return "skipped", f"it needs {' and '.join(missing)}, not to be had here"
     folder = tempfile.mkdtemp(prefix="loopback-", dir=where)
-    import time; begun=time.monotonic()
     try:
         function(Room(folder))
     except Skipped as why:
@@ -82,7 +81,6 @@ def attempt(function, needs, gone, where):
         return "FAILED", f"{type(why).__name__}: {why}"
     finally:
         shutil.rmtree(folder, ignore_errors=True)
-        print("TOOK", round(time.monotonic()-begun,2), function.__code__.co_filename[-20:], function.__code__.co_firstlineno)
     return "passed", ""
 
 
@@ -100,14 +98,14 @@ def main():
     chosen = [it for it in CASES if not sys.argv[2:] or any(part in it[0] for part in sys.argv[2:])]
     counts = {"passed": 0, "skipped": 0, "FAILED": 0}
     gone = lacking()
-    # the slow ones wait rather than work, and they alone are tried on the disk
+    # the slow ones wait rather than work
     with concurrent.futures.ThreadPoolExecutor(max_workers=8) as pool:
         with concurrent.futures.ThreadPoolExecutor(max_workers=12) as waiting:
             running = {}
             for it in chosen:
                 _, needs, slow, function = it
-                where = (waiting, None) if slow else (pool, memory())
-                running[it] = where[0].submit(attempt, function, needs, gone, where[1])
+                where = None if "disk" in needs else memory()
+                running[it] = (waiting if slow else pool).submit(attempt, function, needs, gone, where)
             for it in chosen:
                 ended, why = running[it].result()
                 counts[ended] += 1

@@ -1,23 +1,9 @@
 """The cases of files that the words select."""
-import random
-
-from lib.acting import acts, some_ways
-from lib.choices import Way
 from lib.mirrors import Site
-from lib.payloads import LONG, MIB, MIB_CLAIMS, PIECE, SMALL, SPREAD, blocks_of, served, want_all_asked
+from lib.payloads import LONG, MIB, MIB_CLAIMS, PIECE, SMALL, SPREAD, blocks_of, pieces_of, served, want_all_asked
 from lib.rooms import BY_MIB, ONCE, case, want_asked
 from lib.torrents import whole
 from lib.wants import about, want
-
-
-def pieces_of(payload, chosen, piece_length):
-    """The pieces that hold a byte of one of these files, which are numbered from 1."""
-    found, at = set(), 0
-    for place, (_, content) in enumerate(payload, 1):
-        if place in chosen and content:
-            found |= set(range(at // piece_length, (at + len(content) - 1) // piece_length + 1))
-        at += len(content)
-    return sorted(found)
 
 
 def with_zeros(payload, pieces, piece_length):
@@ -116,22 +102,3 @@ def _(room):
         room.torrent(site.url(target="/"), payload)
         stands = [payload[0], ("y", bytes(PIECE)), ("z", payload[2][1][::-1])]
         room.fails(32, payload, PIECE, stands=stands, words=["--select-file=1,3", *ONCE])
-
-
-@case("mirrors of any ways, where files are selected")
-def _(room):
-    ended = set()
-    for seed in range(20_000, 20_040):
-        chance = random.Random(seed)
-        ends = sorted(chance.randrange(250_000) for _ in range(6))
-        payload = [(f"{place}/x", LONG[at:end]) for place, (at, end) in enumerate(zip([0, *ends], ends))]
-        if not ends[-1]:
-            continue
-        piece_length = chance.choice([PIECE, 3 * PIECE, 20_000, 5_000])
-        chosen = {it for it in range(1, 7) if chance.random() < 0.5} or {1}
-        ways = [some_ways(chance) for _ in range(chance.randrange(1, 4))]
-        words = [f"--select-file={','.join(map(str, chosen))}"]
-        wanted = pieces_of(payload, chosen, piece_length)
-        with about(f"the seed {seed}"):
-            ended.add(acts(room, payload, piece_length, ways, chance.randrange(1, 4), words, wanted=wanted).status)
-    want(len(ended) > 3, f"they all ended with {ended}")

@@ -3,7 +3,7 @@ import os
 
 from lib.buffers import LARGE, with_buffers
 from lib.mirrors import Nginx, Site, head, reply, sends
-from lib.payloads import LONG, MIB, PIECE
+from lib.payloads import LONG, MIB, PIECE, SPREAD, served
 from lib.recording import Recording
 from lib.rooms import BY_MIB, PLAIN, case, want_asked
 from lib.wants import about, want
@@ -32,6 +32,14 @@ def _(room):
         room.torrent(site.url(), LONG, piece_length=MIB)
         room.fetches(LONG, words=BY_MIB)
         want_asked(site, PIECES)
+        want_connections(site, 1)
+
+
+@case("one connection for all files")
+def _(room):
+    with Site(served(SPREAD)) as site:
+        room.torrent(site.url(target="/"), SPREAD, piece_length=MIB)
+        room.fetches(SPREAD, words=BY_MIB)
         want_connections(site, 1)
 
 

@@ -33,6 +33,7 @@ def begin_with_progress(room):
 # What is fetched, in which pieces, and what stands before.
 STARTS = [
     ("one file", b"hello", 5, begin_anew),
+    ("an empty file", b"", 5, begin_anew),
     ("files in folders", SMALL, 16, begin_anew),
     ("progress", SEVEN, PIECE, begin_with_progress),
 ]
@@ -52,7 +53,7 @@ def ended(room, words, shell):
 
 
 def each_call(room, does):
-    """Tries each call of the disk of a run that doesn't come to pass, with the number of the call and how the run ends."""
+    """Tries each call of the disk of a run in turn, which doesn't come to pass, and tells how the run ends."""
     faults = Faults(room.folder)
     for name, payload, piece_length, begin in STARTS:
         with Site(served(payload)) as site:
@@ -60,7 +61,7 @@ def each_call(room, does):
             begin(room)
             room.fetches(payload, anew=False, words=PLAIN, shell=faults.shell())
             count, _ = faults.counts()
-            want(count > 40, f"just {count} calls of the disk came")
+            want(count > 30, f"just {count} calls of the disk came")
             for number in range(count):
                 begin(room)
                 with about(f"{name}, call {number} of {count}"):
@@ -86,7 +87,7 @@ def _(room):
 
 
 def is_sound(room, begin):
-    """What a run left that died is of use: the verified piece is still told, or the payload is whole without a control file."""
+    """Of use is what is left: the verified piece is told, or the payload is whole and no control file stands."""
     control = room.get("a.aria2")
     if control is None:
         want(begin is not begin_with_progress or room.get("a") == SEVEN, "the control file has gone")
@@ -104,6 +105,28 @@ def _(room):
         is_sound(room, begin)
 
 
+@case("a file that URIs name, whose run meets a fault at each call of the disk", "cc")
+def _(room):
+    faults = Faults(room.folder)
+    room.unlisted()
+    with Site({"/a": b"hello"}) as site:
+        words = [site.url(target="/a").decode()]
+        room.fetches(b"hello", words=words, shell=faults.shell())
+        count, _ = faults.counts()
+        for does, right in (("fails", 17), ("tears", -9)):
+            for number in range(count):
+                room.clear()
+                with about(f"{does}, call {number} of {count}"):
+                    status, _ = ended(room, words, faults.shell(FAULT_AT=number, FAULT_DOES=does))
+                    want(status == right, f"status {status}")
+                    if room.get("a") is not None and room.get("a.aria2") is None:
+                        # the whole payload stands, and the next run takes it for another's
+                        want(room.get("a") == b"hello", f"the file has {room.get('a')}, and no control file stands")
+                        room.ends(13, 5, words=words)
+                    else:
+                        room.fetches(b"hello", anew=False, words=words)
+
+
 @case("each request for memory is refused in turn", "cc")
 def _(room):
     faults = Faults(room.folder)
@@ -119,7 +142,8 @@ def _(room):
                 status, wrote = ended(room, PLAIN, faults.shell(REFUSED_AT=number))
                 # nothing more is written once memory was wanting
                 is_wanting = status == 40 and wrote in (b"", HEADER)
-                want(is_wanting or status == 0 and wrote.endswith(b"|OK|5|5|0|a\n"), f"status {status}, output {wrote!r}")
+                is_done = status == 0 and wrote.endswith(b"|OK|5|5|0|a\n")
+                want(is_wanting or is_done, f"status {status}, output {wrote!r}")
                 wanting += is_wanting
                 if number % 5 == 0:
                     room.fetches(b"hello", anew=False)

@@ -48,7 +48,13 @@ def _(room):
         with about(f"{length} bytes in pieces of {piece_length}"):
             fetches_from_site(room, THREE[:length], piece_length)
     # claims begin and end within pieces
-    for length, piece_length in ((len(LONG), 999_999), (2 * MIB, MIB), (2 * MIB + 1, MIB), (len(LONG), 2 * MIB), (900_000, 7_000)):
+    for length, piece_length in (
+        (len(LONG), 999_999),
+        (2 * MIB, MIB),
+        (2 * MIB + 1, MIB),
+        (len(LONG), 2 * MIB),
+        (900_000, 7_000),
+    ):
         with about(f"{length} bytes in pieces of {piece_length}"):
             by_mib(room, LONG[:length], piece_length)
 
@@ -186,8 +192,9 @@ def _(room):
         room.told_by(info, site.url())
         room.ends(32, total, completed=2 * PIECE, words=("--max-tries=2", "t.torrent"), leaves=True)
         want(os.path.getsize(room.path("a")) == total, "the payload has another length")
-        firsts = [(place * PIECE, last) for first, last in ((0, most - 1), (1, PIECE + most - 1)) for place in range(first, first + 3)]
-        want_asked(site, [("/a.bin", *it) for it in firsts])
+        first = [("/a.bin", place * PIECE, most - 1) for place in range(3)]
+        second = [("/a.bin", place * PIECE, PIECE + most - 1) for place in range(1, 4)]
+        want_asked(site, first + second)
 
 
 # Several files.

@@ -407,6 +407,42 @@ def _(room):
     want(room.get("a") == b"hello", f"the payload is {room.get('a')}")
 
 
+@case("standard output is full, and the run fails otherwise as well")
+def _(room):
+    with Site({"/a.bin": b"hellO"}) as site:
+        # a summary that can't be written goes before the end of its download, and no refusal is changed by it
+        for status, made, words, leaves in (
+            (41, lambda: room.torrent(site.url()), ["t.torrent"], True),
+            (41, lambda: room.torrent(site.url(target="/b")), ["t.torrent"], True),
+            (41, lambda: os.mkdir(room.path("a")), ["t.torrent"], False),
+            (41, lambda: None, [site.url(target="/b").decode()], None),
+            (28, lambda: None, ["t.torrent", "b"], None),
+            (3, lambda: None, ["b.torrent"], None),
+            (17, lambda: os.mkdir(room.path("c.torrent")), ["c.torrent"], None),
+            (25, lambda: room.put("d.torrent", b"i03e"), ["d.torrent"], None),
+            (26, lambda: room.put("e.torrent", b"de"), ["e.torrent"], None),
+        ):
+            room.clear()
+            made()
+            with about(f"{status} of {words}"), open("/dev/full", "wb") as full:
+                ended, _ = room.run("--max-tries=2", *words, out=full, leaves=leaves)
+                want(ended == status, f"status {ended}")
+
+
+@case("a folder of the words that is a file")
+def _(room):
+    with Site({"/a.bin": b"hello"}) as site:
+        room.torrent(site.url())
+        room.put("d", b"old")
+        for words in (["--dir=d", "t.torrent"], ["--dir=d/e", "t.torrent"], ["--dir=d", site.url().decode()]):
+            stood = room.standing()
+            with about(f"{words}"):
+                name = f"{words[0][6:]}/{'a' if words[1] == 't.torrent' else 'a.bin'}"
+                room.ends(17, 5, name, words=words)
+                want(room.standing() == stood, "something has changed")
+        want(len(site.requests) == 1, f"{len(site.requests)} requests came")
+
+
 @case("nobody reads standard output")
 def _(room):
     reader, writer = os.pipe()

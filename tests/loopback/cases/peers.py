@@ -89,7 +89,7 @@ def _(room):
             room.fetches(LARGE, limit=100, shell=LITTLE, words=words)
 
 
-@case("64 MiB in pieces of 1 MiB from http.server, which sends the whole file for each claim", slow=True)
+@case("64 MiB in pieces of 1 MiB from http.server, which sends the whole file for each claim", "disk", slow=True)
 def _(room):
     with http_server() as mirror:
         mirror.put("a.bin", LARGE)

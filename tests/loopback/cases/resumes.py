@@ -10,7 +10,8 @@ from lib.aria2 import ARIA2, interrupted
 from lib.controls import BLOCK, blocks_of, packed, written
 from lib.killing import Slow, killed, listed_of
 from lib.mirrors import Site
-from lib.payloads import LONG, MIB, MIB_CLAIMS, PIECE, SMALL, SPREAD, served, want_all_asked
+from lib.payloads import LONG, MIB, MIB_CLAIMS, SMALL, SPREAD, served, want_all_asked
+from lib.payloads import blocks_of as numbers_of
 from lib.rooms import BY_MIB, LIMIT, ONCE, PLAIN, case
 from lib.sevens import ALL, HASH, SEVEN, refused
 from lib.sevens import PIECE as PAIR
@@ -30,11 +31,11 @@ def goes_on(room, site, payload, listed, words=ONCE):
     want(asked == lacking, f"it asked for {sorted(asked & listed)} once more, and not for {sorted(lacking - asked)}")
 
 
-@case("a run that is killed at thirty moments", slow=True)
+@case("a run that is killed at thirty moments", "disk", slow=True)
 def _(room):
     chance = random.Random(30)
     payload = os.urandom(24 * MIB - 1_000)
-    listed, verified = set(), 0
+    listed, verified = set(), b""
     with Slow({"/a.bin": payload}, 1_500_000) as site:
         room.torrent(site.url(), payload, piece_length=16 * BLOCK)
         for place in range(30):
@@ -46,13 +47,14 @@ def _(room):
                 now = listed_of(room, payload)
                 want(listed <= now, f"the control file doesn't list {sorted(listed - now)} any more")
                 listed = now
-                verified = max(verified, sum(controls.bit(controls.read(room.get("a.aria2")).pieces, it) for it in range(96)) if now else 0)
-        want(len(listed) > 100 and verified, f"just {len(listed)} blocks were listed, and {verified} pieces")
+                if now:
+                    verified = controls.read(room.get("a.aria2")).pieces.strip(b"\0")
+        want(len(listed) > 100 and verified, f"just {len(listed)} blocks were listed, and the pieces {verified}")
         site.rate = None
         goes_on(room, site, payload, listed)
 
 
-@case("a run that is ended by a signal", slow=True)
+@case("a run that is ended by a signal", "disk", slow=True)
 def _(room):
     payload = os.urandom(8 * MIB)
     listed = set()
@@ -66,7 +68,7 @@ def _(room):
         goes_on(room, site, payload, listed)
 
 
-@case("progress is saved by time, as often as the words say", slow=True)
+@case("progress is saved by time, as often as the words say", "disk", slow=True)
 def _(room):
     payload = os.urandom(8 * MIB)
     with Slow({"/a.bin": payload}, 1_000_000) as site:
@@ -76,7 +78,8 @@ def _(room):
             with about(f"{seconds} seconds"):
                 words = [f"--auto-save-interval={seconds}", *PLAIN]
                 passed = killed(room, *words, when=lambda: listed_of(room, payload))
-                want(seconds <= passed < seconds + 3, f"it was first saved after {passed:.2f} seconds")
+                # the disk may be slow
+                want(seconds <= passed < seconds + 10, f"it was first saved after {passed:.2f} seconds")
         for words in (["--auto-save-interval=0", *PLAIN], PLAIN):
             room.clear()
             with about(f"{words}"):
@@ -87,7 +90,7 @@ def _(room):
         goes_on(room, site, payload, set())
 
 
-@case("a file that URIs name, whose run is killed", slow=True)
+@case("a file that URIs name, whose run is killed", "disk", slow=True)
 def _(room):
     room.unlisted()
     payload = os.urandom(8 * MIB - 5)
@@ -111,7 +114,7 @@ def _(room):
 # aria2 beside the program.
 
 
-@case("what aria2 left is gone on with", "aria2c", slow=True)
+@case("what aria2 left is gone on with", "aria2c", "disk", slow=True)
 def _(room):
     for most in (60_000, 150_000):
         with about(f"after {most} bytes"):
@@ -125,12 +128,12 @@ def _(room):
                 goes_on(room, site, SEVEN, listed)
 
 
-@case("what aria2 left of several files, killed", "aria2c", slow=True)
+@case("what aria2 left of several files, killed", "aria2c", "disk", slow=True)
 def _(room):
     with Slow(served(SPREAD), 400_000) as site:
         room.torrent(site.url(target="/"), SPREAD, piece_length=MIB // 4)
-        quiet = {"stdin": subprocess.DEVNULL, "stdout": subprocess.DEVNULL}
-        started = subprocess.Popen([*ARIA2, "--auto-save-interval=1", "-x1", "-s1", "t.torrent"], cwd=room.folder, **quiet)
+        quiet = {"cwd": room.folder, "stdin": subprocess.DEVNULL, "stdout": subprocess.DEVNULL}
+        started = subprocess.Popen([*ARIA2, "--auto-save-interval=1", "-x1", "-s1", "t.torrent"], **quiet)
         try:
             # it saves each second, and begins to ask some seconds after its start
             for _ in range(300):
@@ -150,7 +153,7 @@ def _(room):
         want_all_asked(site, SPREAD, MIB // 4, free=free)
 
 
-@case("aria2 goes on with what a killed run left", "aria2c", slow=True)
+@case("aria2 goes on with what a killed run left", "aria2c", "disk", slow=True)
 def _(room):
     payload = os.urandom(4 * MIB)
     with Slow({"/a.bin": payload}, 1_000_000) as site:
@@ -166,8 +169,8 @@ def _(room):
         want(len(listed) < 250, f"{len(listed)} blocks are listed")
         site.rate = None
         site.requests.clear()
-        quiet = {"stdin": subprocess.DEVNULL, "stdout": subprocess.DEVNULL}
-        ran = subprocess.run([*ARIA2, "--continue=true", "t.torrent"], cwd=room.folder, timeout=LIMIT, check=False, **quiet)
+        quiet = {"cwd": room.folder, "stdin": subprocess.DEVNULL, "stdout": subprocess.DEVNULL}
+        ran = subprocess.run([*ARIA2, "--continue=true", "t.torrent"], timeout=LIMIT, check=False, **quiet)
         want(ran.returncode == 0, f"aria2 ended with {ran.returncode}")
         want(room.get("a") == payload, "the payload isn't whole")
         want(not room.control_files(), f"{room.control_files()} stand")
@@ -216,6 +219,38 @@ def _(room):
             want_all_asked(site, SEVEN, PAIR, free=free)
 
 
+def reaches(stands, payload, piece_length):
+    """For each piece whether each of its bytes is one of the files, which have these lengths; None is a missing one."""
+    there = b""
+    for (_, content), length in zip(payload, stands):
+        there += (b"\1" * len(content))[: length or 0].ljust(len(content), b"\0")
+    return [all(there[at : at + piece_length]) for at in range(0, len(there), piece_length)]
+
+
+@case("a control file of several files, which aren't as they were")
+def _(room):
+    for payload, piece_length in ((SMALL, 16), (SMALL, 5), (SPREAD, MIB)):
+        words, claimed = (BY_MIB, MIB_CLAIMS) if payload is SPREAD else (ONCE, {})
+        total = len(whole(payload))
+        lengths = [len(it) for _, it in payload]
+        for place in range(len(payload)):
+            for length in (None, 0, max(lengths[place] - 1, 0), lengths[place] + 5):
+                stands = [length if at == place else it for at, it in enumerate(lengths)]
+                right = reaches(stands, payload, piece_length)
+                with about(f"file {place} of {length}, pieces of {piece_length}"), Site(served(payload)) as site:
+                    room.clear()
+                    room.torrent(site.url(target="/"), payload, b"a", piece_length)
+                    for (path, content), it in zip(payload, stands):
+                        if it is not None:
+                            room.put(f"a/{path}", content[:it].ljust(it, b"x"))
+                    row = packed([True] * len(right))
+                    room.put("a.aria2", written(room.right[0], piece_length, total, row))
+                    room.fetches(payload, anew=False, words=words)
+                    lacking = [piece for piece, is_there in enumerate(right) if not is_there]
+                    free = [*numbers_of(lacking, total, piece_length)]
+                    want_all_asked(site, payload, piece_length, free=free, **claimed)
+
+
 @case("pieces that a control file lists are compared where the words say so")
 def _(room):
     torn = SEVEN[:40_000] + b"torn" + SEVEN[40_004:]
@@ -248,7 +283,7 @@ def _(room):
     with Site(served(SEVEN)) as site:
         room.torrent(site.url(target="/"), SEVEN, b"a", PAIR)
         puts(room, SEVEN, begin + b"".join(flies))
-        free = [0 + 2, 3, 6, 7, 8, *range(10, 13)]
+        free = [2, 3, 6, 7, 8, *range(10, 13)]
         site.files = {}
         # what is written is of version 1
         room.fails(3, SEVEN, stands=SEVEN, completed=5 * BLOCK, anew=False, lists=[0, 1, 4, 5, 9])
@@ -295,9 +330,8 @@ def _(room):
 # Disks that are full, and then have room.
 
 
-def on_small_disk(size, more=""):
-    """A folder `d` of so many bytes, what follows of the run there, and its control file."""
-    script = f'mount -t tmpfs -o size={size} none d || exit 99; "$@"; ended=$?; {more} exit $ended'
+def within_mounts(script):
+    """The words that run a script of shell on the program, where what it mounts is seen by nobody else."""
     return ["unshare", "--mount", "sh", "-c", script, "sh"]
 
 
@@ -307,11 +341,27 @@ def _(room):
     with Site({"/a.bin": LONG}) as site:
         room.torrent(site.url(), LONG, piece_length=MIB)
         words = ["--dir=d", *BY_MIB]
-        for size, landed in (("4k", 0), ("8k", 0), ("64k", None), ("1M", None), ("1028k", MIB), ("2052k", 2 * MIB), ("2440k", None)):
-            again = 'cp d/a d/a.aria2 .; mount -o remount,size=8M d; "$@" >/dev/null || exit 98; cmp d/a right || exit 97; [ ! -e d/a.aria2 ] || exit 96;'
-            room.put("right", LONG)
+        room.put("right", LONG)
+        # then there is room, and the next run ends well
+        again = "; ".join([
+            "cp d/a d/a.aria2 .",
+            "mount -o remount,size=8M d",
+            '"$@" >/dev/null || exit 98',
+            "cmp d/a right || exit 97",
+            "[ ! -e d/a.aria2 ] || exit 96",
+        ])
+        for size, landed in (
+            ("4k", 0),
+            ("8k", 0),
+            ("64k", None),
+            ("1M", None),
+            ("1028k", MIB),
+            ("2052k", 2 * MIB),
+            ("2440k", None),
+        ):
             with about(size):
-                ended, wrote = room.run(*words, within=on_small_disk(size, again), name="a", leaves=True)
+                script = f'mount -t tmpfs -o size={size} none d || exit 99; "$@"; ended=$?; {again}; exit $ended'
+                ended, wrote = room.run(*words, within=within_mounts(script), leaves=True)
                 want(ended == 17 and b"|%d|17|d/a\n" % len(LONG) in wrote, f"status {ended}, output {wrote!r}")
                 completed = int(wrote.split(b"|")[-4])
                 want(landed in (None, completed), f"{completed} bytes landed")
@@ -326,8 +376,8 @@ def _(room):
 def _(room):
     with Site({"/a.bin": LONG}) as site:
         room.torrent(site.url(), LONG, piece_length=MIB)
-        within = ["unshare", "--mount", "sh", "-c", 'mount --bind . . && cd "$PWD" && mount -o remount,ro,bind . || exit 99; "$@"', "sh"]
+        script = 'mount --bind . . && cd "$PWD" && mount -o remount,ro,bind . || exit 99; "$@"'
         stood = room.standing()
-        room.ends(17, len(LONG), within=within)
+        room.ends(17, len(LONG), within=within_mounts(script))
         want(room.standing() == stood, "something has changed")
         want(not site.connections, f"{len(site.connections)} connections came")

@@ -2,13 +2,11 @@
 import random
 import socket
 
-from lib import controls
-from lib.acting import BROKEN, BUSY, GONE, SHUT, acts, apart, some_payload, some_ways
+from lib.acting import BROKEN, BUSY, GONE, SHUT, acts, acts_by_chance, turned
 from lib.choices import Model, Way
-from lib.mirrors import Site, free_port, head, reply
-from lib.payloads import LONG, MIB, PIECE, THREE, blocks_in
+from lib.mirrors import Mirror, Site, free_port, head, reply, sends_and_stays
+from lib.payloads import LONG, MIB, MIB_CLAIMS, PIECE, THREE
 from lib.rooms import ONCE, PLAIN, case, want_asked
-from lib.torrents import whole
 from lib.wants import about, want
 
 
@@ -41,22 +39,16 @@ def _(room):
 
 @case("three seeds, one of which is wrong in two pieces, and one of which has no such file")
 def _(room):
-    wrong = bytearray(LONG * 3)
-    payload = bytes(wrong)
-    for piece in (1, 5):
-        wrong[piece * MIB + 77_777] ^= 1
+    payload = LONG * 3
+    has = [payload, turned(payload, [MIB + 77_777, 5 * MIB]), payload]
+    ways = [[], [], [GONE] * 99]
     for order in ((0, 1, 2), (2, 1, 0), (1, 2, 0)):
-        with Site({"/a.bin": payload}) as right, Site({"/a.bin": bytes(wrong)}) as bad, Site() as empty:
-            seeds = [right.url(), bad.url(), empty.url()]
-            room.torrent([seeds[it] for it in order], payload, piece_length=MIB)
-            for words in (PLAIN, ("--split=64", "--min-split-size=1M", "t.torrent"), ONCE):
-                for it in (right, bad, empty):
-                    it.requests.clear()
-                with about(f"seeds {order}, {words}"):
-                    room.fetches(payload, words=words)
-                    counts = [len(it.requests) for it in (right, bad, empty)]
-                    # the one that is empty is marked by its first reply, so that the others come first from then on
-                    want(counts[2] <= 1 or counts[2] <= 3 and len(words) > 1, f"{counts} requests came")
+        for words, claimed in (((), {}), (("--split=64", "--min-split-size=1M"), MIB_CLAIMS)):
+            for tries in (1, 5):
+                known = {"has": [has[it] for it in order], **claimed}
+                with about(f"seeds {order}, {words}, {tries} tries"):
+                    right = acts(room, payload, MIB, [ways[it] for it in order], tries, words, **known)
+                    want(right.status == 0, f"the model ends with {right.status}")
 
 
 @case("what one mirror gave is kept where it fails, and the others are asked for the rest")
@@ -167,68 +159,27 @@ def _(room):
             want(right.status == status, f"the model ends with {right}")
 
 
-# Runs that are made up by chance, each with a seed of its own. The model tells all of it: what each mirror is asked, and in
-# which order, how the run ends, and what stands behind it.
+# Runs that are made up by chance, each with a seed of its own. The model tells all of them: what each mirror is asked, and
+# in which order, how the run ends, and what stands behind it.
 
 
-for _group in range(4):
+for _group in range(6):
 
-    @case(f"mirrors of any ways, {_group}")
+    @case(f"runs by chance, {_group}")
     def _(room, group=_group):
         ended = set()
         for seed in range(group * 1_000, group * 1_000 + 40):
-            chance = random.Random(seed)
-            payload = some_payload(chance)
-            piece_length = chance.choice([PIECE, 3 * PIECE, 20_000, 50_000, 100_000, 5_000])
-            ways = [some_ways(chance) for _ in range(chance.randrange(1, 5))]
             with about(f"the seed {seed}"):
-                ended.add(acts(room, payload, piece_length, ways, chance.randrange(1, 4)).status)
+                ended.add(acts_by_chance(room, random.Random(seed)).status)
         want(len(ended) > 3, f"they all ended with {ended}")
 
 
-def some_progress(chance, payload, piece_length):
-    """Some verified pieces and some blocks in flight, with the payload's bytes, a few of which are wrong, and their control file."""
-    content = whole(payload)
-    blocks = [*blocks_in(len(content), piece_length)]
-    pieces = -(-len(content) // piece_length)
-    verified = [it for it in range(pieces) if chance.random() < 0.3]
-    listed, flying = [], []
-    stands = bytearray(len(content))
-    for piece in range(pieces):
-        mine = [it for it, (at, _) in enumerate(blocks) if at // piece_length == piece]
-        bits = [chance.random() < 0.7 for _ in mine]
-        length = blocks[mine[-1]][1] - blocks[mine[0]][0]
-        is_wrong = chance.random() < 0.3
-        for block, is_there in zip(mine, bits):
-            at, end = blocks[block]
-            if piece in verified or is_there:
-                stands[at:end] = content[at:end][:: -1 if is_wrong and piece not in verified else 1]
-        if piece not in verified and any(bits):
-            flying.append((piece, length, controls.packed(bits)))
-            listed += [it for it, is_there in zip(mine, bits) if is_there]
-    row = controls.packed([it in verified for it in range(pieces)])
-    return verified, listed, bytes(stands), row, flying
-
-
-for _group in range(2):
-
-    @case(f"mirrors of any ways, where a control file tells of progress, {_group}")
-    def _(room, group=_group):
-        ended = set()
-        for seed in range(10_000 + group * 1_000, 10_000 + group * 1_000 + 40):
-            chance = random.Random(seed)
-            payload = some_payload(chance)
-            piece_length = chance.choice([PIECE, 3 * PIECE, 20_000, 50_000, 100_000])
-            ways = [some_ways(chance) for _ in range(chance.randrange(1, 4))]
-            verified, listed, stands, row, flying = some_progress(chance, payload, piece_length)
-            room.clear()
-            files = [("a", stands)] if isinstance(payload, bytes) else [(f"a/{it}", bits) for it, bits in apart(stands, payload)]
-            for path, content in files:
-                room.put(path, content)
-            # the info hash is of what the metainfo file says but for its seeds
-            room.torrent(None, payload, "a", piece_length)
-            room.put("a.aria2", controls.written(room.right[0], piece_length, len(whole(payload)), row, flying))
-            known = {"verified": verified, "listed": listed, "stands": stands}
-            with about(f"the seed {seed}"):
-                ended.add(acts(room, payload, piece_length, ways, chance.randrange(1, 4), anew=False, **known).status)
-        want(len(ended) > 3, f"they all ended with {ended}")
+@case("a mirror that falls silent in the midst, and another", slow=True)
+def _(room):
+    # after a minute the other one is asked for what didn't come
+    with Mirror(sends_and_stays(reply(LONG)[: 1_000_000 + 100])) as silent, Site({"/a.bin": LONG}) as site:
+        room.torrent([silent.url(), site.url()], LONG, piece_length=MIB)
+        room.fetches(LONG, limit=100, words=PLAIN)
+        begin = (1_000_000 + 100 - (len(reply(LONG)) - len(LONG))) // PIECE * PIECE
+        want_asked(site, [("/a.bin", begin, len(LONG) - 1)])
+        want(len(silent.requests) == 1, f"{len(silent.requests)} requests came")

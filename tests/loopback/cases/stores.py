@@ -37,7 +37,7 @@ def brings(listed):
 
 
 # After how many bytes aria2 is stopped: in the midst of a block, and at the end of one.
-@case("the control file that aria2 left is read and written", "aria2c", slow=True)
+@case("the control file that aria2 left is read and written", "aria2c", "disk", slow=True)
 def _(room):
     room.put("payload", SEVEN)
     for most in (20_000, 50_000, 98_304, 150_000, 199_999):
@@ -59,7 +59,7 @@ def _(room):
             want(ours == got, f"for the same progress the control file is {ours.hex()}, and not {got.hex()}")
 
 
-@case("aria2 goes on from what the store left", "aria2c", slow=True)
+@case("aria2 goes on from what the store left", "aria2c", "disk", slow=True)
 def _(room):
     room.put("payload", SEVEN)
     for listed in (

@@ -15,14 +15,20 @@ NUMBERS = [
     ("rpc-listen-port", None, ["1024", "65535"], ["0", "1023", "65536", "80"]),
 ]
 SIZES = [
-    ("min-split-size", "k", ["1M", "1024M", "1048576", "1024K", "1m", "1024k"], ["1048575", "1023K", "1025M", "0", "1073741825"]),
+    (
+        "min-split-size",
+        "k",
+        ["1M", "1024M", "1048576", "1024K", "1m", "1024k"],
+        ["1048575", "1023K", "1025M", "0", "1073741825"],
+    ),
     ("piece-length", None, ["1M", "64M", "1048577"], ["1023K", "65M", "67108865", "0"]),
     ("max-download-limit", None, ["0", "1", "4294967295", "4095M"], ["4294967296", "4096M"]),
     ("max-overall-download-limit", None, ["0", "16384", "4294967295"], ["4294967296"]),
     ("rpc-max-request-size", None, ["16K", "64M"], ["15K", "65M", "16383"]),
 ]
 NO_NUMBERS = ["", "05", "+5", "-5", "5.0", "0x5", " 5", "5 ", "five", "18446744073709551617", "5" * 1_000, "5,", "٥"]
-NO_SIZES = ["", "02M", "+2M", "-2M", "2.0M", "2 M", " 2M", "2M ", "2G", "2MB", "2MiB", "M", "2KM", "17592186044417M", "2М"]
+NO_SIZES = ["", "02M", "+2M", "-2M", "2.0M", "2 M", " 2M", "2M ", "2G", "2MB", "2MiB", "M", "2KM", "2М"]
+NO_SIZES += ["17592186044417M", "18014398509481985K"]
 DIGESTS = {"sha-1": 40, "sha-224": 56, "sha-256": 64, "sha-384": 96, "sha-512": 128}
 TEXTS = [
     ("dir", "d", [".", "/tmp", "a/b", "é", " "], [""]),
@@ -41,7 +47,10 @@ TEXTS = [
         "select-file",
         None,
         ["1", "1-1", "1-3", "3,1", "1,1", "1-2,2-3", "1048576", "1-1048576"],
-        ["", "0", "0-1", "3-2", "1,", ",1", "1,,2", "01", "1-02", "1-", "-1", "1-2-3", "1 ", " 1", "1, 2", "1048577", "x", "1-1048577"],
+        [
+            *["", "0", "0-1", "3-2", "1,", ",1", "1,,2", "01", "1-02", "1-", "-1", "1-2-3", "1 ", " 1", "1, 2", "x"],
+            *["1048577", "1-1048577", "4294967297"],
+        ],
     ),
 ]
 FLAGS = [("check-integrity", "V"), ("pause", None)]
@@ -95,7 +104,8 @@ def _(room):
                 room.refuses(28, "--enable-rpc", *words)
         if letter:
             has_meaning(room, f"-{letter}")
-    for words in (["--enable-rpc", "--enable-rpc"], ["--enable-rpc=true"], ["--enable-rpc=false"], ["--enable-rpc", "true"]):
+    console = "--enable-rpc"
+    for words in ([console, console], [f"{console}=true"], [f"{console}=false"], [console, "true"]):
         with about(f"{words}"):
             room.refuses(28, *words)
 
@@ -104,8 +114,8 @@ def _(room):
 def _(room):
     room.torrent(b"http://127.0.0.1:1/a.bin")
     for words in (
-        *(["--help"], ["-h"], ["--version"], ["-v"], ["--continue"], ["-c"], ["--gid=0000000000000001"], ["--quiet"], ["-"]),
-        *(["--max-tries"], ["--allow-overwrite=true"], ["--lowest-speed-limit=1K"], ["--retry-wait=1"], ["---split=2"]),
+        *(["--help"], ["-h"], ["--version"], ["-v"], ["--continue"], ["-c"], ["--gid=0000000000000001"], ["-"]),
+        *(["--quiet"], ["--max-tries"], ["--allow-overwrite=true"], ["--lowest-speed-limit=1K"], ["--retry-wait=1"]),
     ):
         with about(f"{words}"):
             room.refuses(28, "--enable-rpc", *words)

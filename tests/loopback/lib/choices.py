@@ -1,4 +1,4 @@
-"""What a run over one connection does by the rules of claims, marks and pieces: a plain model of it, one step after another.
+"""What a run over one connection does by the rules of claims, marks and pieces: a plain model, one step after another.
 
 Mirrors answer each request in a way that is told beforehand, so that the model knows what comes.
 """
@@ -7,8 +7,9 @@ from typing import NamedTuple
 from urllib.parse import quote
 
 from lib.controls import BLOCK
-from lib.mirrors import Ending, Site, head
+from lib.mirrors import Ending, Site, head, reply
 from lib.payloads import blocks_in, parts
+from lib.recording import asked_by
 from lib.rooms import files_of
 from lib.torrents import whole
 
@@ -18,7 +19,8 @@ OLD = -1
 
 
 class Way(NamedTuple):
-    """How a request is answered: with what was asked, a byte of it turned, cut, or with a status of the program's code."""
+    """How a request is answered: with the part that is asked for, with a bit turned in it, cut in its midst, with a
+    shorter one, the whole file, or a status."""
 
     name: str = "right"
     number: int = 0
@@ -30,6 +32,8 @@ class Way(NamedTuple):
             return content[:at] + bytes([content[at] ^ 1]) + content[at + 1 :], None
         if self.name == "cut":
             return content[: self.number % len(content)], 6
+        if self.name == "short":
+            return content[: 1 + self.number % len(content)], None
         return (b"", CODES[self.number]) if self.name == "status" else (content, None)
 
 
@@ -47,17 +51,22 @@ class Acting(Site):
     def answer(self, asked):
         place = len(self.requests) - 1
         way = self.ways[place] if place < len(self.ways) else Way()
-        begin, _, content = super().answer(asked).partition(b"\r\n\r\n")
+        target, first, last = asked_by(asked)
+        content = self.files[target]
         if way.name == "status":
             return head(b"Content-Length: 0", status=b"%d No" % way.number)
-        came, code = way.came(content)
-        answer = begin + b"\r\n\r\n" + came
-        return Ending(answer) if code else answer
+        if way.name == "whole":
+            return head(b"Content-Length: %d" % len(content), status=b"200 OK") + content
+        came, code = way.came(content[first : last + 1])
+        if code is None:
+            return reply(came, first=first, total=len(content))
+        begin = reply(content[first : last + 1], first=first, total=len(content))
+        return Ending(begin[: len(begin) - (last + 1 - first) + len(came)])
 
 
 class Outcome(NamedTuple):
-    """How a run ends: its status, the bytes that are there, what each mirror was asked, the payload's bytes as they stand,
-    and the blocks that the control file lists."""
+    """How a run ends: its status, how many bytes are there, what each mirror was asked, the payload's bytes as they
+    stand, and the blocks that the control file lists."""
 
     status: int
     completed: int
@@ -69,14 +78,17 @@ class Outcome(NamedTuple):
 class Model:
     """A run of one download, of which a control file may list verified pieces, and blocks of others."""
 
-    def __init__(self, payload, piece_length, ways, tries=5, verified=(), listed=(), stands=None, wanted=None, name="a"):
+    def __init__(self, payload, piece_length, ways, tries=5, name="a", has=None, verified=(), listed=(), stands=None,
+                 wanted=None, split=5, least=20 * MIB):
         self.right = whole(payload)
-        self.files = files_of(payload, name)
+        # the files as each mirror has them
+        self.files = [files_of(it, name) for it in has or [payload] * len(ways)]
         self.piece_length = piece_length
         self.blocks = [*blocks_in(len(self.right), piece_length)]
         self.stands = bytearray(stands or bytes(len(self.right)))
         self.ways = [collections.deque(it) for it in ways]
         self.tries = tries
+        self.most = max(-(-len(self.blocks) // split), -(-least // BLOCK))
         self.asked = [[] for _ in ways]
         self.marks = collections.Counter()
         pieces = range(-(-len(self.right) // piece_length))
@@ -123,9 +135,8 @@ class Model:
     def claim(self):
         """The mirror and the blocks of the next claim: the first ones of the longest stretch."""
         first, behind, mirrors = max(self.stretches(), key=lambda it: (it[1] - it[0], -it[0]))
-        most = max(-(-len(self.blocks) // 5), 20 * MIB // BLOCK)
         if self.piece(first) not in self.sole:
-            behind = min(behind, first + most)
+            behind = min(behind, first + self.most)
         totals = {it: sum(self.marks[it, piece] for piece in range(len(self.blocks))) for it in mirrors}
         return min(mirrors, key=lambda it: (totals[it], it)), first, behind
 
@@ -164,12 +175,14 @@ class Model:
 
     def fetch(self, mirror, first, behind):
         """The mirror is asked for the blocks. Told is the code by which the run ends, if it does."""
-        start, came, code = self.blocks[first][0], b"", None
-        for path, begin, last in parts(self.files, start, self.blocks[behind - 1][1]):
-            self.asked[mirror].append((f"/{quote(path)}", begin, last))
-            way = self.ways[mirror].popleft() if self.ways[mirror] else Way()
-            some, code = way.came(dict(self.files)[path][begin : last + 1])
-            came += some
+        start, came, code, files = self.blocks[first][0], b"", None, self.files[mirror]
+        for path, begin, last in parts(files, start, self.blocks[behind - 1][1]):
+            while begin <= last and not code:
+                self.asked[mirror].append((f"/{quote(path)}", begin, last))
+                way = self.ways[mirror].popleft() if self.ways[mirror] else Way()
+                some, code = way.came(dict(files)[path][begin : last + 1])
+                came += some
+                begin += len(some)
             if code:
                 break
         for block in range(first, behind):

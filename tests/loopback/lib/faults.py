@@ -2,9 +2,9 @@
 import os
 import subprocess
 
-# What is told in the environment: FAULT_AT is the number of the call that doesn't come to pass, from 0 on. FAULT_DOES is what
-# comes instead: `fails`, `kills`, or `tears`, by which the first half of a write is made before the program ends. REFUSED_AT
-# is the number of the request for memory that is refused. FAULT_TOLD is the file that tells how many of each there were.
+# What the environment tells: FAULT_AT is the number of the call that doesn't come to pass, from 0 on. By FAULT_DOES it
+# `fails`, or it `tears`: the program ends at it, behind the first half of a write. REFUSED_AT is the number of the
+# request for memory that is refused. FAULT_TOLD is the file that tells in the end how many of each there were.
 SOURCE = r"""
 #define _GNU_SOURCE
 #include <dlfcn.h>

@@ -60,7 +60,8 @@ def killed(room, *words, after=0, when=lambda: True, by=signal.SIGKILL):
         if started.poll() is None:
             started.kill()
             started.communicate()
-    want((started.returncode, wrote, said) == (-by, b"", b""), f"it ended with {started.returncode}, {wrote!r}, {said!r}")
+    ended = (started.returncode, wrote, said)
+    want(ended == (-by, b"", b""), f"it ended with {ended}")
     return passed
 
 

@@ -20,12 +20,11 @@ SMALL = [
     ("d/none", b""),
     ("w", b"wxyz"),
 ]
-# Three pieces of a mebibyte, the last one of 400,000 bytes, and files of such pieces in the proportions of the small ones.
+# Three pieces of a mebibyte, the last one of 400,000 bytes, and files with 65,536 bytes for each one of the small ones.
 LONG = os.urandom(2 * MIB + 400_000)
 SPREAD = [(path, os.urandom(len(content) * MIB // 16)) for path, content in SMALL]
 
-# How claims are cut where nothing is said of it, and by the words that make them of 64 blocks.
-LARGE_CLAIMS = {"split": 5, "least": 20 * MIB}
+# How claims are cut by the words that make them of 64 blocks.
 MIB_CLAIMS = {"split": 64, "least": MIB}
 
 
@@ -47,6 +46,16 @@ def blocks_of(pieces, total, piece_length):
     for piece in pieces:
         length = min(piece_length, total - piece * piece_length)
         yield from range(piece * full, piece * full - (-length // BLOCK))
+
+
+def pieces_of(payload, chosen, piece_length):
+    """The pieces that hold a byte of one of these files, which are numbered from 1."""
+    found, at = set(), 0
+    for place, (_, content) in enumerate(payload, 1):
+        if place in chosen and content:
+            found |= set(range(at // piece_length, (at + len(content) - 1) // piece_length + 1))
+        at += len(content)
+    return sorted(found)
 
 
 def claims(free, total, split, least):

@@ -38,7 +38,10 @@ LOST = {3, 6, 22, 23, 24, 29, 32}
 
 
 def case(name, *needs, slow=False):
-    """Lists a function as a case. It gets a room, and is tried where what it needs is there."""
+    """Lists a function as a case. It gets a room, and is tried where what it needs is there.
+
+    Most rooms are in memory, if there is enough of it; one that needs `disk` isn't.
+    """
 
     def add(function):
         CASES.append((name, needs, slow, function))
@@ -138,7 +141,7 @@ class Room:
         return found
 
     def start(self, *words, program=PROGRAM, out=subprocess.PIPE, shell="", within=()):
-        """The process of the program on these words. A line of shell may come first, and another command begin it all."""
+        """The process of the program on these words. A line of shell may come first, another command begin it all."""
         begin = ["sh", "-c", f'{shell}\nexec "$@"', "sh"] if shell else []
         return subprocess.Popen(
             [*within, *begin, program, *words],
@@ -151,8 +154,8 @@ class Room:
     def run(self, *words, name="a", leaves=None, meanwhile=None, limit=LIMIT, **how):
         """Runs the program on these words, and gives its status and what it wrote.
 
-        `meanwhile` gets the process. `leaves` is whether the control file of the download of this name stands behind the
-        run: without it, that is as it was before. No other control file comes or goes.
+        `meanwhile` gets the process. `leaves` is whether the control file of the download of this name stands behind
+        the run: without it, that is as it was before. No other control file comes or goes.
         """
         stood = self.control_files()
         started = self.start(*words, **how)
@@ -215,7 +218,7 @@ class Room:
             self.lists(lists, total, name)
 
     def fetches(self, payload, name="a", anew=True, **how):
-        """The run ends well, and the payload has these bytes. Nothing stands of it before, unless it isn't to begin anew."""
+        """The run ends well, and the payload has these bytes. Nothing stands of it before, if it is to begin anew."""
         if anew:
             self.clear(name)
         self.ends(0, len(whole(payload)), name, **how)
