@@ -239,7 +239,7 @@ impl Queue {
     }
 
     /// How many downloads were added.
-    pub(crate) fn added_len(&self) -> usize
+    pub fn added_len(&self) -> usize
         ensures value { result ≡ length self.now.added }
         ensures few { length self.now.added ≤ MAX_DOWNLOADS }
     {

@@ -6,3 +6,4 @@ mod selection;
 
 pub use bit_rows::NoMemory;
 pub use pieces::{all_wanted, wanted_row};
+pub use selection::selected;

@@ -78,12 +78,8 @@ fn selected_by(alloc: Global, text: &str, files: usize) -> Result<Vec<bool>, All
     }
 }
 
-/// For each file whether it is selected.
-pub(crate) fn selected(
-    alloc: Global,
-    text: Option<&str>,
-    files: usize,
-) -> Result<Vec<bool>, AllocError>
+/// For each file of a payload whether the text of `select-file` selects it: all of them, where it names none.
+pub fn selected(alloc: Global, text: Option<&str>, files: usize) -> Result<Vec<bool>, AllocError>
     requires text { IfSome text (λ text. IsFileList text.now) }
     requires few { files < 2 ^ 32 }
     ensures { IfOk result (λ selected. selected.items

@@ -90,7 +90,7 @@ adding_here s v n x seen there =
 -- ---- listings
 
 -- a row that says of each place what a test does
-row_by : (row : List Bool) (f : ℕ → Bool) (n : ℕ) → length row ≡ n
+pub row_by : (row : List Bool) (f : ℕ → Bool) (n : ℕ) → length row ≡ n
     → ((k : ℕ) → k < n → get_or row k false ≡ f k) → row ≡ map f (range_with_len 0 n)
 row_by row f n long each =
     same_lists row (map f (range_with_len 0 n)) (long ∙ sym (length-map-range_with_len f 0 n))

@@ -48,7 +48,7 @@ same_unlisted (Some out) uris one other a b = a ∙ sym b
 same_unlisted None [] one other a b = absurd a
 same_unlisted None (uri ∷ uris) one other a b = same_by_url uri one other a b
 
-same_base : (d : Download) (subject : Subject) (one other : List ℕ) → IsPayloadName d subject one
+pub same_base : (d : Download) (subject : Subject) (one other : List ℕ) → IsPayloadName d subject one
     → IsPayloadName d subject other → one ≡ other
 same_base d (Listed meta uris) one other a b = a ∙ sym b
 same_base d (Unlisted uris) one other a b = same_unlisted (text_of_word d.options Out) uris one other a b

@@ -168,3 +168,7 @@ has_active queue gid = list_any (is_same_gid gid) queue.active
 
 abbrev pub is_active_in : RunStart → List Event → Gid → Bool
 is_active_in start past gid = has_active (queue_in start past) gid
+
+-- the downloads of a run, in the order of their adding
+abbrev pub gids_in : RunStart → List Event → List Gid
+gids_in start past = map (λ (download : Download). download.gid) (replay_of start past).downloads

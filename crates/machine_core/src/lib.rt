@@ -46,4 +46,4 @@ pub use laws::{
 pub use machine::Machine;
 pub use offers::{Offer, Offered};
 pub use std::alloc::AllocError as NoMemory;
-pub use wants::{payload_name, wants_stay};
+pub use wants::{payload_folder, payload_name, wants_stay};

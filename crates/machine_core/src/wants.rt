@@ -27,13 +27,20 @@ use span_map::{FileLen, Layout, LayoutErr};
 use std::alloc::{AllocError, Global};
 use url_names::name_of_url;
 
+/// The folder of a payload, by the options that its download began with.
+pub fn payload_folder(begun: &Options) -> &str
+    ensures { result.now ≡ unwrap_or (text_of_word begun.now word.Dir) [] }
+{
+    match begun.text(Word::Dir) {
+        Some(dir) => dir,
+        None => "",
+    }
+}
+
 fn dir_of(alloc: Global, begun: &Options) -> Result<Text, AllocError>
     ensures { IfOk result (λ dir. dir ≡ unwrap_or (text_of_word begun.now word.Dir) []) }
 {
-    match begun.text(Word::Dir) {
-        Some(dir) => Text::of(alloc, dir),
-        None => Text::of(alloc, ""),
-    }
+    Text::of(alloc, payload_folder(begun))
 }
 
 // The name by the option, or else by the first URI.

@@ -65,6 +65,16 @@ fn under(probe: Option<Claim>, id: u64) -> Option<Claim>
     }
 }
 
+// A probe, if the place is the first one.
+fn probe_at(probe: Option<Claim>, place: u16) -> Option<Claim>
+    ensures { result ≡ slice_get (some_of probe) place }
+{
+    match probe {
+        Some(_) if place == 0 => probe,
+        _ => None,
+    }
+}
+
 impl OneDownload {
     /// A download that isn't opened, of so many mirrors, each with so many tries for a piece.
     pub fn new(alloc: Global, mirrors: u16, max_tries: u8) -> Self
@@ -405,6 +415,16 @@ impl OneDownload {
         match &self.payload {
             Some(payload) => payload.first_piece(id),
             None => 0,
+        }
+    }
+
+    /// The claim at a place among those that stand, from 0, the newest first.
+    pub fn claim_at(&self, place: u16) -> Option<Claim>
+        ensures { result ≡ slice_get self.now.account.standing place }
+    {
+        match &self.payload {
+            Some(payload) => payload.claim_at(place),
+            None => probe_at(self.probe, place),
         }
     }
 

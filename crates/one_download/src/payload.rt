@@ -317,6 +317,13 @@ impl Payload {
         }
     }
 
+    /// The claim at a place among those that stand, from 0, the newest first.
+    pub fn claim_at(&self, place: u16) -> Option<Claim>
+        ensures { result ≡ slice_get self.now.account.standing place }
+    {
+        self.claims.at(place)
+    }
+
     /// How many claims stand.
     pub fn standing(&self) -> u16
         ensures len { result ≡ length self.now.account.standing }

@@ -1,7 +1,7 @@
 -- What a line tells of a download that was added.
 use Rattle.std.proofs.Common.{◌≡◌, ℕ, Bool, true, List, ap, subst}
 use Rattle.std.specs.Prelude.{Err, IfOk, None, Ok, Option, Result, Some}
-use Rattle.std.specs.Option.{is_some, option_and_then, option_map}
+use Rattle.std.specs.Option.{is_some, option_map}
 use Rattle.dl_kinds.specs.declared.gid.Gid.{Gid}
 use Rattle.option_set.specs.Values.{OptionValues}
 use Rattle.machine_core.specs.MachineParts.{subject_of_call}
@@ -11,7 +11,7 @@ use Rattle.machine_core.specs.Starts.{Download, RunStart, Subject, Listed, Unlis
 use Rattle.metainfo.specs.declared.meta.Meta.{Meta}
 use Rattle.machine_core.specs.declared.calls.Call.{Call}
 use Rattle.machine_core.specs.declared.events.Event.{Event}
-use Rattle.run_report.specs.Lines.{IsLine, fields_of, line_with}
+use Rattle.run_report.specs.Lines.{IsDownloadLine, fields_of, line_with}
 use Rattle.run_report.specs.Paths.{IsPathBy, IsPathOf, IsRootName}
 use Rattle.machine_core.specs.Asked.{known_by}
 use Rattle.machine_core.specs.declared.asked.Lengths.{Lengths}
@@ -30,7 +30,7 @@ pub is_line : (start : RunStart) (past : List Event) (gid : Gid) (call : Call) (
     → known ≡ is_some (payload_lengths_of start past gid)
     → ((download : Download) → subject_of_call call ≡ Some download.subject → begun ≡ download.options
     → IsPathOf download known path)
-    → line ≡ line_with gid (fields_of start past gid) path → IsLine start past gid line
+    → line ≡ line_with gid (fields_of start past gid) path → IsDownloadLine start past gid line
 is_line start past gid call begun known path line None added subject options known_is paths text = cc
 is_line start past gid call begun known path line (Some d) added subject options known_is paths text =
     record {

@@ -1,6 +1,6 @@
 -- Texts that a sink takes, one after the other.
-use Rattle.std.proofs.Common.{◌≡◌, ◌∙◌, ◌⊎◌, ℕ, ◌+◌, ◌≤◌, Bool, true, false, List, [], ◌∷◌, ◌++◌, ap, refl, sym, subst, append_assoc, arith, get_or, length, take, drop}
-use Rattle.std.specs.Prelude.{IsErrOf, IsTrue, OnOk, Ok, Err, Result, Some, map, slice_get}
+use Rattle.std.proofs.Common.{◌≡◌, ◌∙◌, ℕ, ◌+◌, ◌≤◌, Bool, true, false, List, [], ◌∷◌, ◌++◌, ap, refl, sym, subst, append_assoc, arith, length, take, drop}
+use Rattle.std.specs.Prelude.{IsTrue, Ok, Err, Result, Some, slice_get}
 use Rattle.std.specs.Option.{option_map}
 use Rattle.std.specs.Result.{IsErrAnd}
 use Rattle.std.proofs.lemmas.List.{append-nil, take-append-drop, take_more}
@@ -13,17 +13,17 @@ use Rattle.dl_kinds.specs.declared.outside.IoErr.TheVariants.{Fault, NoMemory}
 use Rattle.dl_kinds.specs.declared.outside.Sink.{Ghosts as SinkSays}
 use Rattle.machine_core.specs.MachineViews.{MachineView}
 use Rattle.machine_core.specs.Reads.{IsAdding}
-use Rattle.machine_core.specs.Replays.{replay_of}
+use Rattle.machine_core.specs.Replays.{gids_in, replay_of}
 use Rattle.machine_core.specs.Starts.{Download, RunStart}
 use Rattle.machine_core.specs.declared.events.Event.{Event}
-use Rattle.run_report.specs.Lines.{AreLines, IsLine, IsSummaryOf, gids_in, heading}
+use Rattle.run_report.specs.Lines.{AreLines, IsDownloadLine, IsSummaryOf, heading}
 use Rattle.run_report.specs.Writing.{Writes, WritesLines, WritesSummary}
 
 -- ---- lines
 
 -- one more line behind the others
 pub lines_push : (start : RunStart) (past : List Event) (gids : List Gid) (gid : Gid) (text line : List ℕ)
-    → AreLines start past gids text → IsLine start past gid line
+    → AreLines start past gids text → IsDownloadLine start past gid line
     → AreLines start past (gids ++ gid ∷ []) (text ++ line)
 lines_push start past [] gid text line are is =
     record {
@@ -170,7 +170,7 @@ module _ {O : Type 0} (says : SinkSays O) where
 
   -- its line, as far as it was taken
   pub next_are : (start : RunStart) (past : List Event) (n : ℕ) (gid : Gid) (line : List ℕ) (old mid : O)
-      (has : Has start past n old mid) → slice_get (gids_in start past) n ≡ Some gid → IsLine start past gid line
+      (has : Has start past n old mid) → slice_get (gids_in start past) n ≡ Some gid → IsDownloadLine start past gid line
       → AreLines start past (take (n + 1) (gids_in start past)) (has.lines ++ line)
   next_are start past n gid line old mid has at is =
       subst (λ gids. AreLines start past gids (has.lines ++ line)) (sym (next_gids start past n gid at))
@@ -178,7 +178,7 @@ module _ {O : Type 0} (says : SinkSays O) where
 
   -- one line more was taken
   pub has_next : (start : RunStart) (past : List Event) (n : ℕ) (gid : Gid) (line : List ℕ) (old mid new : O)
-      → Has start past n old mid → slice_get (gids_in start past) n ≡ Some gid → IsLine start past gid line
+      → Has start past n old mid → slice_get (gids_in start past) n ≡ Some gid → IsDownloadLine start past gid line
       → Writes says line mid new (Ok tt) → Has start past (n + 1) old new
   has_next start past n gid line old mid new has at is writes =
       record {
@@ -190,7 +190,7 @@ module _ {O : Type 0} (says : SinkSays O) where
   -- .. or wasn't, wholly
   pub ends_within : (start : RunStart) (past : List Event) (n : ℕ) (gid : Gid) (line : List ℕ) (old mid new : O)
       (why : IoErr) → Has start past n old mid → slice_get (gids_in start past) n ≡ Some gid
-      → IsLine start past gid line → Writes says line mid new (Err why)
+      → IsDownloadLine start past gid line → Writes says line mid new (Err why)
       → WritesLines says start past old new (Err why)
   ends_within start past n gid line old mid new why has at is writes =
       record {

@@ -1,5 +1,6 @@
 -- How a run ends, and the exit status of each end.
-use Rattle.std.specs.Prelude.{ℕ}
+use Rattle.std.specs.Prelude.{ℕ, Option}
+use Rattle.std.specs.Option.{option_map_or}
 use Rattle.machine_core.specs.declared.ends.End.{End}
 use Rattle.machine_core.specs.declared.ends.End.TheVariants as end
 use Rattle.run_report.specs.Statuses.{code_of_status}
@@ -24,6 +25,10 @@ code_of_end (end.TooLarge total) = code_of_status status.Unusable
 code_of_end (end.SameFile gid) = code_of_status status.SameFile
 code_of_end (end.SameHash gid) = code_of_status status.SameHash
 code_of_end end.Checksum = code_of_status status.Checksum
+
+-- the exit status that an end names, and 0 without one
+abbrev pub code_by : Option End → ℕ
+code_by end = option_map_or code_of_end end 0
 
 abbrev pub status_of_fault : MetainfoFault → ExitStatus
 status_of_fault fault.Missing = status.NotFound

@@ -46,8 +46,8 @@ ending_by None true = Unfinished
 ending_by None false = Done
 
 -- how a run ends, where memory sufficed and the output didn't fail
-abbrev pub ending_of : RunStart → List Event → RunEnding
-ending_of start past = ending_by (last_failure past) (has_unfinished (queue_in start past))
+abbrev pub ending_by_history : RunStart → List Event → RunEnding
+ending_by_history start past = ending_by (last_failure past) (has_unfinished (queue_in start past))
 
 -- the end of each download stands under its gid
 pub record HasEnds (ends : BTreeMap ℕ End) (past : List Event) : Type 0 where

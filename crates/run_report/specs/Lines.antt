@@ -1,20 +1,20 @@
 -- The lines of a summary.
-use Rattle.std.specs.Prelude.{◌≡◌, ℕ, ◌==◌, Bool, true, false, Option, Some, None, List, [], ◌∷◌, ◌++◌, codes, length, map, take}
+use Rattle.std.specs.Prelude.{◌≡◌, ℕ, Bool, true, false, Option, Some, None, List, [], ◌∷◌, ◌++◌, codes, take}
 use Rattle.std.specs.Fmt.{decimal}
 use Rattle.std.specs.Int.{w64, to_be_bytes}
 use Rattle.std.specs.List.{join_with_byte}
-use Rattle.std.specs.Option.{is_some, option_map_or}
+use Rattle.std.specs.Option.{is_some}
 use Rattle.hex.specs.Hex.{encode_lower}
 use Rattle.dl_kinds.specs.declared.gid.Gid.{Gid}
 use Rattle.machine_core.specs.Openings.{landed_bytes_in}
 use Rattle.machine_core.specs.OwnParts.{own_of, payload_lengths_of}
-use Rattle.machine_core.specs.Replays.{replay_of}
+use Rattle.machine_core.specs.Replays.{gids_in}
 use Rattle.machine_core.specs.RunLegal.{download_in, goes_on_in, known_lengths}
 use Rattle.machine_core.specs.Starts.{RunStart, Download}
 use Rattle.machine_core.specs.declared.ends.End.{End}
 use Rattle.machine_core.specs.declared.ends.End.TheVariants.{Complete}
 use Rattle.machine_core.specs.declared.events.Event.{Event}
-use Rattle.run_report.specs.Endings.{code_of_end}
+use Rattle.run_report.specs.Endings.{code_by}
 use Rattle.run_report.specs.Failures.{end_of}
 use Rattle.run_report.specs.Paths.{IsPathOf}
 
@@ -28,10 +28,6 @@ stat_of (Some Complete) goes_on = codes "OK"
 stat_of (Some how) goes_on = codes "ERR"
 stat_of None true = codes "INPR"
 stat_of None false = codes "RM"
-
--- the exit status that its end names, and 0 without one
-abbrev pub code_by : Option End → ℕ
-code_by end = option_map_or code_of_end end 0
 
 -- what a line tells beside the gid and the path
 pub record LineFields : Type 0 where
@@ -58,7 +54,7 @@ line_with gid fields path =
     (fields.stat ∷ decimal fields.completed ∷ decimal fields.total ∷ decimal fields.code ∷ (path ++ codes "\n") ∷ []))
 
 -- the line of a download
-pub record IsLine (start : RunStart) (past : List Event) (gid : Gid) (line : List ℕ) : Type 0 where
+pub record IsDownloadLine (start : RunStart) (past : List Event) (gid : Gid) (line : List ℕ) : Type 0 where
   pub download : Download
   pub added : download_in start past gid ≡ Some download
   pub path : List ℕ
@@ -76,11 +72,7 @@ pub record HasParts (IsFirst IsRest : List ℕ → Type 0) (text : List ℕ) : T
 -- the lines of these downloads, one after the other
 abbrev pub AreLines : RunStart → List Event → List Gid → List ℕ → Type 0
 AreLines start past [] text = text ≡ []
-AreLines start past (gid ∷ gids) text = HasParts (IsLine start past gid) (AreLines start past gids) text
-
--- the downloads of a run, in the order of their adding
-abbrev pub gids_in : RunStart → List Event → List Gid
-gids_in start past = map (λ (download : Download). download.gid) (replay_of start past).downloads
+AreLines start past (gid ∷ gids) text = HasParts (IsDownloadLine start past gid) (AreLines start past gids) text
 
 -- the summary as far as the first downloads go
 pub record IsSummaryOf (start : RunStart) (past : List Event) (count : ℕ) (text : List ℕ) : Type 0 where

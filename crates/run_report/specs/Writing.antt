@@ -5,11 +5,12 @@ use Rattle.dl_kinds.specs.Causes.{HasCause}
 use Rattle.dl_kinds.specs.declared.outside.IoErr.{IoErr}
 use Rattle.dl_kinds.specs.declared.outside.Sink.{Ghosts as SinkSays}
 use Rattle.dl_words.specs.Counts.{Rose}
+use Rattle.machine_core.specs.Replays.{gids_in}
 use Rattle.machine_core.specs.Starts.{RunStart}
 use Rattle.machine_core.specs.declared.events.Event.{Event}
 use Rattle.run_report.specs.Endings.{code_of_ending}
-use Rattle.run_report.specs.Failures.{ending_of}
-use Rattle.run_report.specs.Lines.{AreLines, IsSummaryOf, gids_in}
+use Rattle.run_report.specs.Failures.{ending_by_history}
+use Rattle.run_report.specs.Lines.{AreLines, IsSummaryOf}
 use Rattle.run_report.specs.declared.endings.RunEnding.{RunEnding}
 use Rattle.run_report.specs.declared.endings.RunEnding.TheVariants.{NoMemory, SinkFault}
 
@@ -48,7 +49,7 @@ module _ {O : Type 0} (says : SinkSays O) where
   -- The run ends as its history says, where all was written. The output fails just where its count of faults rose.
   abbrev pub IsReported : RunStart → List Event → O → O → RunEnding → Type 0
   IsReported start past old new ending =
-      ((ending ≡ ending_of start past) × (says.faults new ≡ says.faults old))
+      ((ending ≡ ending_by_history start past) × (says.faults new ≡ says.faults old))
       ⊎ ((ending ≡ NoMemory) × (says.faults new ≡ says.faults old))
       ⊎ ((ending ≡ SinkFault) × Rose (says.faults old) (says.faults new))
 
@@ -61,8 +62,8 @@ module _ {O : Type 0} (says : SinkSays O) where
     pub rest : List ℕ
     pub is_front : text ≡ front ++ rest
     pub taken : IsTrue says.tells → says.taken new ≡ says.taken old ++ front
-    pub all : ending ≡ ending_of start past → length (gids_in start past) ≤ count
-    pub whole : ending ≡ ending_of start past → rest ≡ []
+    pub all : ending ≡ ending_by_history start past → length (gids_in start past) ≤ count
+    pub whole : ending ≡ ending_by_history start past → rest ≡ []
 
   -- .. of the line of a run that ended before anything was done; all of it, unless the output failed
   pub record PrintsError (refusal : RunEnding) (old new : O) (ending : RunEnding) : Type 0 where

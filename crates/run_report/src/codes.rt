@@ -23,3 +23,13 @@ pub fn code_of_end(end: &End) -> u8
         End::Checksum => ExitStatus::Checksum.code(),
     }
 }
+
+/// .. and 0 without one.
+pub fn code_by(end: Option<End>) -> u8
+    ensures { result ≡ specs.code_by end }
+{
+    match end {
+        Some(end) => code_of_end(&end),
+        None => 0,
+    }
+}

@@ -5,7 +5,7 @@ ghost use Rattle.std.specs.Ordering.{nat_cmp};
 ghost use Rattle.machine_core.specs.Replays.{queue_in};
 ghost use Rattle.machine_core.specs.declared.events.Event.{Event as RunEvent};
 ghost use Rattle.run_report.specs.Failures as specs;
-ghost use Rattle.run_report.specs.Failures.{HasEnds, ending_of};
+ghost use Rattle.run_report.specs.Failures.{HasEnds, ending_by_history};
 
 use crate::RunEnding;
 use dl_kinds::Gid;
@@ -49,7 +49,7 @@ fn has_unfinished(machine: &Machine) -> bool
 
 /// How a run ends, unless memory is wanting or the output fails.
 pub fn ending(machine: &Machine) -> RunEnding
-    ensures { result ≡ ending_of machine.now.start machine.now.past }
+    ensures { result ≡ ending_by_history machine.now.start machine.now.past }
 {
     match last_failure(machine.journal()) {
         Some(end) => RunEnding::Failed(end),
@@ -78,7 +78,7 @@ fn note_end(ends: &mut BTreeMap<u64, End>, event: &Event) -> Result<(), AllocErr
 }
 
 /// The end of each download that ended, by its gid. It looks at each event once.
-pub(crate) fn ends_of(alloc: Global, journal: &Journal) -> Result<BTreeMap<u64, End>, AllocError>
+pub fn ends_of(alloc: Global, journal: &Journal) -> Result<BTreeMap<u64, End>, AllocError>
     ensures { IfOk result (λ ends. HasEnds ends (reverse journal.now.events.items)) }
 {
     let mut ends = BTreeMap::new(alloc);
@@ -86,4 +86,11 @@ pub(crate) fn ends_of(alloc: Global, journal: &Journal) -> Result<BTreeMap<u64, 
         note_end(&mut ends, journal.get(place).unwrap())?;
     }
     Ok(ends)
+}
+
+/// The end of a download, of those that `ends_of` gave.
+pub fn end_in(ends: &BTreeMap<u64, End>, gid: Gid) -> Option<End>
+    ensures { result ≡ get nat_cmp ends.now gid.0 }
+{
+    ends.get(&gid.0).copied()
 }

@@ -1,21 +1,16 @@
 // The line of a download in a summary.
-ghost use Rattle.std.specs.Prelude.{◌≡◌, ◌++◌, ◌∷◌, [], IfOk, codes, string_bytes, unwrap_or};
+ghost use Rattle.std.specs.Prelude.{◌≡◌, ◌++◌, ◌∷◌, [], IfOk, codes, string_bytes};
 ghost use Rattle.std.specs.Fmt.{decimal};
-ghost use Rattle.std.specs.BTreeMap.{get};
 ghost use Rattle.std.specs.List.{join_with_byte};
-ghost use Rattle.std.specs.Option.{option_map};
-ghost use Rattle.std.specs.Ordering.{nat_cmp};
-ghost use Rattle.machine_core.specs.Asked.{known_by};
-ghost use Rattle.machine_core.specs.OwnParts.{no_lengths};
 ghost use Rattle.machine_core.specs.RunLegal.{goes_on_in};
 ghost use Rattle.run_report.specs.Failures.{HasEnds};
 ghost use Rattle.run_report.specs.Lines as specs;
-ghost use Rattle.run_report.specs.Lines.{IsLine, fields_of};
+ghost use Rattle.run_report.specs.Lines.{IsDownloadLine, fields_of};
 
-use crate::code_of_end;
 use crate::paths::path_of;
+use crate::{code_by, end_in};
 use dl_kinds::{Gid, Status};
-use machine_core::{End, Lengths, Machine};
+use machine_core::{End, Machine};
 use std::alloc::{AllocError, Global};
 use std::collections::BTreeMap;
 
@@ -36,24 +31,6 @@ fn stat_of(end: Option<End>, goes_on: bool) -> &'static str
         Some(_) => "ERR",
         None if goes_on => "INPR",
         None => "RM",
-    }
-}
-
-fn code_by(end: Option<End>) -> u8
-    ensures { result ≡ specs.code_by end }
-{
-    match end {
-        Some(end) => code_of_end(&end),
-        None => 0,
-    }
-}
-
-fn total_of(lengths: Option<Lengths>) -> u64
-    ensures { result ≡ (unwrap_or (option_map known_by lengths) no_lengths).total }
-{
-    match lengths {
-        Some(lengths) => lengths.total,
-        None => 0,
     }
 }
 
@@ -95,12 +72,6 @@ fn line_with(
     Ok(line)
 }
 
-fn end_in(ends: &BTreeMap<u64, End>, gid: Gid) -> Option<End>
-    ensures { result ≡ get nat_cmp ends.now gid.0 }
-{
-    ends.get(&gid.0).copied()
-}
-
 // The line of a download with this path.
 fn line_at(
     alloc: Global,
@@ -116,7 +87,7 @@ fn line_at(
     let end = end_in(ends, gid);
     let stat = stat_of(end, goes_on(machine, gid));
     let completed = machine.landed_bytes(gid);
-    let total = total_of(machine.lengths(gid));
+    let total = machine.total_len(gid);
     line_with(alloc, gid, stat, completed, total, code_by(end), path)
 }
 
@@ -128,7 +99,7 @@ pub(crate) fn line_of(
     gid: Gid,
 ) -> Result<Vec<u8>, AllocError>
     requires { HasEnds ends.now machine.now.past }
-    ensures { IfOk result (λ line. IsLine machine.now.start machine.now.past gid line.items) }
+    ensures { IfOk result (λ line. IsDownloadLine machine.now.start machine.now.past gid line.items) }
 {
     let (Some(call), Some(begun)) = (machine.adding(gid), machine.begun(gid)) else {
         return Err(AllocError);

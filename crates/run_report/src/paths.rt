@@ -9,8 +9,8 @@ ghost use Rattle.payload_files.specs.Names.{name_of};
 ghost use Rattle.run_report.specs.Paths.{IsPathOf, IsRootName};
 
 use dl_kinds::{Text, Texts};
-use machine_core::{Call, payload_name};
-use option_set::{Options, Word};
+use machine_core::{Call, payload_folder, payload_name};
+use option_set::Options;
 use payload_files::file_name;
 use std::alloc::{AllocError, Global};
 
@@ -21,11 +21,7 @@ fn in_folder(alloc: Global, begun: &Options, name: Text) -> Result<String, Alloc
 {
     let mut path = Texts::new(alloc);
     path.push(name)?;
-    let dir = match begun.text(Word::Dir) {
-        Some(dir) => dir,
-        None => "",
-    };
-    file_name(alloc, dir, &path)
+    file_name(alloc, payload_folder(begun), &path)
 }
 
 // The first URI.

@@ -1,5 +1,6 @@
 // The exit statuses.
 ghost use Rattle.std.specs.Prelude.{◌≡◌};
+ghost use Rattle.run_report.specs.Statuses as spec;
 ghost use Rattle.run_report.specs.Statuses.{code_of_status, words_of_status};
 
 /// The exit statuses of the aria2 manual, section EXIT STATUS, that a run may have, and two of this program's own: want of
@@ -16,6 +17,7 @@ pub enum ExitStatus {
     SameHash,
     Exists,
     FileIo,
+    FtpCommand,
     HttpReply,
     Redirects,
     Authorization,
@@ -27,6 +29,31 @@ pub enum ExitStatus {
     NoMemory,
     SinkFault,
 }
+
+/// All of them, by their numbers.
+pub const EXIT_STATUSES: [ExitStatus; 21] = [
+    ExitStatus::Done,
+    ExitStatus::Unusable,
+    ExitStatus::NotFound,
+    ExitStatus::Network,
+    ExitStatus::Unfinished,
+    ExitStatus::PieceLength,
+    ExitStatus::SameFile,
+    ExitStatus::SameHash,
+    ExitStatus::Exists,
+    ExitStatus::FileIo,
+    ExitStatus::FtpCommand,
+    ExitStatus::HttpReply,
+    ExitStatus::Redirects,
+    ExitStatus::Authorization,
+    ExitStatus::BadBencode,
+    ExitStatus::BadMetainfo,
+    ExitStatus::BadWords,
+    ExitStatus::Unavailable,
+    ExitStatus::Checksum,
+    ExitStatus::NoMemory,
+    ExitStatus::SinkFault,
+];
 
 impl ExitStatus {
     /// The number with which the program exits, and short words for people.
@@ -45,6 +72,7 @@ impl ExitStatus {
             ExitStatus::SameHash => (12, "info hash is already being downloaded"),
             ExitStatus::Exists => (13, "file already exists"),
             ExitStatus::FileIo => (17, "file I/O error"),
+            ExitStatus::FtpCommand => (21, "FTP command failed"),
             ExitStatus::HttpReply => (22, "unexpected HTTP reply"),
             ExitStatus::Redirects => (23, "too many redirects"),
             ExitStatus::Authorization => (24, "HTTP authorization failed"),
@@ -70,5 +98,25 @@ impl ExitStatus {
         ensures { result.now ≡ words_of_status self }
     {
         self.row().1
+    }
+
+    /// The status with this number.
+    pub fn with_code(code: u8) -> Option<ExitStatus>
+        ensures { result ≡ spec.status_with code }
+    {
+        EXIT_STATUSES
+            .iter()
+            .copied()
+            .find(|status| status.code() == code)
+    }
+}
+
+/// Short words for people on a number with which the program exits; none of 0, and of one that no status has.
+pub fn words_of_code(code: u8) -> &'static str
+    ensures { result.now ≡ spec.words_of_code code }
+{
+    match ExitStatus::with_code(code) {
+        Some(status) => status.words(),
+        None => "",
     }
 }

@@ -1,5 +1,5 @@
 // The claims of a download.
-ghost use Rattle.std.specs.Prelude.{◌≡◌, ◌↔◌, ◌⊎◌, ℕ, ◌+◌, ◌<◌, ◌≤◌, ◌^◌, not, [], All, length, true, IsNone, IfNone, IfSome, OnOk};
+ghost use Rattle.std.specs.Prelude.{◌≡◌, ◌↔◌, ◌⊎◌, ℕ, ◌+◌, ◌<◌, ◌≤◌, ◌^◌, not, [], All, length, true, IsNone, IfNone, IfSome, OnOk, slice_get};
 ghost use Rattle.dl_kinds.specs.Plan.{blocks_of, pieces_of};
 ghost use Rattle.piece_table.specs.NewRuns.{AreRunsOf};
 ghost use Rattle.segment_claim.specs.Book.{granted, no_claims, kept_where, with_cleared, claim_under, is_open_under, first_open_under, first_open_at, swept};
@@ -82,6 +82,13 @@ impl Claims {
         ensures { result ≡ claim_under self.now id }
     {
         self.standing.iter().find(|claim| claim.id == id).copied()
+    }
+
+    /// The claim at a place among those that stand, from 0, the newest first.
+    pub fn at(&self, place: u16) -> Option<Claim>
+        ensures { result ≡ slice_get self.now.standing place }
+    {
+        self.standing.get(place as usize).copied()
     }
 
     /// How many claims stand.
