@@ -1,0 +1,10 @@
+pub mod Recent
+pub mod Shares
+pub mod Rows
+pub mod Mirrors
+pub mod FileLists
+pub mod Endings
+pub mod Telling
+pub mod Fields
+pub mod Changes
+pub mod Naming

@@ -1,0 +1,10 @@
+pub mod Speeds
+pub mod Windows
+pub mod Ends
+pub mod Subjects
+pub mod Uris
+pub mod Told
+pub mod Files
+pub mod Statuses
+pub mod Replies
+pub mod WorkedReplies
