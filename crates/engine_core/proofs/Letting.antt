@@ -23,7 +23,7 @@ lets_go said = false
 pub nothing_handed : (said : Said) → lets_go said ≡ false → handed_by said ≡ []
 nothing_handed (Grant grant) none = absurd cc
 nothing_handed (Allow bytes) none = absurd cc
-nothing_handed (Replied place applied starved) none = refl
+nothing_handed (Replied place reply starved) none = refl
 nothing_handed (Kept counted repeated) none = refl
 nothing_handed Void none = refl
 nothing_handed (Hold ms) none = refl
@@ -37,7 +37,7 @@ pub nothing_spent : (start : RunStart) (past : List Event) (op : Operation) (sai
     → spent_by start past op said ≡ None
 nothing_spent start past op (Grant grant) none = absurd cc
 nothing_spent start past op (Allow bytes) none = absurd cc
-nothing_spent start past op (Replied place applied starved) none = refl
+nothing_spent start past op (Replied place reply starved) none = refl
 nothing_spent start past op (Kept counted repeated) none = refl
 nothing_spent start past op Void none = refl
 nothing_spent start past op (Hold ms) none = refl

@@ -76,7 +76,7 @@ module _ {D : Type 0} (state : D → DiskState) (old mid : StoredView D) (alike 
   pub gives_before : (said : Said) → GivesRead mid said (state mid.disk).seen → GivesRead old said (state old.disk).seen
   gives_before (Granted grant) is = by_grant grant is
   gives_before (Allow bytes) is = tt
-  gives_before (Replied place applied starved) is = tt
+  gives_before (Replied place reply starved) is = tt
   gives_before (Kept counted repeated) is = tt
   gives_before Void is = tt
   gives_before (Hold ms) is = tt
@@ -122,7 +122,7 @@ module _ {D : Type 0} (state : D → DiskState) (old mid : StoredView D) (alike 
 pub gives_none : {D : Type 0} (r : StoredView D) (said : Said) (seen : Files) → lets_go said ≡ false → GivesRead r said seen
 gives_none r (Granted grant) seen none = absurd cc
 gives_none r (Allow bytes) seen none = tt
-gives_none r (Replied place applied starved) seen none = tt
+gives_none r (Replied place reply starved) seen none = tt
 gives_none r (Kept counted repeated) seen none = tt
 gives_none r Void seen none = tt
 gives_none r (Hold ms) seen none = tt

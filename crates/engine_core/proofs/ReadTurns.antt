@@ -226,7 +226,7 @@ module _ {D : Type 0} (state : D → DiskState) (old new : EngineState D) (told 
   granted : (said : Said) → GivesRead old.run said seen → GrantsAsRead S (history_of told) said seen
   granted (Granted grant) is = by_grant grant is
   granted (Allow bytes) is = tt
-  granted (Replied place applied starved) is = tt
+  granted (Replied place reply starved) is = tt
   granted (Kept counted repeated) is = tt
   granted Void is = tt
   granted (Hold ms) is = tt

@@ -1,20 +1,27 @@
 -- The worked turns.
-use Rattle.std.proofs.Common.{◌≡◌, ◌≢◌, ◌<◌, ℕ, zero, suc, None, [], ◌∷◌, get_or, refl, inl, inr, arith}
+use Rattle.std.proofs.Common.{◌≡◌, ◌≢◌, ◌<◌, ◌∙◌, ℕ, zero, suc, List, None, Some, [], ◌∷◌, get_or, refl, ap, inl, inr, arith}
 use Rattle.std.specs.Prelude.{Contains}
 use Rattle.std.proofs.lemmas.List.Elements.{All-nil}
 use Rattle.dl_kinds.specs.declared.claims.Claim.{Claim}
 use Rattle.dl_kinds.specs.declared.gid.Gid.{Gid}
+use Rattle.dl_queue.specs.declared.kinds.QueueErr.TheVariants.{NotFound}
 use Rattle.machine_core.specs.WorkedRuns.{key_of_first, one_at_once}
-use Rattle.machine_core.specs.declared.calls.Call.TheVariants.{Pause}
+use Rattle.machine_core.specs.declared.calls.Call.{Call}
+use Rattle.machine_core.specs.declared.calls.Call.TheVariants.{GetVersion, Pause}
 use Rattle.machine_core.specs.declared.ends.End.TheVariants as end
 use Rattle.machine_core.specs.declared.events.Event.{Event}
 use Rattle.machine_core.specs.declared.events.Event.TheVariants.{Called, Ended, Stopped}
+use Rattle.run_replies.specs.Replies.{reply_of}
+use Rattle.run_replies.specs.Subjects.{AreNames}
+use Rattle.run_replies.specs.declared.kinds.Reply.{Reply}
+use Rattle.run_replies.specs.declared.kinds.Reply.TheVariants.{Fine, Refused, Version}
 use Rattle.engine_turns.specs.ClaimRows.{MoreRow}
 use Rattle.engine_turns.specs.declared.outcome.Outcome.TheVariants.{Went}
 use Rattle.engine_turns.specs.RunTurns.{IsTurnAnswered, turn_start}
 use Rattle.engine_turns.specs.Standings.{OfClaim, standing_after}
-use Rattle.engine_turns.specs.WorkedTurns.{WorkedRows, WorkedTurns, moment_at, more_granted}
-use Rattle.engine_turns.specs.declared.operations.Said.TheVariants.{Allow}
+use Rattle.engine_turns.specs.WorkedTurns.{WorkedRows, WorkedTurns, moment_at, more_granted, replied_turn}
+use Rattle.engine_turns.specs.declared.operations.Said.{Said}
+use Rattle.engine_turns.specs.declared.operations.Said.TheVariants.{Allow, Replied}
 
 pub worked_turns : WorkedTurns
 worked_turns =
@@ -40,6 +47,24 @@ no_grant (inr row) = let there = row.2.stands.1 in absurd (omega arith)
 more_refused : IsTurnAnswered one_at_once [] more_granted None → ⊥
 more_refused (inl starved) = absurd (let no = starved.0 in cc)
 more_refused (inr row) = no_grant row
+
+-- ---- the first call of a run has one reply
+
+abbrev unnamed : Gid → List ℕ
+unnamed gid = []
+
+-- the run has no download yet
+none_named : AreNames one_at_once [] unnamed
+none_named gid download added = absurd (let is : None ≡ Some download = added in cc)
+
+abbrev reply_in : Said → Reply
+reply_in (Replied place reply starved) = reply
+reply_in other = Fine
+
+replied_as : (call : Call) (reply : Reply) → IsTurnAnswered one_at_once [] (replied_turn call reply) None
+    → reply ≡ reply_of one_at_once [] unnamed call (moment_at 6)
+replied_as call reply (inl starved) = absurd (let said = starved.1.1 in cc)
+replied_as call reply (inr row) = ap reply_in row.answer ∙ row.is_reply unnamed none_named
 
 pub worked_rows : WorkedRows
 worked_rows =
@@ -70,10 +95,28 @@ worked_rows =
           those_are = refl;
           outcome = Went;
           saved = (refl, refl);
+          reply = Refused NotFound;
+          is_reply = λ names are. refl;
           answer = refl;
         });
         counts = λ gid count there.
             absurd (let is = one_is (Called 0 (Pause key_of_first) (moment_at 6)) (Ended gid (end.Disk count)) there in cc);
+      };
+      told = record {
+        back = refl;
+        answered = inr (record {
+          saves = [];
+          cut = refl;
+          those = [];
+          those_are = refl;
+          outcome = Went;
+          saved = (refl, refl);
+          reply = Version;
+          is_reply = λ names are. refl;
+          answer = refl;
+        });
+        counts = λ gid count there.
+            absurd (let is = one_is (Called 0 GetVersion (moment_at 6)) (Ended gid (end.Disk count)) there in cc);
       };
       stops = record {
         back = refl;
@@ -91,4 +134,6 @@ worked_rows =
       is_over = record { back = refl; answered = (refl, refl); counts = λ gid count there. absurd (no_fault gid count there) };
       not_idle = λ m. absurd (let said = m.answered.1 in cc);
       not_granted = λ m. more_refused m.answered;
+      not_carried_out = λ m. absurd (let is = replied_as (Pause key_of_first) Fine m.answered in cc);
+      not_told = λ m. absurd (let is = replied_as GetVersion Fine m.answered in cc);
     }

@@ -1,17 +1,19 @@
 -- What is done by a call, where a door leaves, and at the stop: the progress of the downloads concerned is saved.
-use Rattle.std.specs.Prelude.{◌≡◌, ◌⊎◌, ℕ, zero, suc, Bool, true, false, List, [], ◌∷◌, ◌++◌, length, map}
+use Rattle.std.specs.Prelude.{◌≡◌, ◌⊎◌, ℕ, zero, suc, Bool, true, false, List, [], ◌∷◌, ◌++◌, length}
 use Rattle.std.specs.List.{list_any}
 use Rattle.dl_kinds.specs.declared.gid.Gid.{Gid}
 use Rattle.dl_history.specs.PayloadParts.{is_ended, is_opened}
-use Rattle.machine_core.specs.Answers.{applied_by}
 use Rattle.machine_core.specs.OwnParts.{own_of}
 use Rattle.machine_core.specs.Reads.{IsSavedIn}
-use Rattle.machine_core.specs.Replays.{is_active_in, replay_of}
+use Rattle.machine_core.specs.Replays.{is_active_in}
+pub use Rattle.machine_core.specs.Replays.{gids_in}
 use Rattle.machine_core.specs.RunLegal.{doors_left, goes_on_in, is_stop}
-use Rattle.machine_core.specs.Starts.{Download, RunStart}
+use Rattle.machine_core.specs.Starts.{RunStart}
 use Rattle.machine_core.specs.declared.calls.Call.{Call}
 use Rattle.machine_core.specs.declared.events.Event.{Event}
 use Rattle.machine_core.specs.declared.events.Event.TheVariants.{Called, Left, Stopped}
+use Rattle.run_replies.specs.Replies.{IsReplyAt}
+use Rattle.run_replies.specs.declared.kinds.Reply.{Reply}
 use Rattle.engine_turns.specs.Phases.{SavesPhase, TurnStart}
 use Rattle.engine_turns.specs.declared.outcome.Outcome.{Outcome}
 use Rattle.engine_turns.specs.declared.outcome.Outcome.TheVariants.{Over, Starved, Went}
@@ -26,9 +28,6 @@ AreThose P [] those = those ≡ []
 AreThose P (gid ∷ gids) those =
     (P gid × (rest : List Gid) × (those ≡ gid ∷ rest) × AreThose P gids rest)
     ⊎ ((P gid → ⊥) × AreThose P gids those)
-
-abbrev pub gids_in : RunStart → List Event → List Gid
-gids_in start past = map (λ (download : Download). download.gid) (replay_of start past).downloads
 
 -- a download is opened, has not ended, and a save would list what the last one doesn't, or not what it does
 pub record HasUnsaved (start : RunStart) (past : List Event) (gid : Gid) : Type 0 where
@@ -63,7 +62,9 @@ pub record CallRow (at : TurnStart) (s : RunStanding) (session : ℕ) (call : Ca
       (gids_in at.start (Called session call at.now ∷ s.past)) those
   pub outcome : Outcome
   pub saved : SavesPhase at those (Called session call at.now ∷ s.past) saves outcome
-  pub answer : said ≡ Replied (length s.past) (applied_by at.start s.past call) (is_starved outcome)
+  pub reply : Reply
+  pub is_reply : IsReplyAt at.start s.past call at.now reply
+  pub answer : said ≡ Replied (length s.past) reply (is_starved outcome)
 
 -- ---- a door leaves
 

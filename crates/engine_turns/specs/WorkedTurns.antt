@@ -6,12 +6,13 @@ use Rattle.piece_table.specs.declared.giver.Giver.TheVariants.{Mixed}
 use Rattle.turn_desk.specs.declared.turn.Stamp.{Stamp}
 use Rattle.verify_piece.specs.Seals.{PieceBytes}
 use Rattle.machine_core.specs.WorkedRuns.{added_uri, gid_at, key_of_first, one_at_once}
-use Rattle.machine_core.specs.declared.applied.Applied.TheVariants.{Refused}
 use Rattle.machine_core.specs.declared.calls.Call.{Call}
-use Rattle.machine_core.specs.declared.calls.Call.TheVariants.{Pause, TellActive, Unpause}
+use Rattle.machine_core.specs.declared.calls.Call.TheVariants.{GetVersion, Pause, TellActive, Unpause}
 use Rattle.machine_core.specs.declared.events.Event.{Event}
 use Rattle.machine_core.specs.declared.events.Event.TheVariants.{Called, Settled, Stopped}
 use Rattle.machine_core.specs.declared.handed.Handed.{Handed}
+use Rattle.run_replies.specs.declared.kinds.Reply.{Reply}
+use Rattle.run_replies.specs.declared.kinds.Reply.TheVariants.{Fine, Refused, Version}
 use Rattle.engine_turns.specs.RunTurns.{MayComeAfter}
 use Rattle.engine_turns.specs.Told.{RunTurn, handed_in, latest_moment}
 use Rattle.engine_turns.specs.declared.operations.Grant.TheVariants.{Hash}
@@ -88,10 +89,10 @@ stop_turn = turn_with (Stop (moment_at 4)) Done (Stopped ∷ [])
 abbrev pub more_granted : RunTurn
 more_granted = turn_with (More 7 100 (moment_at 2)) (Allow 100) []
 
-abbrev pub pause_turn : RunTurn
-pause_turn =
-    turn_with (operation.Call 0 (Pause key_of_first) (moment_at 6)) (Replied 0 (Refused NotFound) false)
-    (Called 0 (Pause key_of_first) (moment_at 6) ∷ [])
+-- the first turn of a run: this call, with this reply
+abbrev pub replied_turn : Call → Reply → RunTurn
+replied_turn call reply =
+    turn_with (operation.Call 0 call (moment_at 6)) (Replied 0 reply false) (Called 0 call (moment_at 6) ∷ [])
 
 pub record WorkedRows : Type 0 where
   pub rests : MayComeAfter one_at_once [] (turn_with Pulse Finished [])
@@ -99,9 +100,12 @@ pub record WorkedRows : Type 0 where
   pub goes_on : MayComeAfter one_at_once (adding_turn ∷ []) (turn_with Pulse Idle [])
   pub no_claim : MayComeAfter one_at_once [] (turn_with (More 7 100 (moment_at 2)) Void [])
   pub no_door : MayComeAfter one_at_once [] (turn_with Leave Done [])
-  pub refused : MayComeAfter one_at_once [] pause_turn
+  pub refused : MayComeAfter one_at_once [] (replied_turn (Pause key_of_first) (Refused NotFound))
+  pub told : MayComeAfter one_at_once [] (replied_turn GetVersion Version)
   pub stops : MayComeAfter one_at_once [] stop_turn
   pub is_over : MayComeAfter one_at_once (stop_turn ∷ adding_turn ∷ []) (turn_with Pulse Finished [])
   -- and there is no other answer
   pub not_idle : ¬ MayComeAfter one_at_once [] (turn_with Pulse Idle [])
   pub not_granted : ¬ MayComeAfter one_at_once [] more_granted
+  pub not_carried_out : ¬ MayComeAfter one_at_once [] (replied_turn (Pause key_of_first) Fine)
+  pub not_told : ¬ MayComeAfter one_at_once [] (replied_turn GetVersion Fine)

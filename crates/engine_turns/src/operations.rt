@@ -1,6 +1,7 @@
 // What is asked of a run, and what it answers.
 use dl_kinds::{Blob, Gid, Mark, Moment, Run, Text};
-use machine_core::{Applied, Call};
+use machine_core::Call;
+use run_replies::Reply;
 use span_map::Job;
 use verify_piece::Sealed;
 
@@ -81,10 +82,11 @@ pub enum Grant {
 /// What an operation is answered.
 #[derive(Drop)]
 pub enum Said {
-    /// The call's event stands at this place of the history. `starved` tells that a save was left out for want of memory.
+    /// The call's event stands at this place of the history, and its reply is that of the history before it, at the turn's
+    /// moment. `starved` tells that a save was left out for want of memory.
     Replied {
         place: u32,
-        applied: Applied,
+        reply: Reply,
         starved: bool,
     },
     Grant(Grant),

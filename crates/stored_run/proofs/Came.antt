@@ -2,7 +2,7 @@
 use Rattle.std.proofs.Common.{⊎_elim, ℕ, zero, suc, Bool, true, false, List, [], ◌∷◌, refl, sym, subst, arith}
 use Rattle.std.specs.Prelude.{Contains}
 use Rattle.dl_kinds.specs.declared.gid.Gid.{Gid}
-use Rattle.engine_turns.specs.Phases.{AfterDisk, AndThen, CheckedPhase, CompletionPhase, EndAfterDisk, EndingOr, IfElse, IsWantedVerified, JustEnd, NoEvent, Phase, TurnStart}
+use Rattle.engine_turns.specs.Phases.{AfterDisk, CheckedPhase, CompletionPhase, EndAfterDisk, EndingOr, IsWantedVerified, NoEvent, Phase, TurnStart}
 use Rattle.engine_turns.specs.Told.{history_after}
 use Rattle.engine_turns.specs.declared.outcome.Outcome.{Outcome}
 use Rattle.machine_core.specs.RunLegal.{has_checksum}

@@ -1,6 +1,6 @@
 -- Bytes of payloads that are the same after a call.
-use Rattle.std.proofs.Common.{◌≡◌, ◌≢◌, ◌⊎◌, ⊎_elim, inl, inr, ℕ, ◌+◌, ◌-◌, ◌<◌, ◌≤◌, zero, suc, Bool, Some, List, [], ◌∷◌, ◌++◌, length, get_or, drop, slice_get, take, refl, sym, ap, ◌∙◌, subst, arith, true, false}
-use Rattle.std.specs.Prelude.{Contains, IsTrue}
+use Rattle.std.proofs.Common.{◌≡◌, ◌≢◌, ◌⊎◌, ⊎_elim, inl, inr, ℕ, ◌+◌, ◌-◌, ◌<◌, ◌≤◌, zero, suc, Bool, Some, List, [], ◌∷◌, ◌++◌, length, get_or, drop, slice_get, take, refl, sym, ap, ◌∙◌, subst, arith, true}
+use Rattle.std.specs.Prelude.{Contains}
 use Rattle.std.proofs.lemmas.Bool.{cases_lt}
 use Rattle.std.proofs.lemmas.List.{append_assoc, take-append-drop}
 use Rattle.std.proofs.lemmas.List.Elements.{Contains-append_cases, Contains-append_left, Contains-append_right, Contains-push}
@@ -16,7 +16,7 @@ use Rattle.dl_kinds.specs.declared.plan.Plan.{Plan}
 use Rattle.dl_kinds.specs.declared.runs.Run.{Run}
 use Rattle.dl_words.specs.Lists.{part_at}
 use Rattle.engine_turns.specs.ClaimRows.{DeliveryPhase}
-use Rattle.engine_turns.specs.Phases.{AfterDisk, BreaksOff, ContinuesWith, LandingsPhase, TurnStart}
+use Rattle.engine_turns.specs.Phases.{AfterDisk, BreaksOff, LandingsPhase, TurnStart}
 use Rattle.engine_turns.specs.Standings.{AnswersUnlessStarved}
 use Rattle.engine_turns.specs.Told.{history_after}
 use Rattle.engine_turns.specs.declared.operations.Said.{Said}
@@ -36,20 +36,20 @@ use Rattle.resume_core.specs.Runs.{run_len}
 use Rattle.resume_core.specs.States.{SamePayload}
 use Rattle.resume_core.proofs.RunBytes.{block_in_run}
 use Rattle.span_map.specs.Jobs.{IsRun, run_end, run_start}
-use Rattle.stored_run.specs.Deliveries.{IsPartOf, IsRunOfPayload}
+use Rattle.stored_run.specs.Deliveries.{IsRunOfPayload}
 use Rattle.stored_run.specs.RunFollows.{RunFollows}
 use Rattle.stored_run.specs.Settlings.{CameBetween, payload_of}
 use Rattle.stored_run.specs.Steps.{DoesPart, KeepsPayload, turn_from, StoresGid}
 use Rattle.stored_run.specs.Stored.{IsStoredRun, AreWantsKept}
 use Rattle.stored_run.specs.Views.{IsGoing, kept_want_of, own_in}
-use Rattle.stored_run.specs.Writings.{IsByteOf, IsByteOfAny, IsCutShort, IsDeliveredByte, IsOpenByte, KeepsBytesBut, KeepsPayloads, SavesPayloads}
+use Rattle.stored_run.specs.Writings.{IsByteOf, IsByteOfAny, IsDeliveredByte, IsOpenByte, KeepsBytesBut, KeepsPayloads, SavesPayloads}
 use Rattle.stored_run.specs.declared.run.StoredView.{StoredView}
 use Rattle.stored_run.proofs.Between.{after_front}
 use Rattle.stored_run.proofs.Endings.{GoingFacts, apart_from, going_facts}
 use Rattle.stored_run.proofs.LandedBytes.{payload_same}
 use Rattle.stored_run.proofs.Landings.{landed_events, landings_events, taken_next}
 use Rattle.stored_run.proofs.Left.{keeps_for}
-use Rattle.stored_run.proofs.RunParts.{part_from, part_to, some_blocks_in}
+use Rattle.stored_run.proofs.RunParts.{part_to, some_blocks_in}
 use Rattle.stored_run.proofs.EachSaved.{HaltsBetween, apart_all}
 use Rattle.stored_run.proofs.Failing.{opened_want}
 use Rattle.dl_history.specs.PayloadParts.{is_opened}

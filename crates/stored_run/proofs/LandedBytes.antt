@@ -1,5 +1,5 @@
 -- What the runs of a delivery write into a payload.
-use Rattle.std.proofs.Common.{◌≡◌, ◌≢◌, ⊎_elim, inl, ℕ, true, ◌+◌, ◌-◌, ◌<◌, ◌≤◌, Option, Some, List, [], ◌∷◌, ◌++◌, map, length, get_or, drop, take, refl, sym, ap, ◌∙◌, subst, arith}
+use Rattle.std.proofs.Common.{◌≡◌, ◌≢◌, ⊎_elim, inl, ℕ, true, ◌+◌, ◌-◌, ◌<◌, ◌≤◌, Option, Some, List, [], ◌∷◌, map, length, get_or, drop, take, refl, sym, ap, ◌∙◌, subst, arith}
 use Rattle.std.specs.Prelude.{All, Contains, sum_by}
 use Rattle.std.specs.List.{concat}
 use Rattle.std.proofs.lemmas.List.{length-drop, length-take}
@@ -10,7 +10,7 @@ use Rattle.control_file.specs.declared.want.Want.{Want}
 use Rattle.dl_disk.specs.Files.{Files, file_bytes}
 use Rattle.dl_disk.specs.State.{DiskState}
 use Rattle.dl_history.specs.PayloadParts.{is_opened}
-use Rattle.dl_kinds.specs.Plan.{IsPlan, block_end, block_start, blocks_of}
+use Rattle.dl_kinds.specs.Plan.{IsPlan, blocks_of}
 use Rattle.dl_kinds.specs.PlanLaws.{BlocksFollow}
 use Rattle.dl_kinds.specs.declared.claims.Claim.{Claim}
 use Rattle.dl_kinds.specs.declared.gid.Gid.{Gid}
@@ -36,7 +36,6 @@ use Rattle.payload_files.specs.Names.{name_of}
 use Rattle.piece_table.specs.NewRuns.{AreRunsOf}
 use Rattle.resume_core.specs.Runs.{run_len}
 use Rattle.resume_core.specs.States.{SamePayload}
-use Rattle.resume_core.specs.Wants.{files_in}
 use Rattle.span_map.specs.Jobs.{run_end, run_start}
 use Rattle.span_map.specs.declared.files.FileLen.{FileLen}
 use Rattle.stored_run.specs.Deliveries.{IsRangeOf, IsRunOfPayload, LandedBetween, landed_total}

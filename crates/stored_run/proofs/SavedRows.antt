@@ -16,17 +16,17 @@ use Rattle.engine_turns.specs.declared.operations.Said.{Said}
 use Rattle.engine_turns.specs.declared.operations.Said.TheVariants.{Done, Replied}
 use Rattle.engine_turns.specs.declared.outcome.Outcome.{Outcome}
 use Rattle.engine_turns.specs.declared.outcome.Outcome.TheVariants.{Starved}
-use Rattle.machine_core.specs.Answers.{applied_by}
 use Rattle.machine_core.specs.MachineViews.{place_in}
 use Rattle.machine_core.specs.OwnParts.{own_of}
 use Rattle.machine_core.specs.Replays.{is_active_in, queue_in, replay_of}
 use Rattle.machine_core.specs.RunLegal.{IsLegal, goes_on_in, is_stop}
 use Rattle.machine_core.specs.Starts.{RunStart}
-use Rattle.machine_core.specs.declared.applied.Applied.{Applied}
 use Rattle.machine_core.specs.declared.calls.Call.{Call}
 use Rattle.machine_core.specs.declared.ends.End.TheVariants as end
 use Rattle.machine_core.specs.declared.events.Event.{Event}
 use Rattle.machine_core.specs.declared.events.Event.TheVariants.{Called, Ended, Stopped}
+use Rattle.run_replies.specs.Replies.{IsReplyAt}
+use Rattle.run_replies.specs.declared.kinds.Reply.{Reply}
 use Rattle.stored_run.specs.RunFollows.{RunFollows}
 use Rattle.stored_run.specs.Saves.{IsDueLastIn, IsDueOffIn, StandOnce, TellsOnly, UnlessStarved, gids_of, is_active_status, is_going_status, is_off_by, noted_status, status_in, statuses_in}
 use Rattle.stored_run.specs.Steps.{DoesPart, DoesRow, turn_from}
@@ -183,14 +183,14 @@ module _ {D : Type 0} (P : List Gid → TurnStart → List Event → List Event 
       (Contains-append_cases first did.events (Ended gid (end.Disk count)) there)
 
 pub call_row : {D : Type 0} (old mid new : StoredView D) (session : ℕ) (asked : Call) (f f' : ℕ) (o : Outcome)
-    (place : ℕ) (applied : Applied) (starved : Bool) (those : List Gid)
+    (place : ℕ) (reply : Reply) (starved : Bool) (those : List Gid)
     → TellsOnly (Called session asked old.now ∷ []) old mid
     → AreThose (IsSavedOff old.machine.start old.machine.past (Called session asked old.now ∷ old.machine.past))
     (gids_in old.machine.start (Called session asked old.now ∷ old.machine.past)) those
     → DoesPart (λ at. SavesPhase at those) mid f new f' o → place ≡ length old.machine.past
-    → applied ≡ applied_by old.machine.start old.machine.past asked → starved ≡ is_starved o
-    → DoesRow (λ at s. UnlessStarved (CallRow at s session asked)) old f new f' (Replied place applied starved)
-call_row old mid new session asked f f' o place applied starved those came are did place_is applied_is starved_is = record {
+    → IsReplyAt old.machine.start old.machine.past asked old.now reply → starved ≡ is_starved o
+    → DoesRow (λ at s. UnlessStarved (CallRow at s session asked)) old f new f' (Replied place reply starved)
+call_row old mid new session asked f f' o place reply starved those came are did place_is is_reply starved_is = record {
   events = Called session asked old.now ∷ did.events;
   grown = grown_old (λ gids at. SavesPhase at gids) (Called session asked old.now ∷ []) old mid new f f' o came those did;
   is = λ from s below standing. inr (record {
@@ -206,10 +206,11 @@ call_row old mid new session asked f f' o place applied starved those came are d
         (sym standing)
         (phase_old (λ gids at. SavesPhase at gids) (Called session asked old.now ∷ []) old mid new f f' o came those did
         from below);
-    answer = ap (λ (n : ℕ). Replied n applied starved) place_is
-        ∙ (ap (λ (a : Applied). Replied (length old.machine.past) a starved) applied_is
-        ∙ (ap (λ (b : Bool). Replied (length old.machine.past) (applied_by old.machine.start old.machine.past asked) b) starved_is
-        ∙ ap (λ (p : List Event). Replied (length p) (applied_by old.machine.start p asked) (is_starved o)) (sym standing)));
+    reply = reply;
+    is_reply = subst (λ (p : List Event). IsReplyAt old.machine.start p asked old.now reply) (sym standing) is_reply;
+    answer = ap (λ (n : ℕ). Replied n reply starved) place_is
+        ∙ (ap (λ (b : Bool). Replied (length old.machine.past) reply b) starved_is
+        ∙ ap (λ (p : List Event). Replied (length p) reply (is_starved o)) (sym standing));
   });
   later = did.later;
   counts = counts_old (λ gids at. SavesPhase at gids) (Called session asked old.now ∷ []) old mid new f f' o came those did

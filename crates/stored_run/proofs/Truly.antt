@@ -1,12 +1,12 @@
 -- What a whole check tells holds of the same payload.
-use Rattle.std.proofs.Common.{◌≡◌, ℕ, Bool, Option, List, [], ◌∷◌, refl, sym, ap, subst}
+use Rattle.std.proofs.Common.{◌≡◌, ℕ, Bool, List, [], ◌∷◌, refl, sym, ap, subst}
 use Rattle.std.specs.Prelude.{◌↔◌, IsTrue, map}
 use Rattle.std.specs.List.{concat}
 use Rattle.control_file.specs.declared.want.Want.{Want}
 use Rattle.dl_disk.specs.Files.{Files, file_bytes}
 use Rattle.dl_kinds.specs.ChecksumView.{ChecksumView}
 use Rattle.payload_files.specs.Names.{name_of}
-use Rattle.payload_files.specs.Payload.{contents_in, payload_in}
+use Rattle.payload_files.specs.Payload.{contents_in}
 use Rattle.resume_core.specs.Wants.{files_in}
 use Rattle.span_map.specs.declared.files.FileLen.{FileLen}
 use Rattle.stored_run.specs.Settlings.{IsTruly, payload_of}

@@ -1,5 +1,5 @@
 -- Parts of a turn that check no whole payload, and what comes with them where one is checked.
-use Rattle.std.proofs.Common.{◌≡◌, ◌≢◌, ⊎_elim, ℕ, Bool, true, false, List, [], ◌∷◌, ◌++◌, Some, refl, sym, ap, ◌∙◌, subst, arith}
+use Rattle.std.proofs.Common.{◌≡◌, ◌≢◌, ⊎_elim, ℕ, Bool, true, false, List, [], ◌∷◌, ◌++◌, refl, sym, ap, ◌∙◌, subst, arith}
 use Rattle.std.specs.Prelude.{Contains}
 use Rattle.std.proofs.lemmas.List.{append_assoc, append_cancel_right}
 use Rattle.std.proofs.lemmas.List.Elements.{Contains-append_cases, Contains-push_cases}
@@ -8,7 +8,6 @@ use Rattle.dl_kinds.specs.declared.gid.Gid.{Gid}
 use Rattle.dl_kinds.specs.declared.runs.Run.{Run}
 use Rattle.engine_turns.specs.ClaimRows.{DueSavePhase, IsSaveDue}
 use Rattle.engine_turns.specs.Phases.{AfterDisk, AllRightPhase, AndThen, CheckedPhase, DeadPhase, EndAfterDisk, FindingPhase, JustEvent, LandingsPhase, NoEvent, OpeningPhase, Phase, SavePhase, SettlingPhase, TurnStart, UnlistingPhase, after_finding_phase}
-use Rattle.engine_turns.specs.Told.{history_after}
 use Rattle.engine_turns.specs.declared.outcome.Outcome.{Outcome}
 use Rattle.engine_turns.specs.declared.outcome.Outcome.TheVariants.{Over, Starved, Went}
 use Rattle.machine_core.specs.Reads.{IsUnlistedIn}
@@ -18,7 +17,6 @@ use Rattle.machine_core.specs.declared.events.Event.{Event}
 use Rattle.machine_core.specs.declared.events.Event.TheVariants.{Checked, Cleared, Ended, Landed, Saved}
 use Rattle.stored_run.specs.Checks.{ChecksOnly, ChecksTruly, IsCheckedBy}
 use Rattle.stored_run.specs.Deliveries.{filling_phase}
-use Rattle.stored_run.specs.Settlings.{CameBetween}
 use Rattle.stored_run.specs.Steps.{DoesPart, turn_from}
 use Rattle.stored_run.specs.declared.run.StoredView.{StoredView}
 use Rattle.stored_run.proofs.Between.{after_front, came_none, came_one}

@@ -1,9 +1,10 @@
 // Calls, and doors.
-ghost use Rattle.std.specs.Prelude.{◌≡◌, ◌∷◌, [], IfOk, IsTrue, OnErr, OnOk, length, max};
+ghost use Rattle.std.specs.Prelude.{◌≡◌, ◌∷◌, [], IfNone, IfOk, IfSome, IsTrue, OnErr, OnOk, false, length, max};
+ghost use Rattle.std.specs.Option.{unwrap_or};
 ghost use Rattle.engine_turns.specs.CallRows.{CallRow, LeaveRow, is_starved};
-ghost use Rattle.machine_core.specs.Answers.{applied_by};
 ghost use Rattle.machine_core.specs.LawfulCalls.{IsLawful};
 ghost use Rattle.machine_core.specs.declared.events.Event.TheVariants.{Called};
+ghost use Rattle.run_replies.specs.Replies.{IsReplyAt, applied_reply, is_asking};
 ghost use Rattle.stored_run.specs.Leavings.{LeavesDisk};
 ghost use Rattle.stored_run.specs.Saves.{TellsOnly, UnlessStarved};
 ghost use Rattle.stored_run.specs.Steps.{Continues, DoesRow, RunStays};
@@ -15,6 +16,7 @@ use dl_disk::Disk;
 use dl_kinds::Moment;
 use engine_turns::{Outcome, Said};
 use machine_core::{Applied, Call, NoMemory};
+use run_replies::{Reply, asks, changed_reply, changes_are_applied, reply_to};
 
 // Whether memory ran out.
 fn has_starved(outcome: Outcome) -> bool
@@ -26,23 +28,49 @@ fn has_starved(outcome: Outcome) -> bool
     }
 }
 
+// What a call is answered: the reply that was read before it came, if it asks, or else what came of it.
+fn reply_by(asked: Option<Reply>, applied: Applied) -> Reply
+    ensures { result ≡ unwrap_or asked (applied_reply applied) }
+{
+    match asked {
+        Some(reply) => reply,
+        None => changed_reply(applied),
+    }
+}
+
 impl<D: Disk> StoredRun<D> {
-    // The event of a call comes. Told is its place in the journal, and what it is answered.
-    fn apply(&mut self, session: u32, call: Call) -> Result<(u32, Applied), NoMemory>
+    // The reply of a call that asks, read off the run as it is before its event. None of a call that changes the run.
+    fn asked_reply(&self, call: &Call) -> Result<Option<Reply>, NoMemory>
+        ensures told { IfOk result (λ asked. IfSome asked
+            (IsReplyAt self.entry.now.machine.start self.entry.now.machine.past
+            call.now self.entry.now.now)) }
+        ensures changes { IfOk result (λ asked. IfNone asked (is_asking call.now ≡ false)) }
+    {
+        if asks(call) {
+            Ok(Some(reply_to(&self.machine, self.alloc, call, self.now)?))
+        } else {
+            Ok(None)
+        }
+    }
+
+    // The event of a call comes. Told is its place in the journal, and its reply.
+    fn apply(&mut self, session: u32, call: Call) -> Result<(u32, Reply), NoMemory>
         requires { IsLawful call }
         ensures came { OnOk result (TellsOnly (Called session call self.old.now ∷ [])
             self.old self.new) }
         ensures place { IfOk result (λ told. told.0 ≡ length self.old.machine.past) }
-        ensures answer { IfOk result (λ told.
-            told.1 ≡ applied_by self.old.machine.start self.old.machine.past call) }
+        ensures reply { IfOk result (λ told. IsReplyAt self.old.machine.start
+            self.old.machine.past call self.old.now told.1) }
         ensures same { OnErr result (TellsOnly [] self.old self.new) }
     {
         runs_follow();
+        changes_are_applied();
+        let asked = self.asked_reply(&call)?;
         let place = self.machine.journal().len();
         let applied = self
             .machine
             .apply_call(self.alloc, session, call, self.now)?;
-        Ok((place, applied))
+        Ok((place, reply_by(asked, applied)))
     }
 
     /// A call of a console session, or of the command line. The progress of the downloads that it takes off is saved, in the
@@ -63,7 +91,7 @@ impl<D: Disk> StoredRun<D> {
         let Ok(was) = self.statuses() else {
             return Said::NoMemory;
         };
-        let Ok((place, applied)) = self.apply(session, call) else {
+        let Ok((place, reply)) = self.apply(session, call) else {
             return Said::NoMemory;
         };
         match self.due_off(&was) {
@@ -72,13 +100,13 @@ impl<D: Disk> StoredRun<D> {
                 let starved = has_starved(outcome);
                 Said::Replied {
                     place,
-                    applied,
+                    reply,
                     starved,
                 }
             }
             Err(NoMemory) => Said::Replied {
                 place,
-                applied,
+                reply,
                 starved: true,
             },
         }

@@ -11,7 +11,7 @@ use std::test::Fail;
 
 // Three of four pieces are found right and saved, as the download is paused; the last one comes, and isn't saved.
 const BEFORE: Lines = &[
-    ("torrent f", "added"),
+    ("torrent f", "gid"),
     ("next 0", "done"),
     (
         "next 0",
@@ -24,8 +24,8 @@ const BEFORE: Lines = &[
     ("seal 0 a*16384", "done"),
     ("seal 1 b*16384", "done"),
     ("seal 2 c*16384", "done"),
-    ("pause", "replied"),
-    ("unpause", "replied"),
+    ("pause", "gid"),
+    ("unpause", "gid"),
     (
         "next 0",
         "fetch 1: 3+1, 16384 from 49152 of 65536 at http://m.test/f, 1048576 now",
@@ -35,7 +35,7 @@ const BEFORE: Lines = &[
 
 // Whatever a crash left of the last piece, it alone comes again.
 const AFTER: Lines = &[
-    ("torrent f", "added"),
+    ("torrent f", "gid"),
     ("next 0", "done"),
     (
         "next 0",

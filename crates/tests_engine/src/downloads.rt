@@ -22,7 +22,7 @@ type Case = (
 const RIGHT: Case = (
     (&[("split", "1")], ""),
     &[
-        ("torrent p", "added"),
+        ("torrent p", "gid"),
         ("pulse", "idle"),
         ("next 0", "done"),
         (
@@ -64,7 +64,7 @@ complete
 const WRONG: Case = (
     (&[("split", "1")], ""),
     &[
-        ("torrent p", "added"),
+        ("torrent p", "gid"),
         ("next 0", "done"),
         (
             "next 0",
@@ -110,7 +110,7 @@ complete
 const PROBED: Case = (
     (&[], ""),
     &[
-        ("uri http://m.test/a", "added"),
+        ("uri http://m.test/a", "gid"),
         ("next 0", "probe 0 at http://m.test/a"),
         ("next 1", "idle"),
         ("size 0 5", "done"),
@@ -142,7 +142,7 @@ complete
 const SHARED: Case = (
     (&[("split", "2"), ("max-tries", "1")], ""),
     &[
-        ("torrent s", "added"),
+        ("torrent s", "gid"),
         ("next 0", "done"),
         (
             "next 0",
@@ -189,7 +189,7 @@ complete
 const TAKEN: Case = (
     (&[], ""),
     &[
-        ("torrent t", "added"),
+        ("torrent t", "gid"),
         ("next 0", "done"),
         (
             "next 0",
@@ -229,19 +229,19 @@ landed 0: 39+1
 const PAUSED: Case = (
     (&[("split", "1")], ""),
     &[
-        ("torrent p", "added"),
+        ("torrent p", "gid"),
         ("next 0", "done"),
         (
             "next 0",
             "fetch 0: 0+4, 49157 from 0 of 49157 at http://m.test/p, 1048576 now",
         ),
         ("deliver 0 0 1 a*16384", "1 kept, 0 again"),
-        ("pause", "replied"),
+        ("pause", "gid"),
         ("deliver 0 1 1 b*16384", "void"),
         ("more 0 1", "void"),
         ("lose 0", "void"),
         ("next 0", "finished"),
-        ("unpause", "replied"),
+        ("unpause", "gid"),
         ("deliver 0 1 1 b*16384", "void"),
         (
             "next 0",
@@ -276,7 +276,7 @@ complete
 const HANDED: Case = (
     (&[], ""),
     &[
-        ("torrent q", "added"),
+        ("torrent q", "gid"),
         ("next 0", "done"),
         (
             "next 0",
@@ -285,9 +285,9 @@ const HANDED: Case = (
         ("deliver 0 0 1 d*5", "1 kept, 0 again"),
         ("next 0", "hash 0 of d*5"),
         ("next 1", "idle"),
-        ("pause", "replied"),
+        ("pause", "gid"),
         ("seal 0 d*5", "void"),
-        ("unpause", "replied"),
+        ("unpause", "gid"),
         ("seal 0 d*5", "void"),
         ("next 1", "hash 0 of d*5"),
         ("next 0", "idle"),
@@ -316,7 +316,7 @@ const IN_FLIGHT: Case = (
         "a=h*1,e*1,l*2,o*1 a.aria2=#00010000000100000014ed805b7547c5b2b740bc29316d9eeb9a4f4ed761000040000000000000000005000000000000000000000001000000000100000000000000050000000180",
     ),
     &[
-        ("torrent a", "added"),
+        ("torrent a", "gid"),
         ("next 0", "done"),
         ("next 0", "hash 0 of h*1,e*1,l*2,o*1"),
         ("next 1", "idle"),
@@ -339,7 +339,7 @@ const CUT: Case = (
         "a=h*1,e*1,l*1 a.aria2=#00010000000100000014ed805b7547c5b2b740bc29316d9eeb9a4f4ed7610000400000000000000000050000000000000000000000018000000000",
     ),
     &[
-        ("torrent a", "added"),
+        ("torrent a", "gid"),
         ("next 0", "done"),
         (
             "next 0",
@@ -365,7 +365,7 @@ complete
 const IN_THE_WAY: Case = (
     (&[], "a=z*3"),
     &[
-        ("uri http://m.test/a", "added"),
+        ("uri http://m.test/a", "gid"),
         ("next 0", "probe 0 at http://m.test/a"),
         ("size 0 5", "done"),
         ("next 0", "done"),
@@ -387,7 +387,7 @@ const OTHER_PIECES: Case = (
         "a=z*3 a.aria2=#000100000000000000000010000000000000002000000000000000000000000000018000000000",
     ),
     &[
-        ("uri http://m.test/a", "added"),
+        ("uri http://m.test/a", "gid"),
         ("next 0", "probe 0 at http://m.test/a"),
         ("size 0 2097152", "done"),
         ("next 0", "done"),
@@ -412,7 +412,7 @@ pieces of 1048576 for 2097152
 const SELECTED: Case = (
     (&[], ""),
     &[
-        ("torrent n select-file 1", "added"),
+        ("torrent n select-file 1", "gid"),
         ("next 0", "done"),
         (
             "next 0",
@@ -439,7 +439,7 @@ complete
 const LIMITED: Case = (
     (&[], ""),
     &[
-        ("torrent p max-download-limit 16384", "added"),
+        ("torrent p max-download-limit 16384", "gid"),
         ("next 0", "done"),
         (
             "next 0",
@@ -471,7 +471,7 @@ claimed 0: 0+4 at 0
 const STOPPED: Case = (
     (&[], ""),
     &[
-        ("torrent p", "added"),
+        ("torrent p", "gid"),
         ("next 0", "done"),
         (
             "next 0",
@@ -504,7 +504,7 @@ saved
 const DEAD: Case = (
     (&[("max-tries", "2")], ""),
     &[
-        ("torrent a", "added"),
+        ("torrent a", "gid"),
         ("next 0", "done"),
         (
             "next 0",
@@ -553,7 +553,7 @@ const OTHER_LENGTH: Case = (
         "a=z*3 a.aria2=#000100000000000000000010000000000000002000000000000000000000000000018000000000",
     ),
     &[
-        ("uri http://m.test/a", "added"),
+        ("uri http://m.test/a", "gid"),
         ("next 0", "probe 0 at http://m.test/a"),
         ("size 0 5", "done"),
         ("next 0", "done"),
@@ -575,7 +575,7 @@ const OTHER_HASH: Case = (
         "a=z*3 a.aria2=#000100000000000000000010000000000000002000000000000000000000000000018000000000",
     ),
     &[
-        ("torrent a", "added"),
+        ("torrent a", "gid"),
         ("next 0", "done"),
         ("next 0", "finished"),
     ],
@@ -593,7 +593,7 @@ const BROKEN_OFF: Case = (
         "a=z*3 a.aria2=#0001000000000000000000100000000000000020000000000000000000000000000180000000",
     ),
     &[
-        ("torrent a", "added"),
+        ("torrent a", "gid"),
         ("next 0", "done"),
         ("next 0", "finished"),
     ],

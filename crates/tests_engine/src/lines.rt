@@ -10,8 +10,9 @@ use dl_disk::MemDisk;
 use dl_kinds::{Blob, Code, GID_DIGITS, Gid, GidKey, Mark, Moment, Run};
 use engine_core::Engine;
 use engine_turns::{FetchGrant, Grant, Operation, Said};
-use machine_core::{Applied, Call, Journal};
+use machine_core::{Call, Journal};
 use option_set::{Options, Settings, read};
+use run_replies::Reply;
 use std::alloc::Global;
 use std::test::Fail;
 use turn_desk::Served;
@@ -75,7 +76,7 @@ impl Course {
     {
         let said = self.call(call.ok_or("no call")?);
         if let Said::Replied {
-            applied: Applied::Added { gid },
+            reply: Reply::Gid(gid),
             ..
         } = said
         {

@@ -2,8 +2,9 @@
 use crate::letters;
 use dl_kinds::Claim;
 use engine_turns::{FetchGrant, Grant, Said};
-use machine_core::{Applied, Call, End, Event, Journal};
+use machine_core::{Call, End, Event, Journal};
 use piece_table::Giver;
+use run_replies::Reply;
 use std::alloc::Global;
 use std::test::Fail;
 
@@ -39,14 +40,18 @@ fn shown_grant(alloc: Global, grant: &Grant) -> Result<String, Fail> {
     })
 }
 
+fn shown_reply(alloc: Global, reply: &Reply) -> Result<String, Fail> {
+    Ok(match reply {
+        Reply::Gid(_) => String::from_str(alloc, "gid")?,
+        Reply::Refused(refusal) => format!(in alloc; "{refusal:?}")?,
+        _ => String::from_str(alloc, "replied")?,
+    })
+}
+
 /// What an operation is answered.
 pub fn shown_said(alloc: Global, said: &Said) -> Result<String, Fail> {
     Ok(match said {
-        Said::Replied {
-            applied: Applied::Added { .. },
-            ..
-        } => String::from_str(alloc, "added")?,
-        Said::Replied { .. } => String::from_str(alloc, "replied")?,
+        Said::Replied { reply, .. } => shown_reply(alloc, reply)?,
         Said::Grant(grant) => shown_grant(alloc, grant)?,
         Said::Kept { counted, repeated } => {
             format!(in alloc; "{counted} kept, {repeated} again")?

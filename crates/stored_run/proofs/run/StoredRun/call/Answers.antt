@@ -81,15 +81,15 @@ returns-in-Ok-due_off-clause-row g c =
     let due = c.in-Ok-due_off.due.items in
     row_here laws d.tells d.faults d.state v mid run (Called c.args.session c.args.call v.now ∷ []) came between
     (λ at s. UnlessStarved (CallRow at s c.args.session c.args.call)) new (d.faults new.disk)
-    (Replied c.in-Ok-apply.place c.in-Ok-apply.applied c.has_starved-starved.result)
+    (Replied c.in-Ok-apply.place c.in-Ok-apply.reply c.has_starved-starved.result)
     (call_row v mid new c.args.session c.args.call (d.faults mid.disk) (d.faults new.disk) c.save_all-outcome.result
-    c.in-Ok-apply.place c.in-Ok-apply.applied c.has_starved-starved.result due came
+    c.in-Ok-apply.place c.in-Ok-apply.reply c.has_starved-starved.result due came
     (off_are laws d.tells (d.faults v.disk) (d.state v.disk) v mid run c.args.session c.args.call came c.deref.result.now
     was_is due c.in-Ok-due_off.ensures.those)
     (subst
     (λ (gids : List Gid). DoesPart (λ at. SavesPhase at gids) mid (d.faults mid.disk) new (d.faults new.disk) c.save_all-outcome.result)
     c.deref-in-Ok-due_off.ensures.value c.save_all-outcome.ensures.did)
-    c.in-Ok-apply.ensures.place c.in-Ok-apply.ensures.answer c.has_starved-starved.ensures)
+    c.in-Ok-apply.ensures.place c.in-Ok-apply.ensures.reply c.has_starved-starved.ensures)
 
 pub returns-in-Ok-due_off-clause-on : goal.returns-in-Ok-due_off-clause-on
 returns-in-Ok-due_off-clause-on g c =
@@ -139,10 +139,10 @@ returns-clause-row g c =
     c.deref.result.now was_is c.in-Err.ensures.some in
     row_here laws d.tells d.faults d.state v mid run (Called c.args.session c.args.call v.now ∷ []) came between
     (λ at s. UnlessStarved (CallRow at s c.args.session c.args.call)) mid (d.faults mid.disk)
-    (Replied c.in-Ok-apply.place c.in-Ok-apply.applied true)
+    (Replied c.in-Ok-apply.place c.in-Ok-apply.reply true)
     (call_row v mid mid c.args.session c.args.call (d.faults mid.disk) (d.faults mid.disk) Starved c.in-Ok-apply.place
-    c.in-Ok-apply.applied true some.0 came some.1 (saves_starved mid (d.faults mid.disk) some.0 some.2)
-    c.in-Ok-apply.ensures.place c.in-Ok-apply.ensures.answer refl)
+    c.in-Ok-apply.reply true some.0 came some.1 (saves_starved mid (d.faults mid.disk) some.0 some.2)
+    c.in-Ok-apply.ensures.place c.in-Ok-apply.ensures.reply refl)
 
 pub returns-clause-on : goal.returns-clause-on
 returns-clause-on g c =
