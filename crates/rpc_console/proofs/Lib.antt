@@ -1,4 +1,6 @@
 mod Comparing
 mod GidKeys
+mod LawfulAskings
 mod OptionLemmas
+mod UsableUris
 mod Values

@@ -1,5 +1,5 @@
 -- Options of an object, one after the other.
-use Rattle.std.proofs.Common.{◌≡◌, ◌⊎◌, inl, inr, List, [], ◌∷◌, ◌++◌, Bool, true, false, Err, refl, ap, sym, subst, ◌∙◌}
+use Rattle.std.proofs.Common.{◌≡◌, inl, inr, List, [], ◌∷◌, ◌++◌, true, false, Result, Ok, Err, refl, ap, sym, subst, ◌∙◌}
 use Rattle.std.proofs.lemmas.Bool.{and_parts}
 use Rattle.std.proofs.lemmas.List.Elements.{All-nil, All-cons}
 use Rattle.std.specs.Prelude.{All, ◌&&◌, is_some, string_bytes}
@@ -49,6 +49,11 @@ pub refused_as : (T : Type 0) (error : RpcErr) (P Q : RpcFault → Type 0) → (
     → IfRefused {T = T} (Err error) P → IfRefused {T = T} (Err error) Q
 refused_as T (Refused fault) P Q step holds = step fault holds
 refused_as T NoMemory P Q step holds = tt
+
+pub refused_by : (T : Type 0) (answer : Result T RpcErr) (P Q : RpcFault → Type 0) → ((fault : RpcFault) → P fault → Q fault)
+    → IfRefused answer P → IfRefused answer Q
+refused_by T (Ok value) P Q step holds = tt
+refused_by T (Err error) P Q step holds = refused_as T error P Q step holds
 
 -- a call takes each option that it sets
 pub all_taken : (call : OptionUse) (members : Members) (settings : List Assigned) → AreSettings call members settings

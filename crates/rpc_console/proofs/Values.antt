@@ -1,12 +1,9 @@
 -- Lists of values, as the data that they are seen as.
-use Rattle.std.proofs.Common.{◌≡◌, ℕ, List, [], ◌∷◌, ◌++◌, ◌<◌, ◌+◌, length, map, drop, get_or, refl, ap, sym, ◌∙◌, Option, Some, None, option_map, option_and_then}
-use Rattle.std.proofs.lemmas.List.{drop_more}
+use Rattle.std.proofs.Common.{◌≡◌, List, [], ◌∷◌, map, refl, ap}
 use Rattle.serde_json.specs.Data.{Data}
-use Rattle.serde_json.specs.Find.{as_str}
 use Rattle.serde_json.specs.View.{view, items_of, items_view}
 use Rattle.serde_json.specs.declared.value.Value.{Value}
 use Rattle.rpc_envelope.specs.Asks.{data_of}
-use Rattle.rpc_console.specs.Params.{texts_in}
 
 data_of-items_of : (ds : List Data) → data_of (items_of ds) ≡ ds
 data_of-items_of [] = refl

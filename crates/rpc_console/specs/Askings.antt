@@ -1,5 +1,5 @@
 -- What methods and their parameters ask for; none where the parameters aren't the method's (aria2 manual, "RPC interface").
-use Rattle.std.specs.Prelude.{ℕ, List, [], ◌∷◌, Option, Some, None, option_map, option_and_then}
+use Rattle.std.specs.Prelude.{List, [], ◌∷◌, Option, Some, None, option_map, option_and_then}
 use Rattle.machine_core.specs.declared.calls.Call.{Call}
 use Rattle.machine_core.specs.declared.calls.Call.TheVariants.{TellStatus, TellActive, ChangePosition}
 use Rattle.rpc_console.specs.Methods.{bare_call, keyed_call, window_call}

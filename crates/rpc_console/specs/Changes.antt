@@ -38,5 +38,6 @@ abbrev pub RefusesChange : List Data → RpcFault → Type 0
 RefusesChange [] fault = fault ≡ BadParams
 RefusesChange (d ∷ []) fault = fault ≡ BadParams
 RefusesChange (d ∷ e ∷ []) fault =
-    ((key_in d ≡ None) × (fault ≡ BadParams)) ⊎ RefusesOptions Changing (as_object e) fault
+    ((key_in d ≡ None) × (fault ≡ BadParams))
+    ⊎ ((key : GidKey) × (key_in d ≡ Some key) × RefusesOptions Changing (as_object e) fault)
 RefusesChange (d ∷ e ∷ f ∷ ds) fault = fault ≡ BadParams

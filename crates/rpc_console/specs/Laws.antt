@@ -1,7 +1,7 @@
 -- Laws of what methods ask for.
 use Rattle.std.specs.Prelude.{◌≡◌, ◌↔◌, ℕ, List, Some}
 use Rattle.machine_core.specs.LawfulCalls.{IsLawful}
-use Rattle.rpc_console.specs.Changes.{IsChange, IsGlobalChange}
+use Rattle.rpc_console.specs.Dispatch.{IsAskingOf}
 use Rattle.rpc_console.specs.Methods.{method_name, method_named}
 use Rattle.rpc_console.specs.declared.asking.Asking.{Asking}
 use Rattle.rpc_console.specs.declared.asking.Asking.TheVariants.{One, Methods}
@@ -13,12 +13,9 @@ abbrev pub IsLawfulAsking : Asking → Type 0
 IsLawfulAsking (One call keys) = IsLawful call
 IsLawfulAsking Methods = Unit {0}
 
--- options that are to be changed are those that the call changes
-abbrev pub ChangesAreLawful : Type 0
-ChangesAreLawful = (params : List Data) (asking : Asking) → IsChange params asking → IsLawfulAsking asking
-
-abbrev pub GlobalChangesAreLawful : Type 0
-GlobalChangesAreLawful = (params : List Data) (asking : Asking) → IsGlobalChange params asking → IsLawfulAsking asking
+-- .. which is so whatever a method asks for
+abbrev pub AskingsAreLawful : Type 0
+AskingsAreLawful = (which : Method) (params : List Data) (asking : Asking) → IsAskingOf which params asking → IsLawfulAsking asking
 
 -- a method is found by its name, and by no other
 abbrev pub MethodsHaveNames : Type 0

@@ -1,9 +1,13 @@
 pub mod Admissions
 pub mod Askings
 pub mod Changes
+pub mod Dispatch
+pub mod Further
 pub mod Laws
 pub mod Methods
 pub mod Names
 pub mod Options
 pub mod Params
 pub mod Tokens
+pub mod Torrents
+pub mod Uris

@@ -49,8 +49,11 @@ texts_in [] = Some []
 texts_in (d ∷ ds) = option_and_then (λ text. option_map (λ others. text ∷ others) (texts_in ds)) (as_str d)
 
 -- a list of texts
+abbrev pub text_list : Data → Option (List (List ℕ))
+text_list d = option_and_then texts_in (list_if d)
+
 abbrev pub keys_in : Data → Option Keys
-keys_in d = option_map These (option_and_then texts_in (list_if d))
+keys_in d = option_map These (text_list d)
 
 -- the last parameter, which may be left out
 abbrev pub keys_at : List Data → Option Keys

@@ -117,7 +117,8 @@ fn settings_in(
     Ok(settings)
 }
 
-fn are_texts(members: &Map<String, Value>) -> bool
+/// Whether each member is a text.
+pub(crate) fn are_texts(members: &Map<String, Value>) -> bool
     ensures { result ≡ are_texts (members_view members.now.entries) }
 {
     for (_, value) in members.iter() {

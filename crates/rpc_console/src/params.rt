@@ -95,13 +95,19 @@ fn these(texts: Option<Texts>) -> Option<Keys>
 }
 
 #[tactic(auto, using(crate::proofs::Values::list_of_items))]
+pub(crate) fn text_list(alloc: Global, value: &Value) -> Result<Option<Texts>, NoMemory>
+    ensures { IfOk result (λ texts. texts ≡ spec.text_list (view value.now)) }
+{
+    match value.as_array() {
+        Some(list) => texts_in(alloc, list),
+        None => Ok(None),
+    }
+}
+
 fn keys_in(alloc: Global, value: &Value) -> Result<Option<Keys>, NoMemory>
     ensures { IfOk result (λ keys. keys ≡ spec.keys_in (view value.now)) }
 {
-    match value.as_array() {
-        Some(list) => Ok(these(texts_in(alloc, list)?)),
-        None => Ok(None),
-    }
+    Ok(these(text_list(alloc, value)?))
 }
 
 /// The last parameter, which may be left out.

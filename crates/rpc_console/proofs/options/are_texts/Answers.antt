@@ -1,9 +1,8 @@
 use Rattle.std.proofs.Common.{◌≡◌, [], ◌∷◌, ◌++◌, true, false, sym, ap, ◌∙◌, append_assoc}
-use Rattle.std.specs.Prelude.{Bool, List, ℕ, is_some}
+use Rattle.std.specs.Prelude.{is_some}
 use Rattle.serde_json.proofs.Views.{Entry}
 use Rattle.serde_json.specs.Find.{as_str}
-use Rattle.serde_json.specs.View.{view, members_view}
-use Rattle.rpc_console.specs.Options.{are_texts}
+use Rattle.serde_json.specs.View.{view}
 use Rattle.rpc_console.proofs.OptionLemmas.{texts_more, texts_broken}
 use Rattle.rpc_console.proofs.options.are_texts.Goals as goal
 

@@ -1,8 +1,7 @@
 use Rattle.std.proofs.Common.{◌≡◌, [], ◌∷◌, ◌++◌, sym, ap, ◌∙◌, subst, append_assoc}
-use Rattle.option_set.specs.declared.setting.Assigned.{Assigned}
 use Rattle.serde_json.proofs.Views.{Entry}
 use Rattle.serde_json.specs.View.{view, members_view}
-use Rattle.std.specs.Prelude.{List, ℕ, string_bytes}
+use Rattle.std.specs.Prelude.{string_bytes}
 use Rattle.rpc_console.specs.Options.{AreSettings, Sets, RefusesOption, RefusesSettings}
 use Rattle.rpc_console.proofs.OptionLemmas.{settings_more, refused_at, refused_as}
 use Rattle.rpc_console.proofs.options.settings_in.Goals as goal
