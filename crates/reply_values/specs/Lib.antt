@@ -1,0 +1,5 @@
+pub mod Members
+pub mod OutcomeLaws
+pub mod Outcomes
+pub mod Views
+pub mod WorkedTexts
