@@ -1,0 +1,5 @@
+pub mod Requests
+pub mod Streams
+pub mod StreamLaws
+pub mod Next
+pub mod Responses

@@ -1,0 +1,12 @@
+//! Requests to the console, one behind another in the bytes of a connection, and the texts of their responses.
+#![tactic(auto)]
+
+mod laws;
+mod next;
+mod refusal;
+mod response;
+
+pub use laws::requests_are_one_and_stay;
+pub use next::{NextRequest, next_request};
+pub use refusal::Refusal;
+pub use response::{refusal_response, served_response};
