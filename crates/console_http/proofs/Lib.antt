@@ -1,0 +1,9 @@
+mod Sending
+mod Steps
+mod Waiting
+mod Outcomes
+mod Showing
+mod Calling
+mod Serving
+mod Visiting
+mod AllVisits

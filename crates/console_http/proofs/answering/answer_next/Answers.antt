@@ -1,0 +1,8 @@
+use Rattle.console_http.proofs.Steps.{turned_off}
+use Rattle.console_http.proofs.answering.answer_next.Goals as goal
+
+pub returns-in-TurnedAway-clause-advances : goal.returns-in-TurnedAway-clause-advances
+returns-in-TurnedAway-clause-advances g c =
+    turned_off g.S.Caller.at g.S.Session.asks g.A.Doors c.in-TurnedAway.refusal c.in-TurnedAway.ensures.0 c.args.session.now
+    c.args.desk.now c.args.door.now c.turn_away.new.door c.args.intake.now c.turn_away.result c.in-TurnedAway.ensures.1
+    c.turn_away.ensures.turned_away

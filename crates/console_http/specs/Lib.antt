@@ -1,0 +1,9 @@
+pub mod Ends
+pub mod Readings
+pub mod Sessions
+pub mod Receiving
+pub mod Responding
+pub mod Answering
+pub mod Talks
+pub mod Conversations
+pub mod Visits

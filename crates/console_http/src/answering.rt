@@ -1,0 +1,132 @@
+// The request at the front of what came.
+ghost use Rattle.std.specs.Prelude.{◌≡◌, ◌≤◌, length, slice_range, true, IsTrue};
+ghost use Rattle.request_stream.specs.Next.{IsServedBetween};
+ghost use Rattle.request_stream.specs.Responses.{served_response, refusal_response};
+ghost use Rattle.rpc_envelope.specs.Answers.{answer_text, read_bytes};
+ghost use Rattle.rpc_envelope.specs.Asks.{found_calls};
+ghost use Rattle.rpc_envelope.specs.Turns.{Walked};
+ghost use Rattle.console_http.specs.Answering.{HasResponded, HasTurnedAway};
+ghost use Rattle.console_http.specs.Readings.{console_at, door_at};
+ghost use Rattle.console_http.specs.Talks.{HasAdvanced};
+
+use crate::ends::{ConnectionEnd, end_by_error};
+use crate::intake::Intake;
+use crate::session::Session;
+use dl_kinds::{IoErr, NoMemory};
+use door_source::Doors;
+use request_stream::{NextRequest, Refusal, refusal_response, served_response};
+use rpc_envelope::answer_body;
+use std::alloc::Global;
+
+/// What a look at the front came to.
+#[derive(Clone, Copy, Debug, PartialEq, Eq)]
+pub(crate) enum Advance {
+    /// A request was answered, and the connection goes on.
+    Answered,
+    /// No whole request stands there.
+    Waiting,
+    Ended(ConnectionEnd),
+}
+
+// Carries out the calls of a body. The response is what is to be sent.
+fn response_of<T, S: Session<T>>(
+    alloc: Global,
+    desk: &mut T,
+    session: &mut S,
+    body: &[u8],
+) -> Result<Vec<u8>, NoMemory>
+    ensures { Walked (S.at session.old desk.old) (S.at session.new desk.new)
+        (found_calls (read_bytes body.now)) result
+        (λ text came. text.items ≡ served_response (answer_text (read_bytes body.now) came)) }
+{
+    let answer = answer_body(alloc, desk, session, body)?;
+    served_response(alloc, answer.as_deref())
+}
+
+// Carries out the calls of a body, and sends the response.
+fn respond<T, S: Session<T>, A: Doors>(
+    alloc: Global,
+    desk: &mut T,
+    session: &mut S,
+    door: &mut A,
+    body: &[u8],
+) -> Result<(), IoErr>
+    requires opened { IsTrue A.tells → (A.state door.old).is_open ≡ true }
+    ensures stays_open { IsTrue A.tells → (A.state door.new).is_open ≡ true }
+    ensures responded { HasResponded S.at A.Doors (found_calls (read_bytes body.now))
+        (λ came. served_response (answer_text (read_bytes body.now) came))
+        (door_at session.old desk.old door.old) (door_at session.new desk.new door.new) result }
+{
+    let text = response_of(alloc, desk, session, body)?;
+    door.send(&text)
+}
+
+// Serves the request whose content stands between the two places.
+fn serve_between<T, S: Session<T>, A: Doors>(
+    alloc: Global,
+    desk: &mut T,
+    session: &mut S,
+    door: &mut A,
+    intake: &mut Intake,
+    from: usize,
+    used: usize,
+    last: bool,
+) -> Advance
+    requires between { IsServedBetween intake.old.most intake.old.unread from used last }
+    requires opened { IsTrue A.tells → (A.state door.old).is_open ≡ true }
+    ensures stays_open { IsTrue A.tells → (A.state door.new).is_open ≡ true }
+    ensures most { intake.new.most ≡ intake.old.most }
+    ensures advances { HasAdvanced S.at S.asks A.Doors
+        (console_at session.old desk.old door.old intake.old)
+        (console_at session.new desk.new door.new intake.new) result }
+{
+    match respond(alloc, desk, session, door, intake.between(from, used)) {
+        Ok(()) => {
+            intake.take_off(used);
+            if last {
+                Advance::Ended(ConnectionEnd::HungUp)
+            } else {
+                Advance::Answered
+            }
+        }
+        Err(error) => Advance::Ended(end_by_error(error)),
+    }
+}
+
+// Sends the response to a request that is turned away.
+fn turn_away<A: Doors>(door: &mut A, refusal: Refusal) -> ConnectionEnd
+    requires opened { IsTrue A.tells → (A.state door.old).is_open ≡ true }
+    ensures stays_open { IsTrue A.tells → (A.state door.new).is_open ≡ true }
+    ensures turned_away { HasTurnedAway A.Doors (refusal_response refusal)
+        door.old door.new result }
+{
+    match door.send(refusal_response(refusal)) {
+        Ok(()) => ConnectionEnd::HungUp,
+        Err(error) => end_by_error(error),
+    }
+}
+
+/// Answers the request at the front, if a whole one stands there.
+pub(crate) fn answer_next<T, S: Session<T>, A: Doors>(
+    alloc: Global,
+    desk: &mut T,
+    session: &mut S,
+    door: &mut A,
+    intake: &mut Intake,
+) -> Advance
+    requires opened { IsTrue A.tells → (A.state door.old).is_open ≡ true }
+    ensures stays_open { IsTrue A.tells → (A.state door.new).is_open ≡ true }
+    ensures most { intake.new.most ≡ intake.old.most }
+    ensures advances { HasAdvanced S.at S.asks A.Doors
+        (console_at session.old desk.old door.old intake.old)
+        (console_at session.new desk.new door.new intake.new) result }
+{
+    match intake.next(alloc) {
+        NextRequest::Served { from, used, last } => {
+            serve_between(alloc, desk, session, door, intake, from, used, last)
+        }
+        NextRequest::TurnedAway(refusal) => Advance::Ended(turn_away(door, refusal)),
+        NextRequest::More => Advance::Waiting,
+        NextRequest::NoMemory => Advance::Ended(ConnectionEnd::Starved),
+    }
+}
