@@ -1,15 +1,3 @@
-pub mod Kept
-pub mod Refused
-pub mod Shown
-pub mod Printed
-pub mod Causes
-pub mod Others
-pub mod Saved
-pub mod Whole
-pub mod Claims
-pub mod Grants
+pub mod Framed
 pub mod Linked
 pub mod Used
-pub mod Rows
-pub mod Turns
-pub mod Ran

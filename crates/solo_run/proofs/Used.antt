@@ -6,17 +6,18 @@ use Rattle.dl_kinds.specs.declared.outside.Sink.{Ghosts as SinkSays}
 use Rattle.link_source.specs.declared.Links.{Ghosts as LinkSays}
 use Rattle.machine_core.specs.declared.events.Event.{Event}
 use Rattle.machine_core.specs.declared.events.Event.TheVariants.{Stopped}
-use Rattle.run_report.specs.declared.endings.RunEnding.{RunEnding}
-use Rattle.run_report.specs.declared.endings.RunEnding.TheVariants.{NoMeaning, NoMetainfo}
-use Rattle.solo_run.specs.Endings.{EndsAsShown, ShowsEnding}
-use Rattle.solo_run.specs.Finishes.{NeverBegan, Ran, RunsOver}
+use Rattle.run_frame.specs.Finishes.{Ran}
+use Rattle.run_frame.specs.Untouched.{OnlyReads}
+use Rattle.run_frame.specs.declared.ended.Ended.{Ended}
 use Rattle.solo_run.specs.LinkCauses.{ShowsFirstLink, ShowsLink}
+use Rattle.solo_run.specs.Runs.{RunsOver}
 use Rattle.solo_run.specs.Untouched.{LeavesUnused}
-use Rattle.solo_run.specs.declared.finish.Ended.{Ended}
-use Rattle.solo_run.proofs.Shown.{IsBegunEnding, began_ends}
-use Rattle.solo_run.proofs.Turns.{none_there}
+use Rattle.solo_run.proofs.Framed.{framed}
 
--- ---- the first of a list
+-- ---- lists
+
+pub none_there : {P : Type 0} → Contains [] Stopped → P
+none_there there = absurd (let within = there.1 in omega (arith, within))
 
 abbrev pub head_or : {A : Type 0} → A → List A → A
 head_or x [] = x
@@ -38,43 +39,26 @@ module _ {D L K O : Type 0} {says : DiskSays D} {links : LinkSays L} {sinks : Si
     {gids : ℕ}
     {disk : D} {out : O} {ended : Ended D} {out' : O} (pair pair' : L × K)
     (runs : RunsOver says links sinks words gids disk pair.0 out ended pair'.0 out') where
-  -- where nothing happened the run never began
-  pub never_of : ((ran : Ran says links sinks words gids disk pair.0 out ended pair'.0 out')
-      → Contains ended.journal.events.items Stopped)
-      → ended.journal.events.items ≡ [] → NeverBegan says links sinks words disk pair.0 out ended pair'.0 out'
-  never_of stopped none = by runs
+  -- where nothing happened the link is as it was
+  link_same : ((ran : Ran says sinks words gids disk out ended out') → Contains ended.journal.events.items Stopped)
+      → ended.journal.events.items ≡ [] → pair'.0 ≡ pair.0
+  link_same stopped none = by runs
     where
-      by : RunsOver says links sinks words gids disk pair.0 out ended pair'.0 out'
-          → NeverBegan says links sinks words disk pair.0 out ended pair'.0 out'
-      by (inl never) = never
-      by (inr ran) = none_there Stopped (subst (λ (es : List Event). Contains es Stopped) none (stopped ran))
+      by : RunsOver says links sinks words gids disk pair.0 out ended pair'.0 out' → pair'.0 ≡ pair.0
+      by (inl never) = never.1
+      by (inr ran) =
+          none_there (subst (λ (es : List Event). Contains es Stopped) none (stopped (framed ran)))
 
-  -- an ending of a run that didn't begin
-  refused_none : (e : RunEnding) → ended.ending ≡ e → (IsBegunEnding e → ⊥) → ended.journal.events.items ≡ []
-  refused_none e is unlike = by runs
-    where
-      by : RunsOver says links sinks words gids disk pair.0 out ended pair'.0 out' → ended.journal.events.items ≡ []
-      by (inl never) = never.journal
-      by (inr ran) = absurd (unlike (subst IsBegunEnding is (began_ends ran)))
-
-  pub unused_pair : ((ran : Ran says links sinks words gids disk pair.0 out ended pair'.0 out')
-      → Contains ended.journal.events.items Stopped)
+  pub unused_pair : ((ran : Ran says sinks words gids disk out ended out') → Contains ended.journal.events.items Stopped)
       → (ended.journal.events.items ≡ [] → pair'.1 ≡ pair.1) → ended.journal.events.items ≡ [] → pair' ≡ pair
-  unused_pair stopped clock none = (λ i. ((never_of stopped none).link_is i, clock none i))
+  unused_pair stopped clock none = (λ i. (link_same stopped none i, clock none i))
 
   pub leaves_unused : (pairs : List (L × K)) → 1 ≤ length pairs → pair ≡ slice_index_or pairs 0 pair
-      → ((ran : Ran says links sinks words gids disk pair.0 out ended pair'.0 out')
-      → Contains ended.journal.events.items Stopped)
-      → (ended.journal.events.items ≡ [] → pair'.1 ≡ pair.1)
-      → EndsAsShown says sinks words gids disk out ended out'
+      → ((ran : Ran says sinks words gids disk out ended out') → Contains ended.journal.events.items Stopped)
+      → (ended.journal.events.items ≡ [] → pair'.1 ≡ pair.1) → OnlyReads says disk ended
       → LeavesUnused says disk pairs ended (slice_set pairs 0 pair')
-  leaves_unused pairs some first stopped clock shown = record {
-    meaning = λ is. (
-      (subst (ShowsEnding says sinks words gids disk out ended out') is shown.shown).1,
-      refused_none NoMeaning is (λ none. none),
-    );
-    metainfo = λ why is. refused_none (NoMetainfo why) is (λ none. none);
-    disk_read = λ none. (never_of stopped none).is_read;
+  leaves_unused pairs some first stopped clock reads = record {
+    reads = reads;
     all = λ none.
         let same = unused_pair stopped clock none in
         subst (λ (p : L × K). slice_set pairs 0 p ≡ pairs) (sym same) (set_first pairs pair some first);

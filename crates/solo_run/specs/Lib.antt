@@ -1,12 +1,4 @@
-pub mod Ends
-pub mod Begins
 pub mod Runs
-pub mod Finishes
-pub mod Endings
-pub mod Printing
 pub mod Untouched
-pub mod Histories
-pub mod DiskCauses
 pub mod LinkCauses
 pub mod Headline
-pub mod HeadlineLaws

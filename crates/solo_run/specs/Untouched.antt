@@ -1,18 +1,14 @@
 -- What a run over one link leaves as it was.
 use Rattle.std.specs.Prelude.{◌≡◌, List, [], drop, length}
 use Rattle.dl_disk.specs.declared.disk.Disk.{Ghosts as DiskSays}
-use Rattle.run_report.specs.declared.endings.MetainfoFault.{MetainfoFault}
-use Rattle.run_report.specs.declared.endings.RunEnding.TheVariants.{NoMeaning, NoMetainfo}
-use Rattle.solo_run.specs.Begins.{IsRead}
-use Rattle.solo_run.specs.declared.finish.Ended.{Ended}
+use Rattle.run_frame.specs.Untouched.{OnlyReads}
+use Rattle.run_frame.specs.declared.ended.Ended.{Ended}
 
 module _ {D P : Type 0} (says : DiskSays D) (disk : D) (links : List P) (ended : Ended D) (links' : List P) where
   -- Where nothing happened the disk was read at most, and where the words have no meaning it wasn't called. Only the
   -- first link is ever used, and that only where something happened.
   pub record LeavesUnused : Type 0 where
-    pub meaning : ended.ending ≡ NoMeaning → (ended.disk ≡ disk) × (ended.journal.events.items ≡ [])
-    pub metainfo : (why : MetainfoFault) → ended.ending ≡ NoMetainfo why → ended.journal.events.items ≡ []
-    pub disk_read : ended.journal.events.items ≡ [] → IsRead says disk ended.disk
+    pub reads : OnlyReads says disk ended
     pub all : ended.journal.events.items ≡ [] → links' ≡ links
     pub others : drop 1 links' ≡ drop 1 links
     pub many : length links' ≡ length links

@@ -1,36 +1,26 @@
 // A run over one link.
 ghost use Rattle.std.specs.Prelude.{◌≡◌, ◌≤◌, IsTrue, length, map, string_bytes};
-ghost use Rattle.solo_run.specs.DiskCauses.{LeavesOtherFiles, ShowsDisk};
-ghost use Rattle.solo_run.specs.Endings.{EndsAsShown};
-ghost use Rattle.solo_run.specs.Headline.{DoesAlone, SurvivesRun, ended_of};
-ghost use Rattle.solo_run.specs.Histories.{IsHistory};
+ghost use Rattle.run_frame.specs.DiskCauses.{LeavesOtherFiles, ShowsDisk};
+ghost use Rattle.run_frame.specs.Endings.{EndsAsShown};
+ghost use Rattle.run_frame.specs.Histories.{IsHistory};
+ghost use Rattle.run_frame.specs.Printing.{PrintsText};
+ghost use Rattle.run_frame.specs.Results.{ended_of};
+ghost use Rattle.run_frame.specs.Survivals.{SurvivesRun};
+ghost use Rattle.solo_run.specs.Headline.{DoesAlone};
 ghost use Rattle.solo_run.specs.LinkCauses.{ShowsFirstLink};
-ghost use Rattle.solo_run.specs.Printing.{PrintsText};
 ghost use Rattle.solo_run.specs.Untouched.{LeavesUnused};
 
-use crate::finish::{Ended, run_over};
-use crate::laws::{
-    begun_runs_are_stopped, runs_end_as_shown, runs_have_whole_histories, runs_leave_other_files,
-    runs_print_one_text, runs_show_their_disk, runs_show_their_link, runs_survive_crashes,
-};
+use crate::over::run_over;
 use dl_clock::Clock;
 use dl_disk::Disk;
 use dl_kinds::Sink;
 use link_source::Links;
-use machine_core::Journal;
-use run_report::RunEnding;
+use run_frame::{
+    Ended, Finished, begun_runs_are_stopped, losses_come_of_workers, runs_end_as_shown,
+    runs_have_whole_histories, runs_leave_other_files, runs_print_one_text, runs_show_their_disk,
+    runs_survive_crashes, unbegun_runs_only_read, workers_show_their_link,
+};
 use std::alloc::Global;
-
-/// How a run ended, and all that it was given.
-pub struct Finished<D, L, K, A> {
-    /// The exit status of the program is its code.
-    pub ending: RunEnding,
-    pub disk: D,
-    pub links: Vec<(L, K)>,
-    pub doors: Vec<(A, K)>,
-    /// What happened: nothing where the run ended before it began.
-    pub journal: Journal,
-}
 
 /// The run of these words, which stand behind the program's name, over the first link. Doors aren't used. `gids` is what the ids
 /// of downloads are made from.
@@ -69,14 +59,16 @@ pub fn run_alone<D: Disk, L: Links, K: Clock, A, O: Sink>(
     ensures untouched { LeavesUnused D.Disk disk links.items (ended_of result) result.links.items }
     ensures doors { result.doors ≡ doors }
 {
-    begun_runs_are_stopped::<D, L, O>();
-    runs_end_as_shown::<D, L, O>();
-    runs_print_one_text::<D, L, O>();
-    runs_have_whole_histories::<D, L, O>();
-    runs_show_their_disk::<D, L, O>();
-    runs_leave_other_files::<D, L, O>();
-    runs_show_their_link::<D, L, O>();
-    runs_survive_crashes::<D, L, O>();
+    begun_runs_are_stopped::<D, O>();
+    runs_end_as_shown::<D, O>();
+    runs_print_one_text::<D, O>();
+    runs_have_whole_histories::<D, O>();
+    runs_show_their_disk::<D, O>();
+    runs_leave_other_files::<D, O>();
+    losses_come_of_workers::<D, O>();
+    workers_show_their_link::<D, L, O>();
+    runs_survive_crashes::<D, O>();
+    unbegun_runs_only_read::<D, O>();
     let mut links = links;
     let (link, clock) = &mut links[0];
     let Ended {

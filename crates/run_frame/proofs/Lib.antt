@@ -1,0 +1,16 @@
+pub mod FirstTurn
+pub mod Kept
+pub mod Refused
+pub mod Shown
+pub mod Printed
+pub mod Causes
+pub mod Others
+pub mod Saved
+pub mod Whole
+pub mod Claims
+pub mod Grants
+pub mod Linked
+pub mod OnlyRead
+pub mod Rows
+pub mod Turns
+pub mod Ran

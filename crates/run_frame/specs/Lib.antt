@@ -1,0 +1,14 @@
+pub mod Ends
+pub mod Begins
+pub mod Stops
+pub mod Finishes
+pub mod Results
+pub mod Endings
+pub mod Printing
+pub mod Untouched
+pub mod Histories
+pub mod DiskCauses
+pub mod LinkCauses
+pub mod Survivals
+pub mod FrameLaws
+pub mod LinkLaws

@@ -1,0 +1,64 @@
+-- A run over one link is a run of its frame.
+use Rattle.std.proofs.Common.{◌≡◌, inl, inr, ℕ, Bool, true, false, List, [], ◌∷◌, ◌++◌, sym, ap, ◌∙◌, subst}
+use Rattle.std.specs.Prelude.{◌||◌}
+use Rattle.std.proofs.lemmas.Bool.{false≢true}
+use Rattle.dl_disk.specs.declared.disk.Disk.{Ghosts as DiskSays}
+use Rattle.dl_kinds.specs.declared.outside.Sink.{Ghosts as SinkSays}
+use Rattle.engine_core.specs.EngineViews.{EngineStart, EngineView}
+use Rattle.engine_turns.specs.Told.{RunTurn}
+use Rattle.engine_turns.specs.declared.operations.Answer.{Answer}
+use Rattle.link_source.specs.declared.Links.{Ghosts as LinkSays}
+use Rattle.machine_core.specs.declared.events.Event.{Event}
+use Rattle.turn_desk.specs.declared.turn.Given.{Given}
+use Rattle.run_frame.specs.Begins.{is_no_memory}
+use Rattle.run_frame.specs.Finishes.{IsWholeRun, Ran}
+use Rattle.run_frame.specs.Stops.{IsAfter, StopsRun, ends_short}
+use Rattle.run_frame.specs.declared.ended.Ended.{Ended}
+use Rattle.conn_worker.specs.Works.{RunSight}
+use Rattle.solo_run.specs.Runs.{RanOver, RunsOver, WorksThrough}
+
+pub second_false : (a b : Bool) → (a || b) ≡ false → b ≡ false
+second_false false b is = is
+second_false true b is = absurd (false≢true (sym is))
+
+module _ {D L : Type 0} {says : DiskSays D} {links : LinkSays L} {s : RunSight D} {link : L} {v : EngineView D} {link' : L}
+    {short : Bool} (works : WorksThrough says links s link v link' short) where
+  pub given_same : works.end.given ≡ s.given
+  given_same = works.stop.given ∙ works.worked.went.given
+
+  -- the turns of the worker
+  abbrev pub middle : List RunTurn
+  middle = works.worked.worked ++ works.worked.stop
+
+  pub own_is : works.end.own ≡ (s.own ++ middle) ++ works.stop.turn ∷ []
+  own_is = works.stop.own ∙ ap (λ (ts : List RunTurn). ts ++ works.stop.turn ∷ []) works.worked.went.own
+
+  abbrev pub stops_run : StopsRun says s v short
+  stops_run = record {
+    middle = middle;
+    last = works.stop.turn;
+    op = works.stop.op_is;
+    said = λ none. ap (λ (a : Answer). is_no_memory a.said) works.stop.answer_is
+        ∙ second_false (ends_short works.came) (is_no_memory works.answer.said) (sym works.short_is ∙ none);
+    after = subst (λ (g : Given (EngineStart D) Event).
+        IsAfter says g ((s.own ++ middle) ++ works.stop.turn ∷ []) v) given_same
+        (subst (λ (ts : List RunTurn). IsAfter says works.end.given ts v) own_is works.after);
+  }
+
+module _ {D L O : Type 0} {says : DiskSays D} {links : LinkSays L} {sinks : SinkSays O} {words : List (List ℕ)}
+    {gids : ℕ} {disk : D} {link : L} {out : O} {ended : Ended D} {link' : L} {out' : O} where
+  abbrev pub framed : RanOver says links sinks words gids disk link out ended link' out'
+      → Ran says sinks words gids disk out ended out'
+  framed ran = record {
+    begun = ran.begun;
+    begins = ran.begins;
+    engine = ran.goes.engine;
+    short = ran.goes.work_short;
+    stops = stops_run ran.goes.works;
+    finishes = ran.goes.finishes;
+  }
+
+  pub whole : RunsOver says links sinks words gids disk link out ended link' out'
+      → IsWholeRun says sinks words gids disk out ended out'
+  whole (inl never) = inl never.0
+  whole (inr ran) = inr (framed ran)

@@ -1,0 +1,62 @@
+// The run over a link.
+ghost use Rattle.std.specs.Prelude.{◌≡◌, ◌||◌, [], map, string_bytes};
+ghost use Rattle.solo_run.specs.Runs.{GoesThrough, RunsOver};
+
+use crate::work::{Worked, work_through};
+use dl_clock::Clock;
+use dl_disk::Disk;
+use dl_kinds::Sink;
+use link_source::Links;
+use machine_core::Journal;
+use run_frame::{Begun, Ended, Unbegun, begin, begun_runs_are_stopped, finish, refuse};
+use std::alloc::Global;
+
+fn either(first: bool, second: bool) -> bool
+    ensures { result ≡ first || second }
+{
+    first || second
+}
+
+// Works over the link, and ends the run.
+fn go_through<D: Disk, L: Links, K: Clock, O: Sink>(
+    alloc: Global,
+    begun: Begun<D>,
+    link: &mut L,
+    clock: &mut K,
+    out: &mut O,
+) -> Ended<D>
+    ensures { GoesThrough D.Disk L.Links O.Sink begun link.old out.old result link.new out.new }
+{
+    let Begun { desk, is_short } = begun;
+    let worked = work_through(alloc, desk, link, clock);
+    let Worked {
+        engine,
+        is_short: is_work_short,
+    } = worked;
+    finish(alloc, engine, either(is_short, is_work_short), out)
+}
+
+/// The run of these words over a link.
+pub(crate) fn run_over<D: Disk, L: Links, K: Clock, O: Sink>(
+    alloc: Global,
+    words: &[String],
+    disk: D,
+    link: &mut L,
+    clock: &mut K,
+    gids: u64,
+    out: &mut O,
+) -> Ended<D>
+    ensures runs { RunsOver D.Disk L.Links O.Sink (map string_bytes words.now) gids disk
+        link.old out.old result link.new out.new }
+    ensures clock { result.journal.events.items ≡ [] → clock.new ≡ clock.old }
+{
+    begun_runs_are_stopped::<D, O>();
+    match begin(alloc, words, disk, gids) {
+        Ok(begun) => go_through(alloc, begun, link, clock, out),
+        Err(Unbegun { ending, disk }) => Ended {
+            ending: refuse(alloc, ending, out),
+            disk,
+            journal: Journal::new(alloc),
+        },
+    }
+}
