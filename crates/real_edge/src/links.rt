@@ -11,7 +11,7 @@ use std::net::{Net, TcpStream, ToSocketAddrs};
 use std::time::Duration;
 
 // A mirror that is silent for so long is taken for dead.
-const PATIENCE_SECONDS: u64 = 60;
+pub(crate) const PATIENCE_SECONDS: u64 = 60;
 
 /// Connections over TCP. Nothing is told of what they give.
 ///
@@ -91,7 +91,7 @@ impl<'a, R: Net<Stream = TcpStream>> Links for TcpLinks<'a, R> {
 }
 
 // A read that a signal broke off is made again.
-fn read_some(stream: &mut TcpStream, into: &mut [u8]) -> io::Result<usize>
+pub(crate) fn read_some(stream: &mut TcpStream, into: &mut [u8]) -> io::Result<usize>
     ensures { IfOk result (λ count. count ≤ length into.new) }
 {
     for _ in 0..u64::MAX {
@@ -110,6 +110,6 @@ fn without_brackets(host: &str) -> &str {
         .unwrap_or(host)
 }
 
-fn not_connected() -> io::Error {
+pub(crate) fn not_connected() -> io::Error {
     io::Error::from(ErrorKind::NotConnected)
 }

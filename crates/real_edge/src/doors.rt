@@ -1,0 +1,126 @@
+// The real door: one TCP connection at a time from a listener that the doors of a run share.
+ghost use Rattle.door_source.specs.Doors.{no_door};
+ghost use Rattle.std.specs.Prelude.{false};
+
+use crate::faults::Faults;
+use crate::links::{PATIENCE_SECONDS, not_connected, read_some};
+use dl_kinds::IoErr;
+use door_source::{Came, Doors};
+use std::io::{ErrorKind, Write};
+use std::net::{Net, OpenListener, SocketAddr, TcpListener, TcpStream};
+use std::time::Duration;
+use std::{io, thread, time};
+
+// For so long a door waits for a connection before it answers that nobody came.
+const ACCEPT_LOOKS: u32 = 20;
+
+const LOOK_MS: u64 = 5;
+
+/// Listens on an address of this machine, for the doors of a run.
+pub fn listen_on<R: Net>(rt: &R, address: SocketAddr) -> io::Result<R::Listener> {
+    let listener = rt.bind(address)?;
+    listener.set_nonblocking(true)?;
+    Ok(listener)
+}
+
+/// Connections of clients over TCP, from a listener that `listen_on` made. Nothing is told of what they bring. Where there is no
+/// listener each `accept` fails.
+///
+/// Nobody comes where no client has connected for 100 milliseconds. A connection that neither gives nor takes a byte for 60 seconds
+/// fails.
+#[derive(Drop)]
+pub struct TcpDoors<'a, R: Net<Stream = TcpStream, Listener = TcpListener> + time::Clock> {
+    rt: &'a R,
+    listener: Option<&'a TcpListener>,
+    stream: Option<TcpStream>,
+    faults: Faults,
+}
+
+impl<'a, R: Net<Stream = TcpStream, Listener = TcpListener> + time::Clock> TcpDoors<'a, R> {
+    pub fn new(rt: &'a R, listener: Option<&'a TcpListener>) -> Self {
+        TcpDoors {
+            rt,
+            listener,
+            stream: None,
+            faults: Faults::new(),
+        }
+    }
+
+    // The next connection, if one comes in time.
+    fn wait_for_one(&self) -> io::Result<Option<TcpStream>> {
+        let Some(listener) = self.listener else {
+            return Err(not_connected());
+        };
+        for _ in 0..ACCEPT_LOOKS {
+            match listener.accept() {
+                Ok((stream, _)) => return Ok(Some(patient(stream)?)),
+                Err(e) if is_passing(e.kind()) => {
+                    thread::sleep(self.rt, Duration::from_millis(LOOK_MS));
+                }
+                Err(e) => return Err(e),
+            }
+        }
+        Ok(None)
+    }
+}
+
+// A client that went away before it was taken, or a signal, is no fault of the listener.
+fn is_passing(kind: ErrorKind) -> bool {
+    matches!(
+        kind,
+        ErrorKind::WouldBlock | ErrorKind::Interrupted | ErrorKind::ConnectionAborted
+    )
+}
+
+// Answers are small, and are to go out at once.
+fn patient(stream: TcpStream) -> io::Result<TcpStream> {
+    let patience = Duration::from_secs(PATIENCE_SECONDS);
+    stream.set_nonblocking(false)?;
+    stream.set_nodelay(true)?;
+    stream.set_read_timeout(Some(patience))?;
+    stream.set_write_timeout(Some(patience))?;
+    Ok(stream)
+}
+
+impl<'a, R: Net<Stream = TcpStream, Listener = TcpListener> + time::Clock> Doors
+    for TcpDoors<'a, R> {
+    ghost tells = { false };
+
+    ghost state = { λ _. no_door };
+
+    ghost faults = { λ door. door.faults.count };
+
+    fn faults(&self) -> u64 {
+        self.faults.count
+    }
+
+    fn accept(&mut self) -> Result<Came, IoErr> {
+        self.stream = None;
+        let outcome = self.wait_for_one();
+        self.stream = self.faults.note(outcome)?;
+        match self.stream {
+            Some(_) => Ok(Came::Somebody),
+            None => Ok(Came::Nobody),
+        }
+    }
+
+    fn recv(&mut self, into: &mut [u8]) -> Result<usize, IoErr> {
+        let outcome = match &mut self.stream {
+            Some(stream) => read_some(stream, into),
+            None => Err(not_connected()),
+        };
+        self.faults.note(outcome)
+    }
+
+    fn send(&mut self, bytes: &[u8]) -> Result<(), IoErr> {
+        let outcome = match &mut self.stream {
+            Some(stream) => stream.write_all(bytes),
+            None => Err(not_connected()),
+        };
+        self.faults.note(outcome)
+    }
+
+    fn hang_up(&mut self) {
+        self.stream = None;
+    }
+}
