@@ -2,13 +2,12 @@
 use Rattle.std.proofs.Common.{◌≡◌, ⊎_elim, Bool, true, List, [], ◌∷◌, Some, refl, sym, ap, ◌∙◌, subst}
 use Rattle.std.specs.Prelude.{Contains}
 use Rattle.std.proofs.lemmas.List.Elements.{All-contains}
-use Rattle.control_file.specs.declared.want.Want.{Want}
 use Rattle.dl_disk.specs.State.{DiskState}
 use Rattle.dl_history.specs.PayloadParts.{is_opened}
 use Rattle.dl_kinds.specs.declared.gid.Gid.{Gid}
 use Rattle.engine_turns.specs.RunTurns.{MayComeAfter, answer_before, turn_start}
 use Rattle.engine_turns.specs.Standings.{standing_after}
-use Rattle.engine_turns.specs.Told.{RunTurn, history_after, history_of}
+use Rattle.engine_turns.specs.Told.{RunTurn, history_of}
 use Rattle.engine_turns.specs.TurnLaws.{HandedAreActive}
 use Rattle.engine_turns.specs.declared.operations.Operation.{Operation}
 use Rattle.engine_turns.specs.declared.operations.Operation.TheVariants as operation

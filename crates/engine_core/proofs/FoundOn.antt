@@ -1,6 +1,5 @@
 -- What an operation found on the disk, from its beginning on.
-use Rattle.std.proofs.Common.{◌≡◌, Option, Some, None, List, sym, ◌∙◌, subst}
-use Rattle.dl_disk.specs.Files.{Files}
+use Rattle.std.proofs.Common.{◌≡◌, Some, None, List, sym, ◌∙◌, subst}
 use Rattle.dl_disk.specs.State.{DiskState}
 use Rattle.dl_kinds.specs.declared.gid.Gid.{Gid}
 use Rattle.machine_core.specs.Claiming.{next_to_open}

@@ -5,14 +5,12 @@ use Rattle.std.specs.List.{list_any}
 use Rattle.dl_kinds.specs.declared.claims.Claim.{Claim}
 use Rattle.dl_kinds.specs.declared.gid.Gid.{Gid}
 use Rattle.dl_kinds.specs.declared.marks.Mark.{Mark}
-use Rattle.dl_kinds.specs.declared.runs.Moment.{Moment}
-use Rattle.dl_kinds.specs.declared.runs.Run.{Run}
 use Rattle.engine_turns.specs.CallRows.{CallRow, LeaveRow, StopRow, left_events, stop_events}
 use Rattle.engine_turns.specs.ClaimRows.{LoseRow, MoreRow, SizedRow, sole_phase}
 use Rattle.engine_turns.specs.NextRows.{IsFaulted, NextRow, OfferRow, OpenRow, whole_row}
 use Rattle.engine_turns.specs.Phases.{AfterDisk, AndThen, CheckedPhase, CompletionPhase, DeadPhase, EndingOr, FindingPhase, IfElse, IsSaveOrFault, JustEnd, JustEvent, NoEvent, OpeningPhase, SavePhase, SavesPhase, SettlingPhase, TurnStart, UnlistingPhase, WrongPhase, after_finding_phase}
 use Rattle.engine_turns.specs.RunTurns.{IsAnswered, OperationRow}
-use Rattle.engine_turns.specs.SealRows.{IsSettled, SealPhase, SealRow, has_listed_digest}
+use Rattle.engine_turns.specs.SealRows.{IsSettled, SealRow, has_listed_digest}
 use Rattle.engine_turns.specs.Standings.{AnswersOnly, OfClaim, RunStanding}
 use Rattle.engine_turns.specs.Told.{history_after}
 use Rattle.engine_turns.specs.declared.operations.Operation.{Operation}

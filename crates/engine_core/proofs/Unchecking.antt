@@ -1,5 +1,5 @@
 -- Operations that check no whole payload.
-use Rattle.std.proofs.Common.{◌≡◌, ⊎_elim, ℕ, zero, suc, Bool, true, false, Option, Some, None, List, [], ◌∷◌, ◌++◌, refl, sym, subst}
+use Rattle.std.proofs.Common.{◌≡◌, ⊎_elim, ℕ, zero, suc, Bool, true, false, Option, Some, None, List, [], ◌∷◌, sym, subst}
 use Rattle.std.specs.Prelude.{Contains}
 use Rattle.std.specs.List.{list_any}
 use Rattle.dl_disk.specs.State.{DiskState}
@@ -25,7 +25,7 @@ use Rattle.machine_core.specs.Starts.{Download}
 use Rattle.machine_core.specs.declared.calls.Call.{Call}
 use Rattle.machine_core.specs.declared.ends.End.TheVariants as end
 use Rattle.machine_core.specs.declared.events.Event.{Event}
-use Rattle.machine_core.specs.declared.events.Event.TheVariants.{Called, Checked, Cleared, Ended, Left, Lost, Saved, Sized, Stopped}
+use Rattle.machine_core.specs.declared.events.Event.TheVariants.{Called, Checked, Cleared, Ended, Lost, Saved, Sized}
 use Rattle.stored_run.specs.Checks.{IsCheckedBy}
 use Rattle.stored_run.specs.Settlings.{CameBetween}
 use Rattle.stored_run.specs.declared.run.StoredView.{StoredView}

@@ -1,5 +1,5 @@
 -- What a turn wrote is as its events tell.
-use Rattle.std.proofs.Common.{◌≡◌, ⊎_elim, ℕ, true, List, ◌∷◌, Some, drop, sym, ap, ◌∙◌, subst, take, Option}
+use Rattle.std.proofs.Common.{◌≡◌, ⊎_elim, ℕ, true, List, ◌∷◌, Some, drop, sym, ◌∙◌, subst, take, Option}
 use Rattle.std.specs.Prelude.{◌+◌, ◌-◌, Contains}
 use Rattle.control_file.specs.declared.want.Want.{Want}
 use Rattle.dl_disk.specs.Files.{Files}
