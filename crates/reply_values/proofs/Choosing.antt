@@ -25,4 +25,5 @@ pub picked : (keys : Keys) (entries : List Entry)
     → members_view (filter (is_entry_chosen keys) entries) ≡ pick keys (members_view entries)
 picked keys [] = refl
 picked keys (entry ∷ entries) =
-    first_picked (is_entry_chosen keys entry) entry (filter (is_entry_chosen keys) entries) (pick keys (members_view entries)) (picked keys entries)
+    first_picked (is_entry_chosen keys entry) entry (filter (is_entry_chosen keys) entries)
+    (pick keys (members_view entries)) (picked keys entries)

@@ -55,41 +55,48 @@ files_plain files = mapped_plain file_data file_plain files
 
 -- ---- members
 
-pick_by : (chosen : Bool) (name : List ℕ) (d : Data) (others : Members) → has_float d ≡ false → members_have_float others ≡ false
-    → members_have_float (if chosen then member name d others else others) ≡ false
+abbrev ArePlain : Members → Type 0
+ArePlain members = members_have_float members ≡ false
+
+pick_by : (chosen : Bool) (name : List ℕ) (d : Data) (others : Members) → has_float d ≡ false → ArePlain others
+    → ArePlain (if chosen then member name d others else others)
 pick_by true name d others e f = neither _ _ e f
 pick_by false name d others e f = f
 
-picked_plain : (keys : Keys) (members : Members) → members_have_float members ≡ false → members_have_float (pick keys members) ≡ false
+picked_plain : (keys : Keys) (members : Members) → ArePlain members → ArePlain (pick keys members)
 picked_plain keys no_members e = refl
 picked_plain keys (member name d others) e =
-    pick_by (is_chosen keys name) name d (pick keys others) (first_plain _ _ e) (picked_plain keys others (second_plain (has_float d) _ e))
+    pick_by (is_chosen keys name) name d (pick keys others) (first_plain _ _ e)
+    (picked_plain keys others (second_plain (has_float d) _ e))
 
-joined_plain : (front back : List NamedData) → members_have_float (members_in_order front) ≡ false → members_have_float (members_in_order back) ≡ false
-    → members_have_float (members_in_order (front ++ back)) ≡ false
+joined_plain : (front back : List NamedData) → ArePlain (members_in_order front) → ArePlain (members_in_order back)
+    → ArePlain (members_in_order (front ++ back))
 joined_plain [] back e f = f
 joined_plain (named ∷ front) back e f =
     neither _ _ (first_plain _ _ e) (joined_plain front back (second_plain (has_float named.1) _ e) f)
 
-text_if_plain : (name : List ℕ) (text : Option (List ℕ)) → members_have_float (members_in_order (named_if name (option_map string text))) ≡ false
+text_if_plain : (name : List ℕ) (text : Option (List ℕ))
+    → ArePlain (members_in_order (named_if name (option_map string text)))
 text_if_plain name None = refl
 text_if_plain name (Some text) = refl
 
-number_if_plain : (name : List ℕ) (number : Option ℕ) → members_have_float (members_in_order (named_if name (option_map decimal_data number))) ≡ false
+number_if_plain : (name : List ℕ) (number : Option ℕ)
+    → ArePlain (members_in_order (named_if name (option_map decimal_data number)))
 number_if_plain name None = refl
 number_if_plain name (Some number) = refl
 
-errors_plain : (status : StatusView) → members_have_float (members_in_order (error_members status)) ≡ false
+errors_plain : (status : StatusView) → ArePlain (members_in_order (error_members status))
 errors_plain status =
     joined_plain (named_if (codes "errorCode") (option_map decimal_data status.error_code))
     (named_if (codes "errorMessage") (option_map string status.error_message))
     (number_if_plain (codes "errorCode") status.error_code) (text_if_plain (codes "errorMessage") status.error_message)
 
-payload_plain : (status : StatusView) → members_have_float (members_in_order (payload_members status)) ≡ false
+payload_plain : (status : StatusView) → ArePlain (members_in_order (payload_members status))
 payload_plain status =
-    neither (has_float (files_data status.files)) _ (files_plain status.files) (text_if_plain (codes "infoHash") status.info_hash)
+    neither (has_float (files_data status.files)) _ (files_plain status.files)
+    (text_if_plain (codes "infoHash") status.info_hash)
 
-members_plain : (status : StatusView) → members_have_float (status_members status) ≡ false
+members_plain : (status : StatusView) → ArePlain (status_members status)
 members_plain status =
     let from_files = payload_members status ++ length_members status in
     let from_errors = error_members status ++ from_files in
@@ -104,24 +111,27 @@ status_plain keys status = picked_plain keys (status_members status) (members_pl
 
 -- ---- options
 
-put_by : (order : Ordering) (name other : List ℕ) (d e : Data) (rest put_rest : Members) → has_float d ≡ false → has_float e ≡ false
-    → members_have_float rest ≡ false → members_have_float put_rest ≡ false
-    → members_have_float (match_ordering order (member name d (member other e rest)) (member other d rest) (member other e put_rest)) ≡ false
+put_by : (order : Ordering) (name other : List ℕ) (d e : Data) (rest put_rest : Members)
+    → has_float d ≡ false → has_float e ≡ false → ArePlain rest → ArePlain put_rest
+    → ArePlain (match_ordering order (member name d (member other e rest)) (member other d rest)
+    (member other e put_rest))
 put_by Less name other d e rest put_rest p q r s = neither _ _ p (neither _ _ q r)
 put_by Equal name other d e rest put_rest p q r s = neither _ _ p r
 put_by Greater name other d e rest put_rest p q r s = neither _ _ q s
 
-put_plain : (name : List ℕ) (d : Data) (members : Members) → has_float d ≡ false → members_have_float members ≡ false
-    → members_have_float (put name d members) ≡ false
+put_plain : (name : List ℕ) (d : Data) (members : Members) → has_float d ≡ false → ArePlain members
+    → ArePlain (put name d members)
 put_plain name d no_members p q = neither _ _ p refl
 put_plain name d (member other e rest) p q =
     let plain_rest = second_plain (has_float e) _ q in
-    put_by (slice_cmp nat_cmp name other) name other d e rest (put name d rest) p (first_plain _ _ q) plain_rest (put_plain name d rest p plain_rest)
+    put_by (slice_cmp nat_cmp name other) name other d e rest (put name d rest) p (first_plain _ _ q) plain_rest
+    (put_plain name d rest p plain_rest)
 
-options_plain : (pairs : List (List ℕ × List ℕ)) (given : Members) → members_have_float given ≡ false
-    → members_have_float (put_all (map named_text pairs) given) ≡ false
+options_plain : (pairs : List (List ℕ × List ℕ)) (given : Members) → ArePlain given
+    → ArePlain (put_all (map named_text pairs) given)
 options_plain [] given e = e
-options_plain (pair ∷ pairs) given e = options_plain pairs (put pair.0 (string pair.1) given) (put_plain pair.0 (string pair.1) given refl e)
+options_plain (pair ∷ pairs) given e =
+    options_plain pairs (put pair.0 (string pair.1) given) (put_plain pair.0 (string pair.1) given refl e)
 
 -- ---- replies
 

@@ -1,5 +1,5 @@
--- What views are told as: each as an object, with a member for each field, by ascending names. Numbers and truth values are
--- texts (aria2 manual, `aria2.tellStatus`, `aria2.getFiles`, `aria2.getUris`, `aria2.getGlobalStat`).
+-- What views are told as: each as an object, with a member for each field, by ascending names. Numbers and truth
+-- values are texts (aria2 manual, `aria2.tellStatus`, `aria2.getFiles`, `aria2.getUris`, `aria2.getGlobalStat`).
 use Rattle.std.specs.Prelude.{ℕ, List, [], ◌∷◌, ◌++◌, codes, map, option_map}
 use Rattle.rpc_console.specs.declared.asking.Keys.{Keys}
 use Rattle.rpc_envelope.specs.Faults.{status_word}
@@ -18,7 +18,9 @@ uri_word Used = codes "used"
 uri_word Waiting = codes "waiting"
 
 abbrev pub uri_data : UriView → Data
-uri_data uri = object (members_in_order ((codes "status", string (uri_word uri.status)) ∷ (codes "uri", string uri.uri) ∷ []))
+uri_data uri = object (members_in_order (
+    (codes "status", string (uri_word uri.status))
+    ∷ (codes "uri", string uri.uri) ∷ []))
 
 abbrev pub uris_data : List UriView → Data
 uris_data uris = array (items_of (map uri_data uris))

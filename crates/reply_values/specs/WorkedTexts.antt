@@ -1,5 +1,5 @@
 -- Worked replies, and the texts of their values.
-use Rattle.std.specs.Prelude.{◌≡◌, ℕ, List, [], ◌∷◌, true, codes, None, Some}
+use Rattle.std.specs.Prelude.{◌≡◌, ℕ, List, [], ◌∷◌, ◌++◌, true, codes, None, Some}
 use Rattle.dl_kinds.specs.declared.gid.Gid.{Gid}
 use Rattle.dl_kinds.specs.declared.status.Status.TheVariants.{Active, Failed}
 use Rattle.dl_queue.specs.declared.kinds.QueueErr.TheVariants as refusal
@@ -68,18 +68,36 @@ worked_status = record {
   upload_speed = 0;
 }
 
+abbrev pub failed_status : StatusView
+failed_status =
+    record worked_status { error_code = Some 13; error_message = Some (codes "file already exists"); status = Failed }
+
+-- two that are told, one that isn't, and one that no status has
+abbrev pub some_keys : Keys
+some_keys = These (codes "status" ∷ codes "none" ∷ codes "gid" ∷ codes "infoHash" ∷ [])
+
 pub record WorkedTexts : Type 0 where
   pub gid : text_of_reply (reply.Gid worked_gid) ≡ codes "[\"0000000000000abc\"]"
   pub fine : text_of_reply reply.Fine ≡ codes "[\"OK\"]"
   pub position : text_of_reply (reply.Position 7) ≡ codes "[7]"
   pub version : text_of_reply reply.Version ≡ codes "[{\"enabledFeatures\":[],\"version\":\"1.0.0\"}]"
   pub stat : text_of_reply (reply.Stat worked_stat)
-      ≡ codes "[{\"downloadSpeed\":\"1638\",\"numActive\":\"1\",\"numStopped\":\"0\",\"numStoppedTotal\":\"3\",\"numWaiting\":\"2\",\"uploadSpeed\":\"0\"}]"
+      ≡ codes "[{\"downloadSpeed\":\"1638\",\"numActive\":\"1\",\"numStopped\":\"0\",\"numStoppedTotal\":\"3\","
+      ++ codes "\"numWaiting\":\"2\",\"uploadSpeed\":\"0\"}]"
   pub uris : text_of_reply (reply.Uris worked_file.uris)
       ≡ codes "[[{\"status\":\"used\",\"uri\":\"http://m.test/a\"}]]"
   pub options : text_of_reply (reply.Options ((codes "split", codes "5") ∷ (codes "dir", codes "a\"b") ∷ []))
       ≡ codes "[{\"dir\":\"a\\\"b\",\"split\":\"5\"}]"
-  pub chosen : text_with (These (codes "status" ∷ codes "none" ∷ codes "gid" ∷ codes "infoHash" ∷ [])) (reply.Status worked_status)
+  pub status : text_of_reply (reply.Status worked_status)
+      ≡ codes "[{\"bitfield\":\"00\",\"completedLength\":\"16384\",\"connections\":\"1\",\"dir\":\".\","
+      ++ (codes "\"downloadSpeed\":\"1638\",\"files\":[{\"completedLength\":\"0\",\"index\":\"1\","
+      ++ (codes "\"length\":\"20000\",\"path\":\"a\",\"selected\":\"true\",\"uris\":[{\"status\":\"used\","
+      ++ (codes "\"uri\":\"http://m.test/a\"}]}],\"gid\":\"0000000000000abc\",\"numPieces\":\"1\","
+      ++ (codes "\"pieceLength\":\"1048576\",\"status\":\"active\",\"totalLength\":\"20000\","
+      ++ codes "\"uploadLength\":\"0\",\"uploadSpeed\":\"0\"}]"))))
+  pub why_failed : text_with (These (codes "errorMessage" ∷ codes "errorCode" ∷ [])) (reply.Status failed_status)
+      ≡ codes "[{\"errorCode\":\"13\",\"errorMessage\":\"file already exists\"}]"
+  pub chosen : text_with some_keys (reply.Status worked_status)
       ≡ codes "[{\"gid\":\"0000000000000abc\",\"status\":\"active\"}]"
   pub none_chosen : text_with (These []) (reply.Statuses (worked_status ∷ worked_status ∷ [])) ≡ codes "[[{},{}]]"
   pub refused : reply_outcome (reply.Refused (refusal.WrongStatus Failed)) All ≡ failed (WrongStatus Failed)

@@ -90,8 +90,8 @@ fn outcome_of(alloc: Global, reply: &Reply, keys: &Keys) -> Result<Outcome, NoMe
     }
 }
 
-/// What comes of a call by its reply: a value, or the fault of one that changes nothing. Of a status the members are told that
-/// the keys choose. Memory is wanting, too, where it was for the call.
+/// What comes of a call by its reply: a value, or the fault of one that changes nothing. Of a status the members are
+/// told that the keys choose. Memory is wanting, too, where it was for the call.
 pub fn reply_value(alloc: Global, reply: &Reply, keys: &Keys) -> Result<Outcome, NoMemory>
     ensures told { IfOk result (λ outcome.
         outcome_view outcome ≡ reply_outcome reply.now keys.now) }
