@@ -1,0 +1,16 @@
+pub mod Tallies
+pub mod Sources
+pub mod Ordered
+pub mod Marks
+pub mod MarkSums
+pub mod SoleGivers
+pub mod Findings
+pub mod Pauses
+pub mod Landings
+pub mod ClaimCounts
+pub mod RunGrants
+pub mod News
+pub mod EventKinds
+pub mod Totals
+pub mod Bounds
+pub mod WorkedLegal
