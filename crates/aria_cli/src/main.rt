@@ -1,40 +1,88 @@
 //! The downloader over real files, TCP and standard output.
 #![tactic(auto)]
 
+ghost use Rattle.std.specs.Prelude.{◌≡◌, ◌≤◌, IfOk, length};
+ghost use Rattle.aria_top.specs.declared.limits.TheConstants.{MAX_LINKS};
+
+use aria_top::{Finished, needs_of, run};
 use real_edge::{FileDisk, StdClock, StdOut, TcpLinks};
-use solo_run::{Finished, run_alone};
-use std::io::ErrorKind;
+use run_readout::{Progress, WatchedClock, WatchedDisk, WatchedLinks, WatchedSink};
+use std::io::{ErrorKind, IsTerminal, Stderr};
 use std::process::ExitCode;
 use std::random::RandomSource;
 use std::rt::Env;
+use std::sync::Wait;
+use std::thread::Threads;
 use std::{env, io};
 
 // The status where the run can't begin, for want of memory or of a random number.
 const NOT_BEGUN: u8 = 40;
 
+type Link<'a> = WatchedLinks<'a, TcpLinks<'a, HostRuntime>>;
+
+type LinkClock<'a> = WatchedClock<'a, StdClock<'a, HostRuntime>, Stderr>;
+
 fn main(rt: HostRuntime) -> ExitCode {
-    ExitCode::from(download(&rt).unwrap_or(NOT_BEGUN))
+    let progress = Progress::new();
+    ExitCode::from(download(&rt, &rt, &progress).unwrap_or(NOT_BEGUN))
 }
 
-fn download(rt: &HostRuntime) -> io::Result<u8> {
+fn download<'a, R: Threads + Wait + Sync>(
+    threads: &R,
+    rt: &'a HostRuntime,
+    progress: &'a Progress,
+) -> io::Result<u8> {
     let alloc = rt.alloc();
     let words = words(rt)?;
-    let mut links = Vec::new(alloc);
-    links.push((TcpLinks::new(rt), StdClock::new(rt)?))?;
-    let mut gids = [0; 8];
-    rt.fill_bytes(&mut gids)?;
-    let gids = u64::from_ne_bytes(gids);
-    let mut out = StdOut::new(rt.stdout());
-    let disk = FileDisk::new(rt);
-    let doors = Vec::<((), StdClock<HostRuntime>)>::new(alloc);
+    // Words without a meaning need one link, which isn't used.
+    let count = match needs_of(alloc, &words)? {
+        Some(needs) => needs.links,
+        None => 1,
+    };
+    let links = links(rt, progress, count)?;
+    let gids = random_number(rt)?;
+    let mut out = WatchedSink::new(StdOut::new(rt.stdout()), progress, rt.stderr());
+    let disk = WatchedDisk::new(alloc, FileDisk::new(rt), progress);
+    let doors = Vec::<((), _)>::new(alloc);
     let Finished {
         ending,
         disk: _disk,
         links: _links,
         doors: _doors,
         journal: _journal,
-    } = run_alone(alloc, &words, disk, links, doors, gids, &mut out);
+    } = run(threads, alloc, &words, disk, links, doors, gids, &mut out);
     Ok(ending.code())
+}
+
+fn random_number(rt: &HostRuntime) -> io::Result<u64> {
+    let mut bytes = [0; 8];
+    rt.fill_bytes(&mut bytes)?;
+    Ok(u64::from_ne_bytes(bytes))
+}
+
+// A line of progress is drawn where standard error is a terminal, by the clock of the first link.
+fn links<'a>(
+    rt: &'a HostRuntime,
+    progress: &'a Progress,
+    count: u16,
+) -> io::Result<Vec<(Link<'a>, LinkClock<'a>)>>
+    requires { (1 ≤ count) × (count ≤ MAX_LINKS) }
+    ensures { IfOk result (λ links. length links.items ≡ count) }
+{
+    let alloc = rt.alloc();
+    let mut links = Vec::new(alloc);
+    let mut drawn_on = terminal(rt);
+    for _ in 0..count {
+        let link = WatchedLinks::new(TcpLinks::new(rt), progress);
+        let clock = WatchedClock::new(alloc, StdClock::new(rt)?, progress, drawn_on.take());
+        links.push((link, clock))?;
+    }
+    Ok(links)
+}
+
+fn terminal(rt: &HostRuntime) -> Option<Stderr> {
+    let out = rt.stderr();
+    if out.is_terminal() { Some(out) } else { None }
 }
 
 // The words of the command line after the program's name. A word that isn't UTF-8 makes the whole line faulty, as no

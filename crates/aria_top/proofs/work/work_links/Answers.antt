@@ -1,0 +1,34 @@
+use Rattle.std.proofs.Common.{◌≡◌, ℕ, inr, length, refl, rules, subst}
+use Rattle.run_frame.specs.Stops.{IsAfter}
+use Rattle.aria_top.specs.Together.{IsShared}
+use Rattle.aria_top.proofs.work.work_links.Goals as goal
+use Rattle.aria_top.proofs.work.work_links.Goals.{In-Ok}
+
+shared : (g : _) (c : In-Ok g) → IsShared c.args.solo (length c.args.links.items) c.in-Ok.shared
+shared g c =
+    let many : c.len.result ≡ length c.args.links.items = search (c, rules) in
+    subst (λ (n : ℕ). IsShared c.args.solo n c.in-Ok.shared) many c.in-Ok.ensures.ok
+
+pub work_shared-requires-clause-shared : goal.work_shared-requires-clause-shared
+work_shared-requires-clause-shared g c κs within = (c.args.solo, shared g c)
+
+pub returns-in-Ok : goal.returns-in-Ok
+returns-in-Ok g c =
+    c.work_shared.ensures c.args.solo (shared g (goal.at.returns-in-Ok g c).In-Ok) c.requires.first
+
+pub returns-in-Err : goal.returns-in-Err
+returns-in-Err g c =
+    let solo = c.in-Err.solo in
+    let served = c.into_served.ensures in
+    record {
+      turns = c.args.solo.own;
+      worked = inr (record { same = refl; none = refl; short_is = refl });
+      after = subst (λ s. IsAfter g.D.Disk s.given s.own c.into_served.result) c.in-Err.ensures.err
+          (subst (λ ts. IsAfter g.D.Disk solo.given ts c.into_served.result) served.own (record {
+            stands = served.at.stands_for;
+            start = served.at.start_is;
+            events = served.at.entries_are;
+            mark = served.at.mark_is;
+            ties = served.knows.whole;
+          }));
+    }
