@@ -141,7 +141,12 @@ class Room:
         return found
 
     def start(self, *words, program=PROGRAM, out=subprocess.PIPE, shell="", within=()):
-        """The process of the program on these words. A line of shell may come first, another command begin it all."""
+        """The process of the program on these words. A line of shell may come first, another command begin it all.
+
+        It goes by one connection, unless the words say by how many.
+        """
+        if not any(it.startswith(("--split", "-s")) for it in words):
+            words = ("--split=1", *words)
         begin = ["sh", "-c", f'{shell}\nexec "$@"', "sh"] if shell else []
         return subprocess.Popen(
             [*within, *begin, program, *words],
