@@ -6,7 +6,7 @@ ghost use Rattle.aria_top.specs.declared.limits.TheConstants.{MAX_LINKS};
 
 use aria_top::{Finished, needs_of, run};
 use real_edge::{FileDisk, StdClock, StdOut, TcpLinks};
-use run_readout::{Progress, WatchedClock, WatchedDisk, WatchedLinks, WatchedSink};
+use run_readout::{Progress, Terminal, WatchedDisk, WatchedLinks, WatchedSink};
 use std::io::{ErrorKind, IsTerminal, Stderr};
 use std::process::ExitCode;
 use std::random::RandomSource;
@@ -18,9 +18,9 @@ use std::{env, io};
 // The status where the run can't begin, for want of memory or of a random number.
 const NOT_BEGUN: u8 = 40;
 
-type Link<'a> = WatchedLinks<'a, TcpLinks<'a, HostRuntime>>;
+type RealClock<'a> = StdClock<'a, HostRuntime>;
 
-type LinkClock<'a> = WatchedClock<'a, StdClock<'a, HostRuntime>, Stderr>;
+type Link<'a> = WatchedLinks<'a, TcpLinks<'a, HostRuntime>, RealClock<'a>, Stderr>;
 
 fn main(rt: HostRuntime) -> ExitCode {
     let progress = Progress::new();
@@ -60,29 +60,31 @@ fn random_number(rt: &HostRuntime) -> io::Result<u64> {
     Ok(u64::from_ne_bytes(bytes))
 }
 
-// A line of progress is drawn where standard error is a terminal, by the clock of the first link.
+// A line of progress is drawn at each of them, where standard error is a terminal.
 fn links<'a>(
     rt: &'a HostRuntime,
     progress: &'a Progress,
     count: u16,
-) -> io::Result<Vec<(Link<'a>, LinkClock<'a>)>>
+) -> io::Result<Vec<(Link<'a>, RealClock<'a>)>>
     requires { (1 ≤ count) × (count ≤ MAX_LINKS) }
     ensures { IfOk result (λ links. length links.items ≡ count) }
 {
     let alloc = rt.alloc();
     let mut links = Vec::new(alloc);
-    let mut drawn_on = terminal(rt);
     for _ in 0..count {
-        let link = WatchedLinks::new(TcpLinks::new(rt), progress);
-        let clock = WatchedClock::new(alloc, StdClock::new(rt)?, progress, drawn_on.take());
-        links.push((link, clock))?;
+        let link = WatchedLinks::new(TcpLinks::new(rt), progress, terminal(rt)?);
+        links.push((link, StdClock::new(rt)?))?;
     }
     Ok(links)
 }
 
-fn terminal(rt: &HostRuntime) -> Option<Stderr> {
-    let out = rt.stderr();
-    if out.is_terminal() { Some(out) } else { None }
+fn terminal(rt: &HostRuntime) -> io::Result<Option<Terminal<RealClock<'_>, Stderr>>> {
+    let (alloc, out) = (rt.alloc(), rt.stderr());
+    if !out.is_terminal() {
+        return Ok(None);
+    }
+    let clock = StdClock::new(rt)?;
+    Ok(Some(Terminal { alloc, clock, out }))
 }
 
 // The words of the command line after the program's name. A word that isn't UTF-8 makes the whole line faulty, as no

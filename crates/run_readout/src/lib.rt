@@ -2,7 +2,6 @@
 //! run is given, and nothing of the run depends on it.
 #![tactic(auto)]
 
-mod clock;
 mod disk;
 mod links;
 mod listed;
@@ -10,9 +9,8 @@ mod progress;
 mod sink;
 mod text;
 
-pub use clock::WatchedClock;
 pub use disk::WatchedDisk;
-pub use links::WatchedLinks;
+pub use links::{Terminal, WatchedLinks};
 pub use progress::Progress;
 pub use sink::WatchedSink;
 pub use text::{readout, size_text, time_text};

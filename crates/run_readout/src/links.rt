@@ -1,22 +1,51 @@
-// A link whose connection is counted.
+// A link whose connection is counted, and at which a line of progress is drawn.
 ghost use Rattle.std.specs.Prelude.{◌≡◌};
 
 use crate::Progress;
+use crate::text::readout;
+use dl_clock::Clock;
 use dl_kinds::IoErr;
 use link_source::Links;
+use std::alloc::Global;
+use std::io::Write;
 
-/// A link that counts as a connection while one is open.
-pub struct WatchedLinks<'a, L: Links> {
+/// Where a line of progress goes, and the clock by which it is drawn.
+#[derive(Drop)]
+pub struct Terminal<K: Clock, W: Write> {
+    pub alloc: Global,
+    pub clock: K,
+    pub out: W,
+}
+
+impl<K: Clock, W: Write> Terminal<K, W> {
+    // Once a second at most. A line that can't be made or written is left out.
+    fn draw(&mut self, progress: &Progress) {
+        let now = self.clock.now();
+        let Some(speed) = progress.speed_if_due(now.0) else {
+            return;
+        };
+        if let Ok(line) = readout(self.alloc, progress.shown(), speed) {
+            progress.draw(true);
+            let _written = write!(self.out, "\r\x1b[K{line}").is_ok() && self.out.flush().is_ok();
+        }
+    }
+}
+
+/// A link that counts as a connection while one is open. What it receives is counted, and draws the line where it was given a
+/// terminal.
+pub struct WatchedLinks<'a, L: Links, K: Clock, W: Write> {
     inner: L,
     progress: &'a Progress,
+    terminal: Option<Terminal<K, W>>,
     is_open: bool,
 }
 
-impl<'a, L: Links + Drop> Drop for WatchedLinks<'a, L> {
+impl<'a, L: Links + Drop, K: Clock + Drop, W: Write + Drop> Drop for WatchedLinks<'a, L, K, W> {
     fn drop(self) {
         let WatchedLinks {
             inner: _inner,
             progress,
+            terminal: _terminal,
             is_open,
         } = self;
         if is_open {
@@ -25,11 +54,13 @@ impl<'a, L: Links + Drop> Drop for WatchedLinks<'a, L> {
     }
 }
 
-impl<'a, L: Links> WatchedLinks<'a, L> {
-    pub fn new(inner: L, progress: &'a Progress) -> Self {
+impl<'a, L: Links, K: Clock, W: Write> WatchedLinks<'a, L, K, W> {
+    /// Without a `terminal` nothing is drawn.
+    pub fn new(inner: L, progress: &'a Progress, terminal: Option<Terminal<K, W>>) -> Self {
         WatchedLinks {
             inner,
             progress,
+            terminal,
             is_open: false,
         }
     }
@@ -45,10 +76,19 @@ impl<'a, L: Links> WatchedLinks<'a, L> {
             }
             self.is_open = is_open;
         }
+        self.draw();
+    }
+
+    fn draw(&mut self)
+        ensures { self.new.inner ≡ self.old.inner }
+    {
+        if let Some(terminal) = &mut self.terminal {
+            terminal.draw(self.progress);
+        }
     }
 }
 
-impl<'a, L: Links> Links for WatchedLinks<'a, L> {
+impl<'a, L: Links, K: Clock, W: Write> Links for WatchedLinks<'a, L, K, W> {
     ghost tells = { L.tells };
 
     ghost state = { λ link. L.state link.inner };
@@ -70,7 +110,12 @@ impl<'a, L: Links> Links for WatchedLinks<'a, L> {
     }
 
     fn recv(&mut self, into: &mut [u8]) -> Result<usize, IoErr> {
-        self.inner.recv(into)
+        let outcome = self.inner.recv(into);
+        if let Ok(count) = outcome {
+            self.progress.receive(count as u64);
+        }
+        self.draw();
+        outcome
     }
 
     fn hang_up(&mut self) {

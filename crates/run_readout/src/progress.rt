@@ -1,6 +1,17 @@
 // How far a run has come, as its disk and its links show it.
 use std::sync::atomic::{AtomicBool, AtomicU64, Ordering};
 
+const SECOND_MS: u64 = 1000;
+
+// A speed that jumps can't be read: three parts of four are those of the seconds before.
+fn smoothed(before: u64, latest: u64) -> u64 {
+    if before == 0 {
+        latest
+    } else {
+        before / 4 * 3 + latest / 4
+    }
+}
+
 /// How far a run has come. It is shared by all that watch the run.
 #[derive(Drop)]
 pub struct Progress {
@@ -9,8 +20,14 @@ pub struct Progress {
     listed: AtomicU64,
     // Bytes that were written into payload files since then.
     written: AtomicU64,
+    // Bytes that links received, replies' heads among them.
+    received: AtomicU64,
     // Connections that are open.
     open: AtomicU64,
+    // When the line was drawn last, in ms and from 1 on, what had been received then, and the speed that it told.
+    drawn_at: AtomicU64,
+    drawn_received: AtomicU64,
+    speed: AtomicU64,
     // Whether a line is drawn that is to be cleared before other output.
     is_drawn: AtomicBool,
 }
@@ -29,7 +46,11 @@ impl Progress {
             total: AtomicU64::new(0),
             listed: AtomicU64::new(0),
             written: AtomicU64::new(0),
+            received: AtomicU64::new(0),
             open: AtomicU64::new(0),
+            drawn_at: AtomicU64::new(0),
+            drawn_received: AtomicU64::new(0),
+            speed: AtomicU64::new(0),
             is_drawn: AtomicBool::new(false),
         }
     }
@@ -46,12 +67,41 @@ impl Progress {
         self.written.fetch_add(count, Ordering::SeqCst);
     }
 
+    pub(crate) fn receive(&self, count: u64) {
+        self.received.fetch_add(count, Ordering::SeqCst);
+    }
+
     pub(crate) fn open(&self) {
         self.open.fetch_add(1, Ordering::SeqCst);
     }
 
     pub(crate) fn close(&self) {
         self.open.fetch_sub(1, Ordering::SeqCst);
+    }
+
+    /// The speed that the line is to tell, in bytes a second, where a second has passed since it was drawn last. Whoever is told
+    /// so draws it: nobody else is meanwhile.
+    pub(crate) fn speed_if_due(&self, now: u64) -> Option<u64> {
+        let last = self.drawn_at.load(Ordering::SeqCst);
+        if last != 0 && now < last.saturating_add(SECOND_MS) {
+            return None;
+        }
+        let taken = self
+            .drawn_at
+            .compare_exchange(last, now.max(1), Ordering::SeqCst, Ordering::SeqCst);
+        if taken.is_err() {
+            return None;
+        }
+        let received = self.received.load(Ordering::SeqCst);
+        let before = self.drawn_received.swap(received, Ordering::SeqCst);
+        if last == 0 {
+            return Some(0);
+        }
+        let came = received.saturating_sub(before);
+        let latest = came.saturating_mul(SECOND_MS) / now.saturating_sub(last).max(1);
+        let speed = smoothed(self.speed.load(Ordering::SeqCst), latest);
+        self.speed.store(speed, Ordering::SeqCst);
+        Some(speed)
     }
 
     /// Tells whether a line was drawn, and is told whether one is now.
