@@ -29,7 +29,7 @@ from cases import (  # each lists its cases
     words,
 )
 from lib.mirrors import free_port
-from lib.rooms import CASES, PROGRAM, STORE, Room
+from lib.rooms import ALONE, CASES, PROGRAM, STORE, Room
 from lib.wants import Skipped, Wrong
 
 
@@ -67,14 +67,14 @@ def memory():
         return None
 
 
-def attempt(function, needs, gone, where):
+def attempt(function, needs, alone, gone, where):
     """What became of a case in a folder there, and why."""
     missing = [it for it in needs if it in gone]
     if missing:
         return "skipped", f"it needs {' and '.join(missing)}, not to be had here"
     folder = tempfile.mkdtemp(prefix="loopback-", dir=where)
     try:
-        function(Room(folder))
+        function(Room(folder, alone))
     except Skipped as why:
         return "skipped", str(why)
     except Wrong as why:
@@ -92,7 +92,7 @@ def main():
     resource.setrlimit(resource.RLIMIT_CORE, (0, 0))
     # a mirror that sends byte by byte isn't to wait for threads that compute
     sys.setswitchinterval(0.0002)
-    for program in (PROGRAM, STORE):
+    for program in (PROGRAM, STORE, ALONE):
         if not os.access(program, os.X_OK):
             print(f"there is no program at {program}: rt ci makes it")
             print(f"0 passed, {len(CASES)} failed")
@@ -105,9 +105,9 @@ def main():
         with concurrent.futures.ThreadPoolExecutor(max_workers=12) as waiting:
             running = {}
             for it in chosen:
-                _, needs, slow, function = it
+                _, needs, slow, alone, function = it
                 where = None if "disk" in needs else memory()
-                running[it] = (waiting if slow else pool).submit(attempt, function, needs, gone, where)
+                running[it] = (waiting if slow else pool).submit(attempt, function, needs, alone, gone, where)
             for it in chosen:
                 ended, why = running[it].result()
                 counts[ended] += 1

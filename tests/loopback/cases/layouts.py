@@ -59,7 +59,7 @@ def _(room):
             by_mib(room, LONG[:length], piece_length)
 
 
-@case("2,000 pieces")
+@case("2,000 pieces", alone=True)
 def _(room):
     fetches_from_site(room, os.urandom(2_000 * PIECE - 1), limit=100)
 
@@ -176,7 +176,7 @@ def _(room):
             want(len(site.requests) == 3 + count, f"{len(site.requests)} requests came")
 
 
-@case("a payload of 16 GiB whose second piece is wrong")
+@case("a payload of 16 GiB whose second piece is wrong", alone=True)
 def _(room):
     total = PIECE * MOST_PIECES
     most = -(-MOST_PIECES // 5) * PIECE
@@ -476,7 +476,7 @@ def _(room):
         room.has(SMALL)
 
 
-@case("a payload that is larger than the memory")
+@case("a payload that is larger than the memory", alone=True)
 def _(room):
     payload = os.urandom(1 << 20) * 72
     fetches_from_site(room, payload, 1 << 22, shell=LITTLE)

@@ -115,7 +115,7 @@ def _(room):
     for seed in range(8):
         with about(f"the seed {seed}"):
             chance = random.Random(seed)
-            payload = LONG[: chance.randrange(3 * MIB, len(LONG))]
+            payload = (LONG * 4)[: chance.randrange(3 * MIB, 4 * len(LONG))]
             with Breaking({"/a.bin": payload}) as first, Breaking({"/a.bin": payload}) as second:
                 for it in (first, second):
                     it.chance, it.left, it.lock = random.Random(seed + 100), 4, threading.Lock()
@@ -125,7 +125,7 @@ def _(room):
 
 @case("many connections that all fail")
 def _(room):
-    payload = LONG[: 3 * MIB]
+    payload = (LONG * 2)[: 3 * MIB]
     with Site() as first, Site(instead={it: head(status=b"503 Busy") for it in range(999)}) as second:
         room.torrent([first.url(), second.url()], payload, piece_length=MIB)
         room.clear()

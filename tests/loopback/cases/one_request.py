@@ -454,7 +454,7 @@ def _(room):
     want(room.get("a") == b"hello", f"the payload is {room.get('a')}")
 
 
-@case("no memory for the piece")
+@case("no memory for the piece", alone=True)
 def _(room):
     payload = bytes(MOST_PIECE)
     with Site({"/a.bin": payload}) as site:

@@ -47,7 +47,7 @@ def _(room):
     payload = os.urandom(4 * MIB)
     for count in (1, 4):
         room.clear()
-        with Slow({"/a.bin": payload}, MIB // count) as site:
+        with Slow({"/a.bin": payload}, MIB // 2 // count) as site:
             room.torrent(site.url(), payload, piece_length=MIB // 4)
             words = [f"--split={count}", "--max-connection-per-server=4", "--min-split-size=1M", "t.torrent"]
             drawn, wrote, status = shown_on_a_terminal(room, *words)
@@ -55,14 +55,16 @@ def _(room):
         room.has(payload)
         front, *lines = drawn.split(CLEARED)
         want(front == b"", f"it began with {front!r}")
-        want(3 <= len(lines) <= 8 and lines[-1] == b"", f"it drew {lines}")
+        want(4 <= len(lines) <= 14 and lines[-1] == b"", f"it drew {lines}")
         percents, most = [], 0
         for it in lines[:-1]:
             fields = LINE.fullmatch(it)
             want(fields, f"it drew {it!r}")
             percents.append(int(fields[3] or 0))
             most = max(most, int(fields[4]))
-        want(percents == sorted(percents) and percents[-1] >= 50, f"it drew {lines}")
+        # what four connections bring at the same speed is written at the same time
+        least = 50 if count == 1 else 0
+        want(percents == sorted(percents) and percents[-1] >= least, f"it drew {lines}")
         want(most == count, f"it drew {most} connections of {count}")
 
 

@@ -281,7 +281,7 @@ def _(room):
                 want(os.listdir(room.folder) == [], f"files were made: {os.listdir(room.folder)}")
 
 
-@case("a file of 4 TiB")
+@case("a file of 4 TiB", alone=True)
 def _(room):
     total = 1 << 42
     room.unlisted(64 * MIB)

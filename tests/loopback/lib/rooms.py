@@ -18,6 +18,9 @@ PROGRAM = os.path.realpath(sys.argv[1])
 # A program that shows the store over files by itself, which `rt ci` makes as well.
 STORE = f"{TOP}/crates/tests_real_store/out/tests_real_store"
 
+# The run over one connection, without threads, as a program.
+ALONE = f"{TOP}/crates/tests_real_run/out/tests_real_run"
+
 # The seconds that a run may take.
 LIMIT = 30
 
@@ -37,14 +40,15 @@ BY_MIB = ("--split=64", "--min-split-size=1M", *ONCE)
 LOST = {3, 6, 22, 23, 24, 29, 32}
 
 
-def case(name, *needs, slow=False):
+def case(name, *needs, slow=False, alone=False):
     """Lists a function as a case. It gets a room, and is tried where what it needs is there.
 
-    Most rooms are in memory, if there is enough of it; one that needs `disk` isn't.
+    Most rooms are in memory, if there is enough of it; one that needs `disk` isn't. With `alone` each run is the one without
+    threads, whose one connection takes the claims of a download in turn.
     """
 
     def add(function):
-        CASES.append((name, needs, slow, function))
+        CASES.append((name, needs, slow, alone, function))
         return function
 
     return add
@@ -81,8 +85,9 @@ def files_of(payload, name):
 class Room:
     """A folder with a metainfo file and what a run makes."""
 
-    def __init__(self, folder):
+    def __init__(self, folder, is_alone=False):
         self.folder = folder
+        self.is_alone = is_alone
         # The info hash and the length of the pieces that a control file has to tell, where they are known.
         self.right = None
 
@@ -143,9 +148,12 @@ class Room:
     def start(self, *words, program=PROGRAM, out=subprocess.PIPE, shell="", within=()):
         """The process of the program on these words. A line of shell may come first, another command begin it all.
 
-        It goes by one connection, unless the words say by how many.
+        It goes by one connection, unless the words say by how many. Where one connection is to take several claims in turn,
+        it is the run without threads.
         """
-        if not any(it.startswith(("--split", "-s")) for it in words):
+        if program == PROGRAM and (self.is_alone or "--split=64" in words):
+            program = ALONE
+        elif not any(str(it).startswith(("--split", "-s")) for it in words):
             words = ("--split=1", *words)
         begin = ["sh", "-c", f'{shell}\nexec "$@"', "sh"] if shell else []
         return subprocess.Popen(
