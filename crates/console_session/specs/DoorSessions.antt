@@ -1,0 +1,61 @@
+-- What a session did at the desk of a run, for the clients of its door.
+use Rattle.std.specs.Prelude.{◌≡◌, ◌+◌, ℕ, true, IsTrue, List, [], ◌∷◌, ◌++◌, All, Option}
+use Rattle.console_http.specs.Conversations.{IsServedBy, conversation_of}
+use Rattle.console_http.specs.Visits.{GainsTalks, RoseBy, Visit, Waits, Welcomes, capped, failed_in, faults_of_end, starved_in, starved_of_end, turns_in}
+use Rattle.console_http.specs.declared.ends.DoorEnd.{DoorEnd}
+use Rattle.console_http.specs.declared.ends.DoorEnd.TheVariants.{Closed, Finished, Fault, NoBuffers}
+use Rattle.door_source.specs.declared.Doors.{Ghosts as DoorSays}
+use Rattle.engine_core.specs.Beginnings.{ties_run}
+use Rattle.engine_turns.specs.Told.{RunTurn}
+use Rattle.engine_turns.specs.declared.operations.Operation.TheVariants.{Leave}
+use Rattle.turn_desk.specs.Sights.{Went}
+use Rattle.console_session.specs.CallTurns.{AreReadFrom, CameInOrder, FindsFinish, IsOfSession, SessionSight, call_turns, reply_places, starved_replies}
+use Rattle.console_session.specs.declared.serving.Transcript.{Transcript}
+
+-- each connection was served as its end says
+abbrev pub AreServed : ℕ → List Visit → Type 0
+AreServed most [] = Unit {0}
+AreServed most (Waits ∷ visits) = AreServed most visits
+AreServed most (Welcomes steps end ∷ visits) = IsServedBy most end (conversation_of steps) × AreServed most visits
+
+module _ {A : Type 0} (says : DoorSays A) where
+  -- Why the door is served no more: no client comes any more, the last turn found the run finished, a call of the door
+  -- failed, or the buffers couldn't be made.
+  abbrev pub IsCauseOf : DoorEnd → List RunTurn → List Visit → A → Type 0
+  IsCauseOf Closed turns visits door = IsTrue says.tells → (says.state door).is_closed ≡ true
+  IsCauseOf Finished turns visits door = FindsFinish turns
+  IsCauseOf (Fault count) turns visits door = count ≡ says.faults door
+  IsCauseOf NoBuffers turns visits door = (turns ≡ []) × (visits ≡ [])
+
+  -- By these turns the calls of a door's clients were carried out, from its first visit to its end.
+  pub record ServesVisits (session : ℕ) (secret : Option (List ℕ)) (most : ℕ) (turns : List RunTurn) (door door' : A)
+      (transcript : Transcript) : Type 0 where
+    pub kinds : All (λ (t : RunTurn). IsOfSession session t.op) turns
+    pub visits : List Visit
+    pub end : DoorEnd
+    pub served : AreServed most visits
+    pub came : CameInOrder secret session (call_turns turns) (turns_in visits)
+    pub told : IsTrue says.tells → GainsTalks visits (says.state door) (says.state door')
+    pub faults : RoseBy (failed_in visits + faults_of_end end) (says.faults door) (says.faults door')
+    pub cause : IsCauseOf end turns visits door'
+    pub session_is : transcript.session ≡ session
+    pub places_are : transcript.places.items ≡ reply_places (call_turns turns)
+    pub starved_is : transcript.starved
+        ≡ capped (starved_in visits + starved_of_end end + starved_replies (call_turns turns))
+
+  -- From the one sight to the other the session took the turns that serve the door, and a last one, by which it left.
+  pub record ServesDoor {D : Type 0} (session : ℕ) (secret : Option (List ℕ)) (most : ℕ) (from : SessionSight D)
+      (door : A) (to : SessionSight D) (door' : A) (transcript : Transcript) : Type 0 where
+    pub before : List RunTurn
+    pub last : RunTurn
+    pub went : Went ties_run from (before ++ last ∷ []) to
+    pub leaves : last.op ≡ Leave
+    pub serves : ServesVisits session secret most before door door' transcript
+
+-- For each call among the turns that were taken between, in order, the clock was read once, and told its moment.
+pub record ReadsMoments {D K : Type 0} (reads : K → ℕ → K → Type 0) (clock : K) (from to : SessionSight D)
+    : Type 0 where
+  pub turns : List RunTurn
+  pub took : to.own ≡ from.own ++ turns
+  pub behind : K
+  pub read : AreReadFrom reads clock (call_turns turns) behind

@@ -1,0 +1,5 @@
+pub mod CallTurns
+pub mod DoorSessions
+pub mod SessionLaws
+pub mod SessionPlaces
+pub mod Sessions
