@@ -1,5 +1,5 @@
 -- Objects of JSON with members of given names, and those of them that keys choose.
-use Rattle.std.specs.Prelude.{ℕ, Bool, true, false, List, [], ◌∷◌, if◌then◌else◌, bytes_eq, codes, decimal, Option, Some, None}
+use Rattle.std.specs.Prelude.{ℕ, ◌==◌, ◌||◌, length, Bool, true, false, List, [], ◌∷◌, if◌then◌else◌, bytes_eq, codes, decimal, Option, Some, None}
 use Rattle.std.specs.Int.{w64, to_be_bytes}
 use Rattle.std.specs.List.{list_any}
 use Rattle.dl_kinds.specs.declared.gid.Gid.{Gid}
@@ -43,9 +43,10 @@ put_all (named ∷ others) members = put_all others (put named.0 named.1 members
 
 -- ---- keys
 
+-- a list without keys chooses all (aria2 manual, `aria2.tellStatus`)
 abbrev pub is_chosen : Keys → List ℕ → Bool
 is_chosen All name = true
-is_chosen (These texts) name = list_any (λ text. bytes_eq text name) texts
+is_chosen (These texts) name = (length texts == 0) || list_any (λ text. bytes_eq text name) texts
 
 -- the members whose names are chosen; a key without a member is passed over
 abbrev pub pick : Keys → Members → Members

@@ -99,7 +99,9 @@ pub record WorkedTexts : Type 0 where
       ≡ codes "[{\"errorCode\":\"13\",\"errorMessage\":\"file already exists\"}]"
   pub chosen : text_with some_keys (reply.Status worked_status)
       ≡ codes "[{\"gid\":\"0000000000000abc\",\"status\":\"active\"}]"
-  pub none_chosen : text_with (These []) (reply.Statuses (worked_status ∷ worked_status ∷ [])) ≡ codes "[[{},{}]]"
+  pub none_chosen : text_with (These (codes "none" ∷ [])) (reply.Statuses (worked_status ∷ worked_status ∷ []))
+      ≡ codes "[[{},{}]]"
+  pub all_chosen : text_with (These []) (reply.Status worked_status) ≡ text_of_reply (reply.Status worked_status)
   pub refused : reply_outcome (reply.Refused (refusal.WrongStatus Failed)) All ≡ failed (WrongStatus Failed)
   pub refusal_text : text_of_reply (reply.Refused (refusal.WrongStatus Failed))
       ≡ codes "{\"code\":1,\"message\":\"GID cannot be changed in status error\"}"

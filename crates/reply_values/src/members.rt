@@ -87,7 +87,7 @@ fn is_chosen(keys: &Keys, name: &str) -> bool
 {
     match keys {
         Keys::All => true,
-        Keys::These(texts) => has_text(texts, name),
+        Keys::These(texts) => texts.is_empty() || has_text(texts, name),
     }
 }
 

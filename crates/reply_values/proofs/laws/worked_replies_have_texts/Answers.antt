@@ -18,6 +18,7 @@ returns c = record {
   why_failed = refl;
   chosen = refl;
   none_chosen = refl;
+  all_chosen = refl;
   refused = refl;
   refusal_text = refl;
 }
