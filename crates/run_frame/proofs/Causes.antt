@@ -51,9 +51,9 @@ found_unlisted start past gid right piece files counts want has listed =
     not_listed has.download.subject unlisted (subst (λ (o : Option (List ℕ)). IsSome o) has.is.info_hash listed)
 
 module _ {D O : Type 0} {says : DiskSays D} {sinks : SinkSays O} {words : List (List ℕ)}
-    {gids : ℕ}
+    {gids doors : ℕ}
     {disk : D} {out : O} {ended : Ended D} {out' : O} where
-  module _ (ran : Ran says sinks words gids disk out ended out') where
+  module _ (ran : Ran says sinks words gids doors disk out ended out') where
     -- ---- faults
 
     fault_rose : (gid : Gid) (count : ℕ) → Contains ended.journal.events.items (event.Ended gid (end.Disk count))
@@ -104,7 +104,7 @@ module _ {D O : Type 0} {says : DiskSays D} {sinks : SinkSays O} {words : List (
     came_as_read : TurnsAppend → IsTrue says.tells → (e : Event) (IsSo : List Event → Files → Type 0)
         → (by : BroughtBy (ran_facts.turns ran) e)
         → IsSo (history_of (reverse by.earlier)) ((says.state ended.disk).seen_at by.turn.before.time)
-        → CameAsRead says words gids disk ended e IsSo
+        → CameAsRead says words gids doors disk ended e IsSo
     came_as_read append tells e IsSo by so = record {
       past = history_of (reverse by.earlier);
       behind = behind append e by;
@@ -115,7 +115,7 @@ module _ {D O : Type 0} {says : DiskSays D} {sinks : SinkSays O} {words : List (
 
     opened_as_read : TurnsAppend → IsTrue says.tells → (gid : Gid) (verified blocks : List Bool) (now : Moment)
         → Contains ended.journal.events.items (event.Opened gid verified blocks now)
-        → CameAsRead says words gids disk ended (event.Opened gid verified blocks now)
+        → CameAsRead says words gids doors disk ended (event.Opened gid verified blocks now)
         (λ past. OpensAsRead (ran_facts.start ran) past gid verified blocks)
     opened_as_read append tells gid verified blocks now there =
         let e = event.Opened gid verified blocks now in
@@ -140,7 +140,7 @@ module _ {D O : Type 0} {says : DiskSays D} {sinks : SinkSays O} {words : List (
 
     settled_as_read : TurnsAppend → IsTrue says.tells → (gid : Gid) (piece : ℕ) (right : Bool) (giver : Giver)
         → Contains ended.journal.events.items (event.Settled gid piece right giver)
-        → CameAsRead says words gids disk ended (event.Settled gid piece right giver)
+        → CameAsRead says words gids doors disk ended (event.Settled gid piece right giver)
         (λ past files. OfItsWant (ran_facts.start ran) past gid (IsFoundRight right piece files))
     settled_as_read append tells gid piece right giver there =
         let e = event.Settled gid piece right giver in
@@ -155,8 +155,8 @@ module _ {D O : Type 0} {says : DiskSays D} {sinks : SinkSays O} {words : List (
         (⊎_elim (λ seals. sealed_right before by.turn files _ by.turn.op gid piece right giver refl fits by.there seals)
         (λ counts. found_unlisted (ran_facts.start ran) (history_of before) gid right piece files counts) found)
 
-  pub shows_disk : TurnsAppend → IsWholeRun says sinks words gids disk out ended out'
-      → ShowsDisk says words gids disk ended
+  pub shows_disk : TurnsAppend → IsWholeRun says sinks words gids doors disk out ended out'
+      → ShowsDisk says words gids doors disk ended
   shows_disk append (inl never) = inl never.journal
   shows_disk append (inr ran) = inr (record {
     line = ran.begins.line;

@@ -18,9 +18,9 @@ pub same_files : (old new : Files) → IsSame old new → new ≡ old
 same_files old new same = λ i name. same name i
 
 module _ {D O : Type 0} {says : DiskSays D} {sinks : SinkSays O} {words : List (List ℕ)}
-    {gids : ℕ}
+    {gids doors : ℕ}
     {disk : D} {out : O} {ended : Ended D} {out' : O}
-    (ran : Ran says sinks words gids disk out ended out') (tells : IsTrue says.tells) where
+    (ran : Ran says sinks words gids doors disk out ended out') (tells : IsTrue says.tells) where
   -- the disk reads as it did when it was given
   pub seen_same : (says.state ran.begins.read).seen ≡ (says.state disk).seen
   seen_same = same_files (says.state disk).seen (says.state ran.begins.read).seen (ran.begins.is_read.stays tells).seen
@@ -64,7 +64,7 @@ module _ {D O : Type 0} {says : DiskSays D} {sinks : SinkSays O} {words : List (
       subst (λ (i : Files). Sound want i) (sym (same_files from.0 image from.2)) (sound from.0 from.1).0)
       (cases_lt (says.state ran.begins.read).moment left.0)
 
-  pub kept : CompletedAreRight says.state → CrashesKeepRuns says.state → LeavesKept says words gids disk ended
+  pub kept : CompletedAreRight says.state → CrashesKeepRuns says.state → LeavesKept says words gids doors disk ended
   kept complete crash = record {
     line = ran.begins.line;
     means = ran.begins.means;

@@ -85,8 +85,8 @@ not_by_one turns u t now is stops there ends =
     (λ (same : u ≡ t). absurd (subst EndsClaim (ap (λ (v : RunTurn). v.op) (sym same) ∙ stops) ends))
     (Contains-push_cases [] u t (subst (λ (ts : List RunTurn). Contains ts t) is there))
 
-module _ {D O : Type 0} {says : DiskSays D} {sinks : SinkSays O} {words : List (List ℕ)} {gids : ℕ} {disk : D} {out : O}
-    {ended : Ended D} {out' : O} (ran : Ran says sinks words gids disk out ended out') where
+module _ {D O : Type 0} {says : DiskSays D} {sinks : SinkSays O} {words : List (List ℕ)} {gids doors : ℕ} {disk : D} {out : O}
+    {ended : Ended D} {out' : O} (ran : Ran says sinks words gids doors disk out ended out') where
   -- a turn that ends a claim is neither the line's own call nor the last stop
   in_middle : (t : RunTurn) → Contains (ran_facts.turns ran) t → EndsClaim t.op → Contains ran.stops.middle t
   in_middle t there ends =
@@ -129,7 +129,7 @@ module _ {D O : Type 0} {says : DiskSays D} {sinks : SinkSays O} {words : List (
       comes_of e by (subst EndsClaim (sym sizes.1) tt)
 
 module _ {D L O : Type 0} {says : DiskSays D} {links : LinkSays L} {sinks : SinkSays O} {words : List (List ℕ)}
-    {gids : ℕ} {disk : D} {out : O} {ended : Ended D} {out' : O} (ran : Ran says sinks words gids disk out ended out')
+    {gids doors : ℕ} {disk : D} {out : O} {ended : Ended D} {out' : O} (ran : Ran says sinks words gids doors disk out ended out')
     (worker : ℕ) (link link' : L) (own : WorkedAmong D links worker (ran_facts.turns ran) link link') where
   abbrev old : LinkAt
   old = link_at links link

@@ -73,9 +73,9 @@ untouched_before stay start newer before want legal untouched gid other asked ha
     untouched gid other (asked_on start newer before gid asked) (wants_on stay start newer before gid other legal has)
 
 module _ {D O : Type 0} {says : DiskSays D} {sinks : SinkSays O} {words : List (List ℕ)}
-    {gids : ℕ}
+    {gids doors : ℕ}
     {disk : D} {out : O} {ended : Ended D} {out' : O}
-    (ran : Ran says sinks words gids disk out ended out') (tells : IsTrue says.tells)
+    (ran : Ran says sinks words gids doors disk out ended out') (tells : IsTrue says.tells)
     (stay : WantsStay)
     (want : Want) (untouched : IsUntouched (ran_facts.start ran) (ran_facts.told ran) want) where
   abbrev now : DiskState
@@ -203,9 +203,9 @@ unshared want name apart =
     (All-cons P temporary (name ∷ []) third (All-cons P name [] first (All-nil P))))
 
 module _ {D O : Type 0} {says : DiskSays D} {sinks : SinkSays O} {words : List (List ℕ)}
-    {gids : ℕ}
+    {gids doors : ℕ}
     {disk : D} {out : O} {ended : Ended D} {out' : O} where
-  name_same : (ran : Ran says sinks words gids disk out ended out') → IsTrue says.tells → WantsStay
+  name_same : (ran : Ran says sinks words gids doors disk out ended out') → IsTrue says.tells → WantsStay
       → (name : List ℕ) → IsNameOfNone (ran_facts.start ran) (ran_facts.told ran) name
       → (says.state ended.disk).seen name ≡ (says.state disk).seen name
   name_same ran tells stay name none =
@@ -213,9 +213,9 @@ module _ {D O : Type 0} {says : DiskSays D} {sinks : SinkSays O} {words : List (
       (λ gid want asked has. unshared want name (none gid want asked has)) in
       ap (first_or None) same.files
 
-  pub leaves_other_files : WantsStay → IsWholeRun says sinks words gids disk out ended out'
+  pub leaves_other_files : WantsStay → IsWholeRun says sinks words gids doors disk out ended out'
       → IsTrue says.tells
-      → LeavesOtherFiles says words gids disk ended
+      → LeavesOtherFiles says words gids doors disk ended
   leaves_other_files stay (inl never) tells = inl never.journal
   leaves_other_files stay (inr ran) tells = inr (record {
     line = ran.begins.line;

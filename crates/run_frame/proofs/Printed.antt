@@ -23,14 +23,14 @@ use Rattle.run_frame.proofs.Ran as ran_facts
 no_lines : (start : RunStart) (past : List Event) → IsSummaryOf start past 0 heading
 no_lines start past = record { lines = []; are = refl; text_is = sym (append-nil heading) }
 
-module _ {D O : Type 0} (says : DiskSays D) (sinks : SinkSays O) (words : List (List ℕ)) (gids : ℕ) (disk : D) (out : O)
+module _ {D O : Type 0} (says : DiskSays D) (sinks : SinkSays O) (words : List (List ℕ)) (gids doors : ℕ) (disk : D) (out : O)
     (ended : Ended D) (out' : O) where
   abbrev IsPrinted : Type 0
-  IsPrinted = PrintsText says sinks words gids disk out ended out'
+  IsPrinted = PrintsText says sinks words gids doors disk out ended out'
 
   -- nothing was written
-  printed_none : (text : List ℕ) → IsRefusalText says sinks words gids disk out ended out' text
-      ⊎ IsSummaryText says sinks words gids disk out ended out' text
+  printed_none : (text : List ℕ) → IsRefusalText says sinks words gids doors disk out ended out' text
+      ⊎ IsSummaryText says sinks words gids doors disk out ended out' text
       → ended.ending ≡ NoMemory → out' ≡ out → IsPrinted
   printed_none text is memory same = record {
     text = text;
@@ -44,13 +44,13 @@ module _ {D O : Type 0} (says : DiskSays D) (sinks : SinkSays O) (words : List (
 
 module _ {D O : Type 0} {says : DiskSays D} {sinks : SinkSays O} {words : List (List ℕ)}
     {disk : D}
-    {out : O} {ended : Ended D} {out' : O} (gids : ℕ)
+    {out : O} {ended : Ended D} {out' : O} (gids doors : ℕ)
     (never : NeverBegan says sinks words disk out ended out') where
   -- the line of the refusal, as far as the sink took it
   printed_line : (refusal : RunEnding) → EndsUnbegun says words disk ended.disk refusal
-      → PrintsRefusal sinks refusal out out' ended.ending → PrintsText says sinks words gids disk out ended out'
+      → PrintsRefusal sinks refusal out out' ended.ending → PrintsText says sinks words gids doors disk out ended out'
   printed_line NoMemory why is =
-      printed_none says sinks words gids disk out ended out' []
+      printed_none says sinks words gids doors disk out ended out' []
       (inl (record { refusal = NoMemory; why = why; none = never.journal; is = refl })) is.0 is.1
   printed_line refusal why is =
       let prints = is.1 in record {
@@ -64,9 +64,9 @@ module _ {D O : Type 0} {says : DiskSays D} {sinks : SinkSays O} {words : List (
       }
 
 module _ {D O : Type 0} {says : DiskSays D} {sinks : SinkSays O} {words : List (List ℕ)}
-    {gids : ℕ}
+    {gids doors : ℕ}
     {disk : D} {out : O} {ended : Ended D} {out' : O} where
-  module _ (ran : Ran says sinks words gids disk out ended out') where
+  module _ (ran : Ran says sinks words gids doors disk out ended out') where
     abbrev its_start : RunStart
     its_start = start_of ran.engine.state
 
@@ -82,14 +82,14 @@ module _ {D O : Type 0} {says : DiskSays D} {sinks : SinkSays O} {words : List (
 
     -- the ending is that of the history, or the text may be short
     told_or_short : IsReported sinks its_start its_past out out' ended.ending
-        → (ended.ending ≡ ending_by_history its_start its_past) ⊎ MayBeShort says sinks words gids disk out ended out'
+        → (ended.ending ≡ ending_by_history its_start its_past) ⊎ MayBeShort says sinks words gids doors disk out ended out'
     told_or_short is = ⊎_elim (λ told. inl told.0)
         (λ rest. ⊎_elim (λ memory. inr (inl memory.0))
         (λ (fault : (ended.ending ≡ SinkFault) × Rose (sinks.faults out) (sinks.faults out')). inr (inr fault.1))
         rest) is
 
     printed_summary : Reports sinks ran.engine out out' ended.ending
-        → PrintsText says sinks words gids disk out ended out'
+        → PrintsText says sinks words gids doors disk out ended out'
     printed_summary reports =
         let prints = reports.prints in
         let short = told_or_short reports.ends in record {
@@ -111,8 +111,8 @@ module _ {D O : Type 0} {says : DiskSays D} {sinks : SinkSays O} {words : List (
         }
 
     printed_by : (short : Bool) → EndsBy sinks short ran.engine out out' ended.ending
-        → PrintsText says sinks words gids disk out ended out'
-    printed_by true is = printed_none says sinks words gids disk out ended out' heading
+        → PrintsText says sinks words gids doors disk out ended out'
+    printed_by true is = printed_none says sinks words gids doors disk out ended out' heading
         (inr (record {
           line = ran.begins.line;
           means = ran.begins.means;
@@ -123,7 +123,7 @@ module _ {D O : Type 0} {says : DiskSays D} {sinks : SinkSays O} {words : List (
         is.0 is.1
     printed_by false is = printed_summary is
 
-  pub prints_text : IsWholeRun says sinks words gids disk out ended out'
-      → PrintsText says sinks words gids disk out ended out'
-  prints_text (inl never) = printed_line gids never never.refusal never.ends never.prints
+  pub prints_text : IsWholeRun says sinks words gids doors disk out ended out'
+      → PrintsText says sinks words gids doors disk out ended out'
+  prints_text (inl never) = printed_line gids doors never never.refusal never.ends never.prints
   prints_text (inr ran) = printed_by ran _ ran.finishes.ends

@@ -32,9 +32,9 @@ told_moment true disk told = refl
 told_moment false disk told = absurd (false≢true told)
 
 module _ {D O : Type 0} {says : DiskSays D} {sinks : SinkSays O} {words : List (List ℕ)}
-    {gids : ℕ}
+    {gids doors : ℕ}
     {disk : D} {out : O} {ended : Ended D} {out' : O}
-    (ran : Ran says sinks words gids disk out ended out') where
+    (ran : Ran says sinks words gids doors disk out ended out') where
   abbrev pub engine : EngineView D
   engine = ran.engine
 
@@ -59,11 +59,11 @@ module _ {D O : Type 0} {says : DiskSays D} {sinks : SinkSays O} {words : List (
   given = ran.begun.desk.given
 
   -- the engine began as the line says, on the disk that was read
-  began : beginning_of engine ≡ start_on read gids ran.begins.line.globals
+  began : beginning_of engine ≡ start_on read gids doors ran.begins.line.globals
   began = ran.stops.after.start ∙ ran.begins.start
 
   abbrev pub start : RunStart
-  start = start_of_line gids ran.begins.line.globals
+  start = start_of_line gids doors ran.begins.line.globals
 
   pub start_is : start_of engine.state ≡ start
   start_is = ap (λ (s : EngineStart D). s.run) began

@@ -80,10 +80,10 @@ told_by None false = tt
 told_ending : (start : RunStart) (past : List Event) → IsTold (ending_by_history start past)
 told_ending start past = told_by (last_failure past) (has_unfinished (queue_in start past))
 
-module _ {D O : Type 0} (says : DiskSays D) (sinks : SinkSays O) (words : List (List ℕ)) (gids : ℕ) (disk : D) (out : O)
+module _ {D O : Type 0} (says : DiskSays D) (sinks : SinkSays O) (words : List (List ℕ)) (gids doors : ℕ) (disk : D) (out : O)
     (ended : Ended D) (out' : O) where
   abbrev Shows : RunEnding → Type 0
-  Shows e = ShowsEnding says sinks words gids disk out ended out' e
+  Shows e = ShowsEnding says sinks words gids doors disk out ended out' e
 
   shows_refusal : (e : RunEnding) → EndsUnbegun says words disk ended.disk e → Shows e
   shows_refusal NoMeaning is = ⊎_elim (λ refuses. (refuses.0, refuses.1))
@@ -119,7 +119,7 @@ module _ {D O : Type 0} (says : DiskSays D) (sinks : SinkSays O) (words : List (
   shows_memory is = subst Shows (sym is) tt
 
   -- what the history says
-  shows_told : (e : RunEnding) → IsTold e → EndsByHistory words gids ended.journal e → Shows e
+  shows_told : (e : RunEnding) → IsTold e → EndsByHistory words gids doors ended.journal e → Shows e
   shows_told NoMeaning told is = absurd told
   shows_told (NoMetainfo why) told is = absurd told
   shows_told NoMemory told is = absurd told
@@ -130,16 +130,16 @@ module _ {D O : Type 0} (says : DiskSays D) (sinks : SinkSays O) (words : List (
 
 module _ {D O : Type 0} {says : DiskSays D} {sinks : SinkSays O} {words : List (List ℕ)}
     {disk : D}
-    {out : O} {ended : Ended D} {out' : O} (gids : ℕ)
+    {out : O} {ended : Ended D} {out' : O} (gids doors : ℕ)
     (never : NeverBegan says sinks words disk out ended out') where
   never_ends : (ended.ending ≡ never.refusal) ⊎ (ended.ending ≡ NoMemory)
   never_ends = ends_refused sinks never.refusal ended.ending out out' never.prints
 
-  never_shown : ShowsEnding says sinks words gids disk out ended out' ended.ending
+  never_shown : ShowsEnding says sinks words gids doors disk out ended out' ended.ending
   never_shown = ⊎_elim
-      (λ (same : ended.ending ≡ never.refusal). subst (ShowsEnding says sinks words gids disk out ended out')
-      (sym same) (shows_refusal says sinks words gids disk out ended out' never.refusal never.ends))
-      (shows_memory says sinks words gids disk out ended out')
+      (λ (same : ended.ending ≡ never.refusal). subst (ShowsEnding says sinks words gids doors disk out ended out')
+      (sym same) (shows_refusal says sinks words gids doors disk out ended out' never.refusal never.ends))
+      (shows_memory says sinks words gids doors disk out ended out')
       never_ends
 
   never_words : LacksLine words → (ended.ending ≡ NoMeaning) ⊎ (ended.ending ≡ NoMemory)
@@ -156,7 +156,7 @@ module _ {D O : Type 0} {says : DiskSays D} {sinks : SinkSays O} {words : List (
   -- the file is refused for the one reason
   never_file : LinesAreOne → IsTrue says.tells → (line : CommandLine) (why : SourceErr) → IsLine words line
       → IsShownByFile why → RefusesSource (says.state disk).seen line.source why
-      → EndsBySource says sinks words gids disk out ended out' why
+      → EndsBySource says sinks words gids doors disk out ended out' why
   never_file one tells line why means shown refuses = ⊎_elim
       (λ (same : ended.ending ≡ never.refusal).
       ⊎_elim (λ (words_are : RefusesWords words never.refusal × _).
@@ -178,33 +178,33 @@ module _ {D O : Type 0} {says : DiskSays D} {sinks : SinkSays O} {words : List (
       (λ memory. inr (inl memory)) never_ends
 
 module _ {D O : Type 0} {says : DiskSays D} {sinks : SinkSays O} {words : List (List ℕ)}
-    {gids : ℕ}
+    {gids doors : ℕ}
     {disk : D} {out : O} {ended : Ended D} {out' : O} where
-  module _ (ran : Ran says sinks words gids disk out ended out') where
+  module _ (ran : Ran says sinks words gids doors disk out ended out') where
     -- the engine's history is that of the journal
     pub ending_told : ending_by_history (start_of ran.engine.state) (past_of ran.engine.state)
         ≡ ending_by_history (ran_facts.start ran) (ran_facts.past ran)
     ending_told = λ i. ending_by_history (ran_facts.start_is ran i) (sym (ran_facts.journal_is ran) i)
 
     reported : IsReported sinks (start_of ran.engine.state) (past_of ran.engine.state) out out' ended.ending
-        → ShowsEnding says sinks words gids disk out ended out' ended.ending
+        → ShowsEnding says sinks words gids doors disk out ended out' ended.ending
     reported is = ⊎_elim
         (λ (told : (ended.ending ≡ _) × _).
         let ending = told.0 ∙ ending_told in
-        shows_told says sinks words gids disk out ended out' ended.ending
+        shows_told says sinks words gids doors disk out ended out' ended.ending
         (subst IsTold (sym ending) (told_ending (ran_facts.start ran) (ran_facts.past ran)))
         (record { line = ran.begins.line; means = ran.begins.means; is = ending }))
-        (λ rest. ⊎_elim (λ (memory : (ended.ending ≡ NoMemory) × _). shows_memory says sinks words gids disk out ended
+        (λ rest. ⊎_elim (λ (memory : (ended.ending ≡ NoMemory) × _). shows_memory says sinks words gids doors disk out ended
         out' memory.0)
         (λ (fault : (ended.ending ≡ SinkFault) × Rose (sinks.faults out) (sinks.faults out')).
-        subst (ShowsEnding says sinks words gids disk out ended out') (sym fault.0) fault.1) rest) is
+        subst (ShowsEnding says sinks words gids doors disk out ended out') (sym fault.0) fault.1) rest) is
 
     ends_by : (short : Bool) → EndsBy sinks short ran.engine out out' ended.ending
-        → ShowsEnding says sinks words gids disk out ended out' ended.ending
-    ends_by true is = shows_memory says sinks words gids disk out ended out' is.0
+        → ShowsEnding says sinks words gids doors disk out ended out' ended.ending
+    ends_by true is = shows_memory says sinks words gids doors disk out ended out' is.0
     ends_by false is = reported is.ends
 
-    ran_shown : ShowsEnding says sinks words gids disk out ended out' ended.ending
+    ran_shown : ShowsEnding says sinks words gids doors disk out ended out' ended.ending
     ran_shown = ends_by _ ran.finishes.ends
 
     -- it isn't one of a run that didn't begin
@@ -221,12 +221,12 @@ module _ {D O : Type 0} {says : DiskSays D} {sinks : SinkSays O} {words : List (
     pub began_ends : IsBegunEnding ended.ending
     began_ends = began_by _ ran.finishes.ends
 
-  pub ends_as_shown : LinesAreOne → IsWholeRun says sinks words gids disk out ended out'
-      → EndsAsShown says sinks words gids disk out ended out'
+  pub ends_as_shown : LinesAreOne → IsWholeRun says sinks words gids doors disk out ended out'
+      → EndsAsShown says sinks words gids doors disk out ended out'
   ends_as_shown one (inl never) = record {
-    shown = never_shown gids never;
-    words_first = never_words gids never;
-    file_next = never_file gids never one;
+    shown = never_shown gids doors never;
+    words_first = never_words gids doors never;
+    file_next = never_file gids doors never one;
   }
   ends_as_shown one (inr ran) = record {
     shown = ran_shown ran;

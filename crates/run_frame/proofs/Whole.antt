@@ -120,9 +120,9 @@ stopped_there at s events answer row = by (list_any is_stop s.past) refl row.cut
     by false is cut = inr (subst (λ (es : List Event). Contains es Stopped) (sym cut) (0, omega arith, refl))
 
 module _ {D O : Type 0} {says : DiskSays D} {sinks : SinkSays O} {words : List (List ℕ)}
-    {gids : ℕ}
+    {gids doors : ℕ}
     {disk : D} {out : O} {ended : Ended D} {out' : O}
-    (ran : Ran says sinks words gids disk out ended out') where
+    (ran : Ran says sinks words gids doors disk out ended out') where
   not_short : ended.ending ≢ NoMemory → (ran.begun.is_short ≡ false) × (ran.short ≡ false)
   not_short some =
       neither ran.begun.is_short ran.short
@@ -191,11 +191,11 @@ module _ {D O : Type 0} {says : DiskSays D} {sinks : SinkSays O} {words : List (
       (subst (λ (p : List Event). IsLegal (ran_facts.start ran) p) past (ran_facts.legal ran)))))
 
 module _ {D O : Type 0} {says : DiskSays D} {sinks : SinkSays O} {words : List (List ℕ)}
-    {gids : ℕ}
+    {gids doors : ℕ}
     {disk : D} {out : O} {ended : Ended D} {out' : O} where
   pub has_history : TurnsAppend → DownloadsStay → GoneStay
-      → IsWholeRun says sinks words gids disk out ended out'
-      → IsHistory says words gids disk ended
+      → IsWholeRun says sinks words gids doors disk out ended out'
+      → IsHistory says words gids doors disk ended
   has_history append stay gone (inl never) = inl never.journal
   has_history append stay gone (inr ran) = inr (record {
     line = ran.begins.line;

@@ -26,8 +26,10 @@ use Rattle.run_report.specs.declared.endings.RunEnding.{RunEnding}
 use Rattle.run_report.specs.declared.endings.RunEnding.TheVariants.{NoMeaning, NoMemory}
 use Rattle.turn_desk.specs.Sights.{Went}
 use Rattle.turn_desk.specs.declared.turn.Stamp.{Stamp}
+use Rattle.run_frame.specs.Consoles.{console_of, doors_used}
 use Rattle.run_frame.specs.Ends.{ending_of_source}
 use Rattle.run_frame.specs.declared.beginning.Begun.{Begun}
+use Rattle.run_frame.specs.declared.console.ConsoleTerms.{ConsoleTerms}
 use Rattle.run_frame.specs.declared.beginning.Unbegun.{Unbegun}
 
 abbrev pub LacksLine : List (List ℕ) → Type 0
@@ -57,13 +59,13 @@ TakesCall {D} call s s' short = (turns : List RunTurn) × IsOwnCall call turns s
 
 -- ---- a desk
 
--- what a run of this line goes by, without a console
-abbrev pub start_of_line : ℕ → OptionValues → RunStart
-start_of_line gids globals = record { gids = gids; global = globals; doors = 0 }
+-- what a run of this line goes by, where so many doors stand
+abbrev pub start_of_line : (gids doors : ℕ) → OptionValues → RunStart
+start_of_line gids doors globals = record { gids = gids; global = globals; doors = doors_used globals doors }
 
 -- .. on this disk
-abbrev pub start_on : {D : Type 0} → D → ℕ → OptionValues → EngineStart D
-start_on {D} disk gids globals = record { run = start_of_line gids globals; disk = disk }
+abbrev pub start_on : {D : Type 0} → D → (gids doors : ℕ) → OptionValues → EngineStart D
+start_on {D} disk gids doors globals = record { run = start_of_line gids doors globals; disk = disk }
 
 module _ {D : Type 0} (says : DiskSays D) where
   -- the moment and the count of faults with which a run begins on this disk
@@ -71,8 +73,8 @@ module _ {D : Type 0} (says : DiskSays D) where
   stamp_on disk = record { time = moment_told says.tells (says.state disk); faults = says.faults disk }
 
   -- no turn was taken yet
-  pub record IsDeskOf (disk : D) (gids : ℕ) (globals : OptionValues) (s : RunSight D) : Type 0 where
-    pub start : s.given.start ≡ start_on disk gids globals
+  pub record IsDeskOf (disk : D) (gids doors : ℕ) (globals : OptionValues) (s : RunSight D) : Type 0 where
+    pub start : s.given.start ≡ start_on disk gids doors globals
     pub entries : s.given.entries ≡ []
     pub mark : s.given.mark ≡ stamp_on disk
     pub seen : s.seen ≡ []
@@ -85,16 +87,18 @@ module _ {D : Type 0} (says : DiskSays D) where
     pub passes : IsTrue says.tells → Passes IsSame (says.state disk) (says.state read)
 
   -- The words mean a line; the disk was read for it, and no turn was taken but the line's own call, the first of all.
-  pub record Begins (words : List (List ℕ)) (gids : ℕ) (disk : D) (s : RunSight D) (short : Bool) : Type 0 where
+  pub record Begins (words : List (List ℕ)) (gids doors : ℕ) (disk : D) (s : RunSight D) (short : Bool)
+      (console : ConsoleTerms) : Type 0 where
     pub line : CommandLine
     pub means : IsLine words line
+    pub console_is : console ≡ console_of line.globals
     pub read : D
     pub is_read : IsRead disk read
     pub call : Option Call
     pub named : IsNamedCall line.source line.settings call
     pub call_is : IsTrue says.tells → IsCallOf (says.state disk).seen line.source line.settings call
     pub lawful : IfSome call IsLawful
-    pub start : s.given.start ≡ start_on read gids line.globals
+    pub start : s.given.start ≡ start_on read gids doors line.globals
     pub entries : s.given.entries ≡ []
     pub mark : s.given.mark ≡ stamp_on read
     pub own : IsOwnCall call s.own short
@@ -118,5 +122,6 @@ module _ {D : Type 0} (says : DiskSays D) where
     pub is_read : IsRead disk u.disk
     pub ends : EndsUnbegun words disk u.disk u.ending
 
-  abbrev pub HasBegun : List (List ℕ) → ℕ → D → Begun D → Type 0
-  HasBegun words gids disk begun = Begins words gids disk begun.desk begun.is_short
+  abbrev pub HasBegun : List (List ℕ) → (gids doors : ℕ) → D → Begun D → Type 0
+  HasBegun words gids doors disk begun =
+      Begins words gids doors disk begun.desk begun.is_short begun.console

@@ -42,7 +42,7 @@ IsNameOfNone start told name =
     (gid : Gid) (want : Want) → IsAsked start told gid → HasWant start (history_of told) gid want
     → All (λ beside. ¬ Contains (names_of_want want) beside) (names_beside name)
 
-module _ {D : Type 0} (says : DiskSays D) (words : List (List ℕ)) (gids : ℕ) (disk : D) (ended : Ended D) where
+module _ {D : Type 0} (says : DiskSays D) (words : List (List ℕ)) (gids doors : ℕ) (disk : D) (ended : Ended D) where
   -- ---- readings
 
   -- The event came where this is so of files that the disk read at a moment of the run, by the history before it.
@@ -63,11 +63,11 @@ module _ {D : Type 0} (says : DiskSays D) (words : List (List ℕ)) (gids : ℕ)
     pub opened : IsTrue says.tells → (gid : Gid) (verified blocks : List Bool) (now : Moment)
         → Contains ended.journal.events.items (event.Opened gid verified blocks now)
         → CameAsRead (event.Opened gid verified blocks now)
-        (λ past. OpensAsRead (start_of_line gids line.globals) past gid verified blocks)
+        (λ past. OpensAsRead (start_of_line gids doors line.globals) past gid verified blocks)
     pub settled : IsTrue says.tells → (gid : Gid) (piece : ℕ) (right : Bool) (giver : Giver)
         → Contains ended.journal.events.items (event.Settled gid piece right giver)
         → CameAsRead (event.Settled gid piece right giver)
-        (λ past files. OfItsWant (start_of_line gids line.globals) past gid (IsFoundRight right piece files))
+        (λ past files. OfItsWant (start_of_line gids doors line.globals) past gid (IsFoundRight right piece files))
 
   abbrev pub ShowsDisk : Type 0
   ShowsDisk = (ended.journal.events.items ≡ []) ⊎ DiskCauses
@@ -81,9 +81,9 @@ module _ {D : Type 0} (says : DiskSays D) (words : List (List ℕ)) (gids : ℕ)
     pub means : IsLine words line
     pub told : List RunTurn
     pub history : reverse ended.journal.events.items ≡ history_of told
-    pub wants : (want : Want) → IsUntouched (start_of_line gids line.globals) told want
+    pub wants : (want : Want) → IsUntouched (start_of_line gids doors line.globals) told want
         → SameFor want (says.state disk).seen (says.state ended.disk).seen
-    pub names : (name : List ℕ) → IsNameOfNone (start_of_line gids line.globals) told name
+    pub names : (name : List ℕ) → IsNameOfNone (start_of_line gids doors line.globals) told name
         → (says.state ended.disk).seen name ≡ (says.state disk).seen name
 
   abbrev pub LeavesOtherFiles : Type 0

@@ -17,10 +17,10 @@ use Rattle.run_frame.specs.Ends.{ending_of_source}
 use Rattle.run_frame.specs.declared.ended.Ended.{Ended}
 
 -- the words mean a line, and this is how its run ends by the history
-pub record EndsByHistory (words : List (List ℕ)) (gids : ℕ) (journal : Journal) (ending : RunEnding) : Type 0 where
+pub record EndsByHistory (words : List (List ℕ)) (gids doors : ℕ) (journal : Journal) (ending : RunEnding) : Type 0 where
   pub line : CommandLine
   pub means : IsLine words line
-  pub is : ending ≡ ending_by_history (start_of_line gids line.globals) (reverse journal.events.items)
+  pub is : ending ≡ ending_by_history (start_of_line gids doors line.globals) (reverse journal.events.items)
 
 -- it is what the bytes of the file show: no fault, and no want of memory
 abbrev pub IsShownByFile : SourceErr → Type 0
@@ -28,7 +28,7 @@ IsShownByFile Fault = ⊥
 IsShownByFile Starved = ⊥
 IsShownByFile error = Unit {0}
 
-module _ {D O : Type 0} (says : DiskSays D) (sinks : SinkSays O) (words : List (List ℕ)) (gids : ℕ) (disk : D) (out : O)
+module _ {D O : Type 0} (says : DiskSays D) (sinks : SinkSays O) (words : List (List ℕ)) (gids doors : ℕ) (disk : D) (out : O)
     (ended : Ended D) (out' : O) where
   -- what shows it; nothing shows want of memory
   abbrev pub ShowsEnding : RunEnding → Type 0
@@ -36,7 +36,7 @@ module _ {D O : Type 0} (says : DiskSays D) (sinks : SinkSays O) (words : List (
   ShowsEnding (NoMetainfo why) = LacksCall says words disk ended.disk (NoMetainfo why)
   ShowsEnding NoMemory = Unit {0}
   ShowsEnding SinkFault = Rose (sinks.faults out) (sinks.faults out')
-  ShowsEnding told = EndsByHistory words gids ended.journal told
+  ShowsEnding told = EndsByHistory words gids doors ended.journal told
 
   -- so it ends, or memory was wanting, or the disk failed meanwhile
   abbrev pub EndsBySource : SourceErr → Type 0

@@ -47,15 +47,15 @@ module _ {D O : Type 0} (says : DiskSays D) (sinks : SinkSays O) where
     pub journal : ended.journal.events.items ≡ []
 
   -- behind the command line's own call turns came, and the run was stopped and ended
-  pub record Ran (words : List (List ℕ)) (gids : ℕ) (disk : D) (out : O) (ended : Ended D) (out' : O) : Type 0 where
+  pub record Ran (words : List (List ℕ)) (gids doors : ℕ) (disk : D) (out : O) (ended : Ended D) (out' : O) : Type 0 where
     pub begun : Begun D
-    pub begins : HasBegun says words gids disk begun
+    pub begins : HasBegun says words gids doors disk begun
     pub engine : EngineView D
     pub short : Bool
     pub stops : StopsRun says begun.desk engine short
     pub finishes : Finishes sinks engine (begun.is_short || short) out ended out'
 
   -- a run, from the words to the summary
-  abbrev pub IsWholeRun : List (List ℕ) → ℕ → D → O → Ended D → O → Type 0
-  IsWholeRun words gids disk out ended out' =
-      NeverBegan words disk out ended out' ⊎ Ran words gids disk out ended out'
+  abbrev pub IsWholeRun : List (List ℕ) → (gids doors : ℕ) → D → O → Ended D → O → Type 0
+  IsWholeRun words gids doors disk out ended out' =
+      NeverBegan words disk out ended out' ⊎ Ran words gids doors disk out ended out'

@@ -16,46 +16,46 @@ module _ {D O : Type 0} (says : DiskSays D) (sinks : SinkSays O) where
   -- the history of a run that began has its stop
   abbrev pub BegunAreStopped : Type 0
   BegunAreStopped =
-      (words : List (List ℕ)) (gids : ℕ) (disk : D) (out : O) (ended : Ended D) (out' : O)
-      → Ran says sinks words gids disk out ended out' → Contains ended.journal.events.items Stopped
+      (words : List (List ℕ)) (gids doors : ℕ) (disk : D) (out : O) (ended : Ended D) (out' : O)
+      → Ran says sinks words gids doors disk out ended out' → Contains ended.journal.events.items Stopped
 
   -- ---- of every run
 
   abbrev pub RunsEndAsShown : Type 0
   RunsEndAsShown =
-      (words : List (List ℕ)) (gids : ℕ) (disk : D) (out : O) (ended : Ended D) (out' : O)
-      → IsWholeRun says sinks words gids disk out ended out'
-      → EndsAsShown says sinks words gids disk out ended out'
+      (words : List (List ℕ)) (gids doors : ℕ) (disk : D) (out : O) (ended : Ended D) (out' : O)
+      → IsWholeRun says sinks words gids doors disk out ended out'
+      → EndsAsShown says sinks words gids doors disk out ended out'
 
   abbrev pub RunsPrintText : Type 0
   RunsPrintText =
-      (words : List (List ℕ)) (gids : ℕ) (disk : D) (out : O) (ended : Ended D) (out' : O)
-      → IsWholeRun says sinks words gids disk out ended out'
-      → PrintsText says sinks words gids disk out ended out'
+      (words : List (List ℕ)) (gids doors : ℕ) (disk : D) (out : O) (ended : Ended D) (out' : O)
+      → IsWholeRun says sinks words gids doors disk out ended out'
+      → PrintsText says sinks words gids doors disk out ended out'
 
   abbrev pub RunsHaveHistories : Type 0
   RunsHaveHistories =
-      (words : List (List ℕ)) (gids : ℕ) (disk : D) (out : O) (ended : Ended D) (out' : O)
-      → IsWholeRun says sinks words gids disk out ended out' → IsHistory says words gids disk ended
+      (words : List (List ℕ)) (gids doors : ℕ) (disk : D) (out : O) (ended : Ended D) (out' : O)
+      → IsWholeRun says sinks words gids doors disk out ended out' → IsHistory says words gids doors disk ended
 
   abbrev pub RunsSurvive : Type 0
   RunsSurvive =
-      (words : List (List ℕ)) (gids : ℕ) (disk : D) (out : O) (ended : Ended D) (out' : O)
-      → IsWholeRun says sinks words gids disk out ended out' → IsTrue says.tells
-      → SurvivesRun says words gids disk ended
+      (words : List (List ℕ)) (gids doors : ℕ) (disk : D) (out : O) (ended : Ended D) (out' : O)
+      → IsWholeRun says sinks words gids doors disk out ended out' → IsTrue says.tells
+      → SurvivesRun says words gids doors disk ended
 
   abbrev pub RunsShowDisk : Type 0
   RunsShowDisk =
-      (words : List (List ℕ)) (gids : ℕ) (disk : D) (out : O) (ended : Ended D) (out' : O)
-      → IsWholeRun says sinks words gids disk out ended out' → ShowsDisk says words gids disk ended
+      (words : List (List ℕ)) (gids doors : ℕ) (disk : D) (out : O) (ended : Ended D) (out' : O)
+      → IsWholeRun says sinks words gids doors disk out ended out' → ShowsDisk says words gids doors disk ended
 
   abbrev pub RunsLeaveOtherFiles : Type 0
   RunsLeaveOtherFiles =
-      (words : List (List ℕ)) (gids : ℕ) (disk : D) (out : O) (ended : Ended D) (out' : O)
-      → IsWholeRun says sinks words gids disk out ended out' → IsTrue says.tells
-      → LeavesOtherFiles says words gids disk ended
+      (words : List (List ℕ)) (gids doors : ℕ) (disk : D) (out : O) (ended : Ended D) (out' : O)
+      → IsWholeRun says sinks words gids doors disk out ended out' → IsTrue says.tells
+      → LeavesOtherFiles says words gids doors disk ended
 
   abbrev pub UnbegunOnlyRead : Type 0
   UnbegunOnlyRead =
-      (words : List (List ℕ)) (gids : ℕ) (disk : D) (out : O) (ended : Ended D) (out' : O)
-      → IsWholeRun says sinks words gids disk out ended out' → OnlyReads says disk ended
+      (words : List (List ℕ)) (gids doors : ℕ) (disk : D) (out : O) (ended : Ended D) (out' : O)
+      → IsWholeRun says sinks words gids doors disk out ended out' → OnlyReads says disk ended

@@ -25,20 +25,20 @@ StandsFirst (Some call) events =
 abbrev pub LeavesNoneUnsaved : RunStart → List Event → Type 0
 LeavesNoneUnsaved start past = (gid : Gid) → ¬ IsSavedLast start past gid
 
-module _ {D : Type 0} (says : DiskSays D) (words : List (List ℕ)) (gids : ℕ) (disk : D) (ended : Ended D) where
+module _ {D : Type 0} (says : DiskSays D) (words : List (List ℕ)) (gids doors : ℕ) (disk : D) (ended : Ended D) where
   -- The history that the journal holds is a legal one of a run with the options of the words. It begins with the call
   -- of the line, the run was stopped, and all was saved, unless memory was wanting.
   pub record IsHistoryOf : Type 0 where
     pub line : CommandLine
     pub means : IsLine words line
-    pub legal : IsLegal (start_of_line gids line.globals) (reverse ended.journal.events.items)
+    pub legal : IsLegal (start_of_line gids doors line.globals) (reverse ended.journal.events.items)
     pub call : Option Call
     pub named : IsNamedCall line.source line.settings call
     pub call_is : IsTrue says.tells → IsCallOf (says.state disk).seen line.source line.settings call
     pub first : ended.ending ≢ NoMemory → StandsFirst call ended.journal.events.items
     pub stopped : Contains ended.journal.events.items Stopped
     pub saved : ended.ending ≢ NoMemory
-        → LeavesNoneUnsaved (start_of_line gids line.globals) (reverse ended.journal.events.items)
+        → LeavesNoneUnsaved (start_of_line gids doors line.globals) (reverse ended.journal.events.items)
 
   abbrev pub IsHistory : Type 0
   IsHistory = (ended.journal.events.items ≡ []) ⊎ IsHistoryOf

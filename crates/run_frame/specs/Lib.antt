@@ -1,4 +1,5 @@
 pub mod Ends
+pub mod Consoles
 pub mod Begins
 pub mod Stops
 pub mod Finishes

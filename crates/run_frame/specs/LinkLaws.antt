@@ -18,15 +18,15 @@ module _ {D O : Type 0} (says : DiskSays D) (sinks : SinkSays O) where
 
   abbrev pub LossesComeOfWorkers : Type 0
   LossesComeOfWorkers =
-      (words : List (List ℕ)) (gids : ℕ) (disk : D) (out : O) (ended : Ended D) (out' : O)
-      (ran : Ran says sinks words gids disk out ended out') (gid : Gid) (id mirror piece : ℕ) (mark : Mark)
+      (words : List (List ℕ)) (gids doors : ℕ) (disk : D) (out : O) (ended : Ended D) (out' : O)
+      (ran : Ran says sinks words gids doors disk out ended out') (gid : Gid) (id mirror piece : ℕ) (mark : Mark)
       → Contains ended.journal.events.items (Lost gid id mirror piece mark)
       → ComesOfClaimEnd ran.stops.middle (Lost gid id mirror piece mark)
 
   abbrev pub LengthsComeOfWorkers : Type 0
   LengthsComeOfWorkers =
-      (words : List (List ℕ)) (gids : ℕ) (disk : D) (out : O) (ended : Ended D) (out' : O)
-      (ran : Ran says sinks words gids disk out ended out') (gid : Gid) (id total : ℕ)
+      (words : List (List ℕ)) (gids doors : ℕ) (disk : D) (out : O) (ended : Ended D) (out' : O)
+      (ran : Ran says sinks words gids doors disk out ended out') (gid : Gid) (id total : ℕ)
       → Contains ended.journal.events.items (Sized gid id total)
       → ComesOfClaimEnd ran.stops.middle (Sized gid id total)
 
@@ -35,20 +35,20 @@ module _ {D O : Type 0} (says : DiskSays D) (sinks : SinkSays O) where
 
     abbrev pub WorkersShowLosses : Type 0
     WorkersShowLosses =
-        (words : List (List ℕ)) (gids : ℕ) (disk : D) (out : O) (ended : Ended D) (out' : O)
-        (ran : Ran says sinks words gids disk out ended out') (worker : ℕ) (old new : L)
+        (words : List (List ℕ)) (gids doors : ℕ) (disk : D) (out : O) (ended : Ended D) (out' : O)
+        (ran : Ran says sinks words gids doors disk out ended out') (worker : ℕ) (old new : L)
         (own : WorkedAmong D links worker (all_turns says ran.stops) old new)
         (t : RunTurn) (gid : Gid) (id mirror piece : ℕ) (mark : Mark) → Contains own.its.worked t
         → Contains t.events (Lost gid id mirror piece mark)
-        → LostAsTold links (start_of_line gids ran.begins.line.globals) ended.journal.events.items worker old new
+        → LostAsTold links (start_of_line gids doors ran.begins.line.globals) ended.journal.events.items worker old new
         gid id mirror mark
 
     abbrev pub WorkersShowLengths : Type 0
     WorkersShowLengths =
-        (words : List (List ℕ)) (gids : ℕ) (disk : D) (out : O) (ended : Ended D) (out' : O)
-        (ran : Ran says sinks words gids disk out ended out') (worker : ℕ) (old new : L)
+        (words : List (List ℕ)) (gids doors : ℕ) (disk : D) (out : O) (ended : Ended D) (out' : O)
+        (ran : Ran says sinks words gids doors disk out ended out') (worker : ℕ) (old new : L)
         (own : WorkedAmong D links worker (all_turns says ran.stops) old new)
         (t : RunTurn) (gid : Gid) (id total : ℕ) → Contains own.its.worked t
         → Contains t.events (Sized gid id total)
-        → SizedAsTold links (start_of_line gids ran.begins.line.globals) ended.journal.events.items worker old new
+        → SizedAsTold links (start_of_line gids doors ran.begins.line.globals) ended.journal.events.items worker old new
         gid id total

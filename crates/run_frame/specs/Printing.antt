@@ -18,7 +18,7 @@ abbrev pub refusal_text : RunEnding → List ℕ
 refusal_text NoMemory = []
 refusal_text refusal = error_line refusal
 
-module _ {D O : Type 0} (says : DiskSays D) (sinks : SinkSays O) (words : List (List ℕ)) (gids : ℕ) (disk : D) (out : O)
+module _ {D O : Type 0} (says : DiskSays D) (sinks : SinkSays O) (words : List (List ℕ)) (gids doors : ℕ) (disk : D) (out : O)
     (ended : Ended D) (out' : O) where
   -- memory was wanting, or the output failed
   abbrev pub MayBeShort : Type 0
@@ -36,8 +36,8 @@ module _ {D O : Type 0} (says : DiskSays D) (sinks : SinkSays O) (words : List (
     pub line : CommandLine
     pub means : IsLine words line
     pub count : ℕ
-    pub is : IsSummaryOf (start_of_line gids line.globals) (reverse ended.journal.events.items) count text
-    pub all : (length (gids_in (start_of_line gids line.globals) (reverse ended.journal.events.items)) ≤ count)
+    pub is : IsSummaryOf (start_of_line gids doors line.globals) (reverse ended.journal.events.items) count text
+    pub all : (length (gids_in (start_of_line gids doors line.globals) (reverse ended.journal.events.items)) ≤ count)
         ⊎ MayBeShort
 
   -- There is one text to print, and a front of it was printed, once; all of it, but where it may be short.

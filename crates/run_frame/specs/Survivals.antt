@@ -11,7 +11,7 @@ use Rattle.run_promises.specs.Promises.{HaveDigests, StartsSound, SurvivesCrash}
 use Rattle.run_frame.specs.Begins.{start_of_line}
 use Rattle.run_frame.specs.declared.ended.Ended.{Ended}
 
-module _ {D : Type 0} (says : DiskSays D) (words : List (List ℕ)) (gids : ℕ) (disk : D) (ended : Ended D) where
+module _ {D : Type 0} (says : DiskSays D) (words : List (List ℕ)) (gids doors : ℕ) (disk : D) (ended : Ended D) where
   -- Turns came, of which the journal is the history. Where each image of the given disk was sound for what they opened,
   -- what is told complete has its digests, and a crash at any moment since loses nothing promised.
   pub record LeavesKept : Type 0 where
@@ -19,11 +19,11 @@ module _ {D : Type 0} (says : DiskSays D) (words : List (List ℕ)) (gids : ℕ)
     pub means : IsLine words line
     pub told : List RunTurn
     pub history : reverse ended.journal.events.items ≡ history_of told
-    pub complete : StartsSound (start_of_line gids line.globals) told (says.state disk)
-        → HaveDigests (start_of_line gids line.globals) told (says.state ended.disk)
-    pub crash : StartsSound (start_of_line gids line.globals) told (says.state disk)
-        → (gid : Gid) (want : Want) → IsOpenedWant (start_of_line gids line.globals) told gid want
-        → SurvivesCrash (start_of_line gids line.globals) told (says.state disk).moment (says.state ended.disk) gid want
+    pub complete : StartsSound (start_of_line gids doors line.globals) told (says.state disk)
+        → HaveDigests (start_of_line gids doors line.globals) told (says.state ended.disk)
+    pub crash : StartsSound (start_of_line gids doors line.globals) told (says.state disk)
+        → (gid : Gid) (want : Want) → IsOpenedWant (start_of_line gids doors line.globals) told gid want
+        → SurvivesCrash (start_of_line gids doors line.globals) told (says.state disk).moment (says.state ended.disk) gid want
 
   abbrev pub SurvivesRun : Type 0
   SurvivesRun = (ended.journal.events.items ≡ []) ⊎ LeavesKept

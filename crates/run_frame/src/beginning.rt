@@ -5,6 +5,7 @@ ghost use Rattle.machine_core.specs.LawfulCalls.{IsLawful};
 ghost use Rattle.run_frame.specs.Begins as specs;
 ghost use Rattle.run_frame.specs.Begins.{HasBegun, IsDeskOf, IsUnbegun, RefusesWords, TakesCall};
 
+use crate::console::{ConsoleTerms, console_of, doors_used};
 use crate::ends::ending_of_source;
 use command_line::{CommandLine, read};
 use dl_disk::Disk;
@@ -23,6 +24,7 @@ pub struct Begun<D: Disk> {
     pub desk: SoloDesk<Engine<D>>,
     /// Memory was wanting for the call.
     pub is_short: bool,
+    pub console: ConsoleTerms,
 }
 
 /// A run that didn't begin, and its disk.
@@ -43,17 +45,19 @@ fn line_of(alloc: Global, words: &[String]) -> Result<CommandLine, RunEnding>
     }
 }
 
-// A desk for a run on this disk.
+// A desk for a run on this disk, at which so many doors stand where its console is on.
 fn desk_of<D: Disk>(
     alloc: Global,
     disk: D,
     gids: u64,
+    doors: u16,
     globals: Options,
 ) -> Result<SoloDesk<Engine<D>>, D>
-    ensures desk { IfOk result (IsDeskOf D.Disk disk gids globals) }
+    ensures desk { IfOk result (IsDeskOf D.Disk disk gids doors globals) }
     ensures disk { IfErr result (λ given_back. given_back ≡ disk) }
 {
-    let engine = Engine::new(alloc, disk, gids, globals, 0)?;
+    let doors = doors_used(&globals, doors);
+    let engine = Engine::new(alloc, disk, gids, globals, doors)?;
     match SoloDesk::new(alloc, engine) {
         Ok(desk) => Ok(desk),
         Err((engine, _)) => Err(engine.into_parts().0),
@@ -85,14 +89,16 @@ fn call_first<D: Disk>(desk: &mut SoloDesk<Engine<D>>, call: Option<Call>) -> bo
     }
 }
 
-/// Reads the words, and the metainfo file that they name, and takes the command line's own call.
+/// Reads the words, and the metainfo file that they name, and takes the command line's own call. `gids` is what the ids of
+/// downloads are made from, `doors` how many doors the console has where the words turn it on.
 pub fn begin<D: Disk>(
     alloc: Global,
     words: &[String],
     disk: D,
     gids: u64,
+    doors: u16,
 ) -> Result<Begun<D>, Unbegun<D>>
-    ensures begins { IfOk result (HasBegun D.Disk (map string_bytes words.now) gids disk) }
+    ensures begins { IfOk result (HasBegun D.Disk (map string_bytes words.now) gids doors disk) }
     ensures unbegun { IfErr result (IsUnbegun D.Disk (map string_bytes words.now) disk) }
 {
     lines_are_lawful();
@@ -113,11 +119,19 @@ pub fn begin<D: Disk>(
             return Err(Unbegun { ending, disk });
         }
     };
-    match desk_of(alloc, disk, gids, globals) {
+    let Ok(console) = console_of(alloc, &globals) else {
+        let ending = RunEnding::NoMemory;
+        return Err(Unbegun { ending, disk });
+    };
+    match desk_of(alloc, disk, gids, doors, globals) {
         Ok(mut desk) => {
             let is_short = call_first(&mut desk, call);
             a_sole_owner_took_all(&desk);
-            Ok(Begun { desk, is_short })
+            Ok(Begun {
+                desk,
+                is_short,
+                console,
+            })
         }
         Err(disk) => {
             let ending = RunEnding::NoMemory;

@@ -2,12 +2,14 @@
 #![tactic(auto)]
 
 mod beginning;
+mod console;
 mod ended;
 mod ends;
 mod finishing;
 mod laws;
 
 pub use beginning::{Begun, Unbegun, begin};
+pub use console::{ConsoleTerms, is_console_on};
 pub use ended::{Ended, Finished};
 pub use finishing::{finish, refuse};
 pub use laws::{

@@ -48,7 +48,7 @@ module _ {D L : Type 0} {says : DiskSays D} {links : LinkSays L} {s : RunSight D
 module _ {D L O : Type 0} {says : DiskSays D} {links : LinkSays L} {sinks : SinkSays O} {words : List (List ℕ)}
     {gids : ℕ} {disk : D} {link : L} {out : O} {ended : Ended D} {link' : L} {out' : O} where
   abbrev pub framed : RanOver says links sinks words gids disk link out ended link' out'
-      → Ran says sinks words gids disk out ended out'
+      → Ran says sinks words gids 0 disk out ended out'
   framed ran = record {
     begun = ran.begun;
     begins = ran.begins;
@@ -59,6 +59,6 @@ module _ {D L O : Type 0} {says : DiskSays D} {links : LinkSays L} {sinks : Sink
   }
 
   pub whole : RunsOver says links sinks words gids disk link out ended link' out'
-      → IsWholeRun says sinks words gids disk out ended out'
+      → IsWholeRun says sinks words gids 0 disk out ended out'
   whole (inl never) = inl never.0
   whole (inr ran) = inr (framed ran)

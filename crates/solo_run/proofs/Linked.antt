@@ -68,11 +68,11 @@ module _ {D L O : Type 0} {says : DiskSays D} {links : LinkSays L} {sinks : Sink
     line = ran.begins.line;
     means = ran.begins.means;
     lost = λ gid id mirror piece mark there.
-        let came = losses words gids disk out ended out' (framed ran) gid id mirror piece mark there in
-        lost words gids disk out ended out' (framed ran) 0 link link' (own ran) came.turn gid id mirror piece mark
+        let came = losses words gids 0 disk out ended out' (framed ran) gid id mirror piece mark there in
+        lost words gids 0 disk out ended out' (framed ran) 0 link link' (own ran) came.turn gid id mirror piece mark
         (by_worker ran _ came) came.there;
     sized = λ gid id total there.
-        let came = lengths words gids disk out ended out' (framed ran) gid id total there in
-        sized words gids disk out ended out' (framed ran) 0 link link' (own ran) came.turn gid id total
+        let came = lengths words gids 0 disk out ended out' (framed ran) gid id total there in
+        sized words gids 0 disk out ended out' (framed ran) 0 link link' (own ran) came.turn gid id total
         (by_worker ran _ came) came.there;
   })

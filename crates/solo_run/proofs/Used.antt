@@ -40,7 +40,7 @@ module _ {D L K O : Type 0} {says : DiskSays D} {links : LinkSays L} {sinks : Si
     {disk : D} {out : O} {ended : Ended D} {out' : O} (pair pair' : L × K)
     (runs : RunsOver says links sinks words gids disk pair.0 out ended pair'.0 out') where
   -- where nothing happened the link is as it was
-  link_same : ((ran : Ran says sinks words gids disk out ended out') → Contains ended.journal.events.items Stopped)
+  link_same : ((ran : Ran says sinks words gids 0 disk out ended out') → Contains ended.journal.events.items Stopped)
       → ended.journal.events.items ≡ [] → pair'.0 ≡ pair.0
   link_same stopped none = by runs
     where
@@ -49,12 +49,12 @@ module _ {D L K O : Type 0} {says : DiskSays D} {links : LinkSays L} {sinks : Si
       by (inr ran) =
           none_there (subst (λ (es : List Event). Contains es Stopped) none (stopped (framed ran)))
 
-  pub unused_pair : ((ran : Ran says sinks words gids disk out ended out') → Contains ended.journal.events.items Stopped)
+  pub unused_pair : ((ran : Ran says sinks words gids 0 disk out ended out') → Contains ended.journal.events.items Stopped)
       → (ended.journal.events.items ≡ [] → pair'.1 ≡ pair.1) → ended.journal.events.items ≡ [] → pair' ≡ pair
   unused_pair stopped clock none = (λ i. (link_same stopped none i, clock none i))
 
   pub leaves_unused : (pairs : List (L × K)) → 1 ≤ length pairs → pair ≡ slice_index_or pairs 0 pair
-      → ((ran : Ran says sinks words gids disk out ended out') → Contains ended.journal.events.items Stopped)
+      → ((ran : Ran says sinks words gids 0 disk out ended out') → Contains ended.journal.events.items Stopped)
       → (ended.journal.events.items ≡ [] → pair'.1 ≡ pair.1) → OnlyReads says disk ended
       → LeavesUnused says disk pairs ended (slice_set pairs 0 pair')
   leaves_unused pairs some first stopped clock reads = record {

@@ -16,9 +16,9 @@ module _ {L : Type 0} (links : LinkSays L) (words : List (List ℕ)) (gids : ℕ
     pub line : CommandLine
     pub means : IsLine words line
     pub lost : (gid : Gid) (id mirror piece : ℕ) (mark : Mark) → Contains events (Lost gid id mirror piece mark)
-        → LostAsTold links (start_of_line gids line.globals) events 0 old new gid id mirror mark
+        → LostAsTold links (start_of_line gids 0 line.globals) events 0 old new gid id mirror mark
     pub sized : (gid : Gid) (id total : ℕ) → Contains events (Sized gid id total)
-        → SizedAsTold links (start_of_line gids line.globals) events 0 old new gid id total
+        → SizedAsTold links (start_of_line gids 0 line.globals) events 0 old new gid id total
 
   abbrev pub ShowsLink : List Event → L → L → Type 0
   ShowsLink events old new = (events ≡ []) ⊎ LinkCauses events old new

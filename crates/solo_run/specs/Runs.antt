@@ -46,7 +46,7 @@ module _ {D L : Type 0} (says : DiskSays D) (links : LinkSays L) where
     pub record RanOver (words : List (List ℕ)) (gids : ℕ) (disk : D) (link : L) (out : O) (ended : Ended D) (link' : L)
         (out' : O) : Type 0 where
       pub begun : Begun D
-      pub begins : HasBegun says words gids disk begun
+      pub begins : HasBegun says words gids 0 disk begun
       pub goes : GoesThrough begun link out ended link' out'
 
     -- it ended before it began, and the link is as it was; or it ran over the link

@@ -27,7 +27,11 @@ fn go_through<D: Disk, L: Links, K: Clock, O: Sink>(
 ) -> Ended<D>
     ensures { GoesThrough D.Disk L.Links O.Sink begun link.old out.old result link.new out.new }
 {
-    let Begun { desk, is_short } = begun;
+    let Begun {
+        desk,
+        is_short,
+        console: _console,
+    } = begun;
     let worked = work_through(alloc, desk, link, clock);
     let Worked {
         engine,
@@ -51,7 +55,7 @@ pub(crate) fn run_over<D: Disk, L: Links, K: Clock, O: Sink>(
     ensures clock { result.journal.events.items ≡ [] → clock.new ≡ clock.old }
 {
     begun_runs_are_stopped::<D, O>();
-    match begin(alloc, words, disk, gids) {
+    match begin(alloc, words, disk, gids, 0) {
         Ok(begun) => go_through(alloc, begun, link, clock, out),
         Err(Unbegun { ending, disk }) => Ended {
             ending: refuse(alloc, ending, out),

@@ -38,23 +38,23 @@ pub fn run_alone<D: Disk, L: Links, K: Clock, A, O: Sink>(
     ensures does { DoesAlone D.Disk L.Links O.Sink (map string_bytes words.now) gids disk links.items
         out.old result out.new }
     // How it ended is shown.
-    ensures ending { EndsAsShown D.Disk O.Sink (map string_bytes words.now) gids disk
+    ensures ending { EndsAsShown D.Disk O.Sink (map string_bytes words.now) gids 0 disk
         out.old (ended_of result) out.new }
     // Why it didn't begin is printed, or the summary, and nothing else.
-    ensures output { PrintsText D.Disk O.Sink (map string_bytes words.now) gids disk
+    ensures output { PrintsText D.Disk O.Sink (map string_bytes words.now) gids 0 disk
         out.old (ended_of result) out.new }
     // One legal history, which begins with the call of the line and leaves nothing unsaved.
-    ensures history { IsHistory D.Disk (map string_bytes words.now) gids disk (ended_of result) }
+    ensures history { IsHistory D.Disk (map string_bytes words.now) gids 0 disk (ended_of result) }
     // What it tells of the disk was so, and files that weren't asked for are as they were.
-    ensures disk { ShowsDisk D.Disk (map string_bytes words.now) gids disk (ended_of result) }
+    ensures disk { ShowsDisk D.Disk (map string_bytes words.now) gids 0 disk (ended_of result) }
     ensures others { IsTrue D.tells
-        → LeavesOtherFiles D.Disk (map string_bytes words.now) gids disk (ended_of result) }
+        → LeavesOtherFiles D.Disk (map string_bytes words.now) gids 0 disk (ended_of result) }
     // What it tells of the link came over it.
     ensures link { ShowsFirstLink L.Links (map string_bytes words.now) gids
         result.journal.events.items links.items result.links.items }
     // What is complete has its digests, and nothing that was promised is lost by a crash.
     ensures survives { IsTrue D.tells
-        → SurvivesRun D.Disk (map string_bytes words.now) gids disk (ended_of result) }
+        → SurvivesRun D.Disk (map string_bytes words.now) gids 0 disk (ended_of result) }
     // Nothing else is touched.
     ensures untouched { LeavesUnused D.Disk disk links.items (ended_of result) result.links.items }
     ensures doors { result.doors ≡ doors }

@@ -14,6 +14,7 @@ returns-in-Ok-desk_of-clause-begins g c =
     record {
       line = c.in-Ok.line;
       means = c.in-Ok.ensures.line;
+      console_is = c.in-Ok-console_of.ensures;
       read = c.first_call.new.disk;
       is_read = record { later = call.ensures.later; stays = call.ensures.stays; passes = call.ensures.passes };
       call = call.call;

@@ -2,4 +2,4 @@ use Rattle.run_frame.proofs.Whole.{stopped}
 use Rattle.run_frame.proofs.laws.begun_runs_are_stopped.Goals as goal
 
 pub returns : goal.returns
-returns g c words gids disk out ended out' ran = stopped ran c.turns_tell_runs.ensures.appended
+returns g c words gids doors disk out ended out' ran = stopped ran c.turns_tell_runs.ensures.appended

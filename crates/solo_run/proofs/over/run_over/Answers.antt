@@ -17,7 +17,7 @@ pub returns-in-Ok-clause-clock : goal.returns-in-Ok-clause-clock
 returns-in-Ok-clause-clock g c none =
     none_there
     (subst (λ (es : List Event). Contains es Stopped) none
-    (c.begun_runs_are_stopped.ensures _ _ _ _ _ _ (framed {links = g.L.Links} (record {
+    (c.begun_runs_are_stopped.ensures _ _ _ _ _ _ _ (framed {links = g.L.Links} (record {
       begun = c.in-Ok.begun;
       begins = c.in-Ok.ensures.begins;
       goes = c.go_through.ensures;

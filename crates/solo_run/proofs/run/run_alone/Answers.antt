@@ -21,28 +21,28 @@ returns-clause-does g c link others is =
           first came.ensures.runs;
       unused = λ none.
           unused_pair pair (came.new.link, came.new.clock) came.ensures.runs
-          (c.begun_runs_are_stopped.ensures _ _ _ _ _ _)
+          (c.begun_runs_are_stopped.ensures _ _ _ _ _ _ _)
           came.ensures.clock none
           ∙ first;
     }
 
 pub returns-clause-ending : goal.returns-clause-ending
-returns-clause-ending g c = c.runs_end_as_shown.ensures _ _ _ _ _ _ (whole c.run_over-ending.ensures.runs)
+returns-clause-ending g c = c.runs_end_as_shown.ensures _ _ _ _ _ _ _ (whole c.run_over-ending.ensures.runs)
 
 pub returns-clause-output : goal.returns-clause-output
-returns-clause-output g c = c.runs_print_one_text.ensures _ _ _ _ _ _ (whole c.run_over-ending.ensures.runs)
+returns-clause-output g c = c.runs_print_one_text.ensures _ _ _ _ _ _ _ (whole c.run_over-ending.ensures.runs)
 
 pub returns-clause-history : goal.returns-clause-history
-returns-clause-history g c = c.runs_have_whole_histories.ensures _ _ _ _ _ _ (whole c.run_over-ending.ensures.runs)
+returns-clause-history g c = c.runs_have_whole_histories.ensures _ _ _ _ _ _ _ (whole c.run_over-ending.ensures.runs)
 
 pub returns-clause-disk : goal.returns-clause-disk
-returns-clause-disk g c = c.runs_show_their_disk.ensures _ _ _ _ _ _ (whole c.run_over-ending.ensures.runs)
+returns-clause-disk g c = c.runs_show_their_disk.ensures _ _ _ _ _ _ _ (whole c.run_over-ending.ensures.runs)
 
 pub returns-clause-others : goal.returns-clause-others
-returns-clause-others g c = c.runs_leave_other_files.ensures _ _ _ _ _ _ (whole c.run_over-ending.ensures.runs)
+returns-clause-others g c = c.runs_leave_other_files.ensures _ _ _ _ _ _ _ (whole c.run_over-ending.ensures.runs)
 
 pub returns-clause-survives : goal.returns-clause-survives
-returns-clause-survives g c = c.runs_survive_crashes.ensures _ _ _ _ _ _ (whole c.run_over-ending.ensures.runs)
+returns-clause-survives g c = c.runs_survive_crashes.ensures _ _ _ _ _ _ _ (whole c.run_over-ending.ensures.runs)
 
 pub returns-clause-link : goal.returns-clause-link
 returns-clause-link g c =
@@ -55,6 +55,6 @@ pub returns-clause-untouched : goal.returns-clause-untouched
 returns-clause-untouched g c =
     leaves_unused c.index_mut.result.now (c.run_over-ending.new.link, c.run_over-ending.new.clock)
     c.run_over-ending.ensures.runs _ c.requires c.index_mut.ensures.value
-    (c.begun_runs_are_stopped.ensures _ _ _ _ _ _)
+    (c.begun_runs_are_stopped.ensures _ _ _ _ _ _ _)
     c.run_over-ending.ensures.clock
-    (c.unbegun_runs_only_read.ensures _ _ _ _ _ _ (whole c.run_over-ending.ensures.runs))
+    (c.unbegun_runs_only_read.ensures _ _ _ _ _ _ _ (whole c.run_over-ending.ensures.runs))
