@@ -2,12 +2,13 @@
 #![tactic(auto)]
 
 ghost use Rattle.std.specs.Prelude.{◌≡◌, ◌≤◌, IfOk, length};
-ghost use Rattle.aria_top.specs.declared.limits.TheConstants.{MAX_LINKS};
+ghost use Rattle.aria_top.specs.declared.limits.TheConstants.{CONSOLE_DOORS, MAX_LINKS};
 
-use aria_top::{Finished, needs_of, run};
-use real_edge::{FileDisk, StdClock, StdOut, TcpLinks};
+use aria_top::{CONSOLE_DOORS, FinishedRun, Needs, needs_of, run};
+use real_edge::{FileDisk, StdClock, StdOut, TcpDoors, TcpLinks, listen_on};
 use run_readout::{Progress, Terminal, WatchedDisk, WatchedLinks, WatchedSink};
 use std::io::{ErrorKind, IsTerminal, Stderr};
+use std::net::{Ipv4Addr, SocketAddr, SocketAddrV4, TcpListener};
 use std::process::ExitCode;
 use std::random::RandomSource;
 use std::rt::Env;
@@ -18,40 +19,92 @@ use std::{env, io};
 // The status where the run can't begin, for want of memory or of a random number.
 const NOT_BEGUN: u8 = 40;
 
+// The status where the console can't listen at its port.
+const NO_PORT: u8 = 1;
+
 type RealClock<'a> = StdClock<'a, HostRuntime>;
 
 type Link<'a> = WatchedLinks<'a, TcpLinks<'a, HostRuntime>, RealClock<'a>, Stderr>;
+
+type Door<'a> = TcpDoors<'a, HostRuntime>;
 
 fn main(rt: HostRuntime) -> ExitCode {
     let progress = Progress::new();
     ExitCode::from(download(&rt, &rt, &progress).unwrap_or(NOT_BEGUN))
 }
 
-fn download<'a, R: Threads + Wait + Sync>(
+fn download<R: Threads + Wait + Sync>(
+    threads: &R,
+    rt: &HostRuntime,
+    progress: &Progress,
+) -> io::Result<u8> {
+    let words = words(rt)?;
+    // Words without a meaning need one link, which isn't used.
+    let needs = needs_of(rt.alloc(), &words)?.unwrap_or(Needs {
+        links: 1,
+        doors: 0,
+        port: 0,
+    });
+    match listener(rt, needs) {
+        Ok(Some(listener)) => run_at(threads, rt, progress, &words, needs, Some(&listener)),
+        Ok(None) => run_at(threads, rt, progress, &words, needs, None),
+        Err(error) => {
+            let port = needs.port;
+            eprintln!(rt; "aria_cli: can't listen at port {port} of 127.0.0.1: {error}")?;
+            Ok(NO_PORT)
+        }
+    }
+}
+
+fn run_at<'a, R: Threads + Wait + Sync>(
     threads: &R,
     rt: &'a HostRuntime,
     progress: &'a Progress,
-) -> io::Result<u8> {
+    words: &[String],
+    needs: Needs,
+    listener: Option<&'a TcpListener>,
+) -> io::Result<u8>
+    requires { (1 ≤ needs.links) × (needs.links ≤ MAX_LINKS) }
+{
     let alloc = rt.alloc();
-    let words = words(rt)?;
-    // Words without a meaning need one link, which isn't used.
-    let count = match needs_of(alloc, &words)? {
-        Some(needs) => needs.links,
-        None => 1,
-    };
-    let links = links(rt, progress, count)?;
+    let links = links(rt, progress, needs.links)?;
+    let doors = doors(rt, listener, needs.doors.min(CONSOLE_DOORS))?;
     let gids = random_number(rt)?;
     let mut out = WatchedSink::new(StdOut::new(rt.stdout()), progress, rt.stderr());
     let disk = WatchedDisk::new(alloc, FileDisk::new(rt), progress);
-    let doors = Vec::<((), _)>::new(alloc);
-    let Finished {
+    let FinishedRun {
         ending,
         disk: _disk,
         links: _links,
         doors: _doors,
+        transcripts: _transcripts,
         journal: _journal,
-    } = run(threads, alloc, &words, disk, links, doors, gids, &mut out);
+    } = run(threads, alloc, words, disk, links, doors, gids, &mut out);
     Ok(ending.code())
+}
+
+// One listener for all doors, where the console is on.
+fn listener(rt: &HostRuntime, needs: Needs) -> io::Result<Option<TcpListener>> {
+    if needs.doors == 0 {
+        return Ok(None);
+    }
+    let address = SocketAddr::V4(SocketAddrV4::new(Ipv4Addr::LOCALHOST, needs.port));
+    Ok(Some(listen_on(rt, address)?))
+}
+
+fn doors<'a>(
+    rt: &'a HostRuntime,
+    listener: Option<&'a TcpListener>,
+    count: u16,
+) -> io::Result<Vec<(Door<'a>, RealClock<'a>)>>
+    requires { count ≤ CONSOLE_DOORS }
+    ensures { IfOk result (λ doors. length doors.items ≡ count) }
+{
+    let mut doors = Vec::new(rt.alloc());
+    for _ in 0..count {
+        doors.push((TcpDoors::new(rt, listener), StdClock::new(rt)?))?;
+    }
+    Ok(doors)
 }
 
 fn random_number(rt: &HostRuntime) -> io::Result<u64> {

@@ -1,8 +1,12 @@
-pub mod Seating
 pub mod Sends
+pub mod Syncs
 pub mod Stopping
-pub mod Uses
+pub mod Serving
+pub mod Sharing
 pub mod Closing
 pub mod Framed
 pub mod Linked
+pub mod Called
+pub mod Doors
 pub mod Untouched
+pub mod Unused

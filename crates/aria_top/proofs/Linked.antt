@@ -1,18 +1,29 @@
 -- What the history of a run tells of its links came over the link of the claim's worker.
-use Rattle.std.proofs.Common.{◌≡◌, ◌⊎◌, inl, inr, ⊎_elim, ℕ, zero, suc, Bool, true, false, List, [], ◌∷◌, ◌++◌, Option, None, Some, Result, Ok, cond, eq-eqb, eqb, map, refl, sym, ap, ◌∙◌, subst, arith, slice_get}
-use Rattle.std.specs.Prelude.{Contains}
-use Rattle.std.proofs.lemmas.List.Elements.{Contains-append_cases, Contains-append_left, Contains-append_right, Contains-push_cases}
+use Rattle.std.proofs.Common.{◌≡◌, ◌⊎◌, inl, inr, ⊎_elim, ℕ, zero, suc, Bool, true, false, List, [], ◌∷◌, ◌++◌, Option, None, Some, Result, Ok, cond, eq-eqb, eqb, length, refl, sym, ap, ◌∙◌, subst, arith, slice_get}
+use Rattle.std.specs.Prelude.{◌+◌, ◌-◌, ◌≤◌, ◌<◌, All, Contains}
+use Rattle.std.proofs.Math.Dec.{ltb}
+use Rattle.std.proofs.lemmas.Bool.{ltb-false, ltb-true}
+use Rattle.std.proofs.lemmas.List.Elements.{All-contains, Contains-append_cases, Contains-append_left, Contains-append_right, Contains-push_cases}
 use Rattle.conn_worker.specs.Brought.{EndsClaim}
 use Rattle.conn_worker.specs.Works.{StopsUnlessFinished}
 use Rattle.conn_worker.specs.declared.ends.Spent.{Spent}
 use Rattle.conn_worker.specs.declared.ends.WorkEnd.{WorkEnd}
 use Rattle.conn_worker.specs.declared.ends.WorkEnd.TheVariants as end
+use Rattle.console_session.specs.CallTurns.{IsOfSession}
+use Rattle.console_session.specs.declared.serving.Transcript.{Transcript}
+use Rattle.desk_seats.specs.Uses.{Use}
+use Rattle.desk_seats.proofs.Seating.{get_at}
+use Rattle.desk_seats.proofs.Uses.{map_get}
 use Rattle.dl_disk.specs.declared.disk.Disk.{Ghosts as DiskSays}
 use Rattle.dl_kinds.specs.declared.gid.Gid.{Gid}
 use Rattle.dl_kinds.specs.declared.marks.Mark.{Mark}
 use Rattle.dl_kinds.specs.declared.outside.Sink.{Ghosts as SinkSays}
+use Rattle.door_source.specs.declared.Doors.{Ghosts as DoorSays}
 use Rattle.engine_turns.specs.Told.{RunTurn}
+use Rattle.engine_turns.specs.declared.operations.Operation.{Operation}
+use Rattle.engine_turns.specs.declared.operations.Operation.TheVariants as operation
 use Rattle.link_source.specs.declared.Links.{Ghosts as LinkSays}
+use Rattle.machine_core.specs.Starts.{RunStart}
 use Rattle.machine_core.specs.declared.calls.Call.{Call}
 use Rattle.machine_core.specs.declared.events.Event.{Event}
 use Rattle.machine_core.specs.declared.events.Event.TheVariants.{Lost, Sized}
@@ -23,43 +34,42 @@ use Rattle.run_frame.specs.LinkLaws.{LengthsComeOfWorkers, LossesComeOfWorkers, 
 use Rattle.run_frame.specs.Stops.{all_turns}
 use Rattle.run_frame.specs.declared.ended.Ended.{Ended}
 use Rattle.aria_top.specs.LinksCauses.{LostAtPlace, ShowsLinks, SizedAtPlace}
-use Rattle.aria_top.specs.RunsTogether.{RanTogether, RunsTogether}
-use Rattle.aria_top.specs.Together.{LinkUse, NobodyWorked, WorkedTogether, own_before}
+use Rattle.aria_top.specs.Participants.{session_of}
+use Rattle.aria_top.specs.RunsTogether.{RanTogether, RunsTogether, used_edges}
+use Rattle.aria_top.specs.Together.{Edges, NobodyWorked, WorkedTogether, own_before}
 use Rattle.aria_top.proofs.Framed.{cut, framed}
-use Rattle.aria_top.proofs.Seating.{get_at}
-use Rattle.aria_top.proofs.Uses.{same_some}
 
 -- ---- members of lists of turns
 
-none_there : {P : Type 0} (t : RunTurn) → Contains [] t → P
+pub none_there : {P : Type 0} (t : RunTurn) → Contains [] t → P
 none_there t there = absurd (let within = there.1 in omega (arith, within))
 
-record CutAt (ts : List RunTurn) (t : RunTurn) : Type 0 where
-  front : List RunTurn
-  back : List RunTurn
-  is : ts ≡ front ++ t ∷ back
+pub record CutAt (ts : List RunTurn) (t : RunTurn) : Type 0 where
+  pub front : List RunTurn
+  pub back : List RunTurn
+  pub is : ts ≡ front ++ t ∷ back
 
-first_or_later : (u : RunTurn) (ts : List RunTurn) (t : RunTurn) → Contains (u ∷ ts) t → (u ≡ t) ⊎ Contains ts t
+pub first_or_later : (u : RunTurn) (ts : List RunTurn) (t : RunTurn) → Contains (u ∷ ts) t → (u ≡ t) ⊎ Contains ts t
 first_or_later u ts t there = ⊎_elim
     (λ (here : Contains (u ∷ []) t).
     ⊎_elim (λ (none : Contains [] t). none_there t none) (λ (same : u ≡ t). inl same) (Contains-push_cases [] u t here))
     (λ (later : Contains ts t). inr later) (Contains-append_cases (u ∷ []) ts t there)
 
-cut_at : (ts : List RunTurn) (t : RunTurn) → Contains ts t → CutAt ts t
+pub cut_at : (ts : List RunTurn) (t : RunTurn) → Contains ts t → CutAt ts t
 cut_at [] t there = none_there t there
 cut_at (u ∷ ts) t there = ⊎_elim (λ (same : u ≡ t). record { front = []; back = ts; is = λ i. same i ∷ ts })
     (λ (later : Contains ts t). let rest = cut_at ts t later in
     record { front = u ∷ rest.front; back = rest.back; is = λ i. u ∷ rest.is i })
     (first_or_later u ts t there)
 
-here : (u : RunTurn) (ts : List RunTurn) → Contains (u ∷ ts) u
+pub here : (u : RunTurn) (ts : List RunTurn) → Contains (u ∷ ts) u
 here u ts = Contains-append_left (u ∷ []) ts u (0, omega arith, refl)
 
-behind : (u : RunTurn) (ts : List RunTurn) (t : RunTurn) → Contains ts t → Contains (u ∷ ts) t
+pub behind : (u : RunTurn) (ts : List RunTurn) (t : RunTurn) → Contains ts t → Contains (u ∷ ts) t
 behind u ts t there = Contains-append_right (u ∷ []) ts t there
 
 -- a turn is among those of its pass
-by_pass : (k : ℕ) (ts : List RunTurn) (t : RunTurn) → Contains ts t → t.pass ≡ k → Contains (turns_by k ts) t
+pub by_pass : (k : ℕ) (ts : List RunTurn) (t : RunTurn) → Contains ts t → t.pass ≡ k → Contains (turns_by k ts) t
 by_pass k [] t there is = none_there t there
 by_pass k (u ∷ ts) t there is = ⊎_elim
     (λ (same : u ≡ t).
@@ -73,7 +83,7 @@ by_pass k (u ∷ ts) t there is = ⊎_elim
     by false rest = rest
 
 -- .. and they are among all
-of_pass : (k : ℕ) (ts : List RunTurn) (t : RunTurn) → Contains (turns_by k ts) t → Contains ts t
+pub of_pass : (k : ℕ) (ts : List RunTurn) (t : RunTurn) → Contains (turns_by k ts) t → Contains ts t
 of_pass k [] t there = none_there t there
 of_pass k (u ∷ ts) t there = by (eqb u.pass k) there (of_pass k ts t)
   where
@@ -83,12 +93,6 @@ of_pass k (u ∷ ts) t there = by (eqb u.pass k) there (of_pass k ts t)
         (λ (later : Contains (turns_by k ts) t). behind u ts t (rest later))
         (first_or_later u (turns_by k ts) t there)
     by false there rest = behind u ts t (rest there)
-
-pub map_get : {X Y : Type 0} (f : X → Y) (xs : List X) (place : ℕ) (x : X) → slice_get xs place ≡ Some x
-    → slice_get (map f xs) place ≡ Some (f x)
-map_get f [] place x is = absurd cc
-map_get f (y ∷ xs) zero x is = ap (λ (z : _). Some (f z)) (same_some y x is)
-map_get f (y ∷ xs) (suc place) x is = map_get f xs place x is
 
 -- ---- turns that end no claim
 
@@ -115,40 +119,68 @@ not_by_stop came moment turns t is there ends =
     (λ (same : is.0 ≡ t). absurd (subst EndsClaim (ap (λ (v : RunTurn). v.op) (sym same) ∙ is.2) ends))
     (Contains-push_cases [] is.0 t (subst (λ (ts : List RunTurn). Contains ts t) is.1 there))
 
-module _ {D L K O : Type 0} {says : DiskSays D} {links : LinkSays L} {sinks : SinkSays O} {words : List (List ℕ)}
-    {gids : ℕ} {disk : D} {olds : List (L × K)} {out : O} {ended : Ended D} {news : List (L × K)} {out' : O} where
-  module _ (ran : RanTogether says links sinks words gids disk olds out ended news out') where
+-- a session ends no claim
+not_by_session : {P : Type 0} (session : ℕ) (op : Operation) → IsOfSession session op → EndsClaim op → P
+not_by_session session (operation.Call number call now) is ends = absurd ends
+not_by_session session operation.Pulse is ends = absurd ends
+not_by_session session other is ends = absurd is
+
+not_by_door : {P : Type 0} (session : ℕ) (before : List RunTurn) (last t : RunTurn)
+    → All (λ (u : RunTurn). IsOfSession session u.op) before → last.op ≡ operation.Leave
+    → Contains (before ++ last ∷ []) t → EndsClaim t.op → P
+not_by_door session before last t kinds leaves there ends = ⊎_elim
+    (λ (is : Contains before t).
+    not_by_session session t.op (All-contains (λ (u : RunTurn). IsOfSession session u.op) before t kinds is) ends)
+    (λ (same : last ≡ t). absurd (subst EndsClaim (ap (λ (v : RunTurn). v.op) (sym same) ∙ leaves) ends))
+    (Contains-push_cases before last t there)
+
+module _ {D L A K O : Type 0} {says : DiskSays D} {links : LinkSays L} {doors : DoorSays A} {sinks : SinkSays O}
+    {words : List (List ℕ)} {gids : ℕ} {disk : D} {olds : Edges L A K} {out : O} {ended : Ended D} {news : Edges L A K}
+    {transcripts : List Transcript} {out' : O} where
+  module _ (ran : RanTogether says links doors sinks words gids disk olds out ended news transcripts out') where
+    abbrev on : Bool
+    on = ran.begun.console.is_on
+
     abbrev turns : List RunTurn
-    turns = ran.goes.works.turns
+    turns = ran.goes_on.goes.works.turns
 
     abbrev all : List RunTurn
     all = all_turns says (framed ran).stops
 
-    -- the workers' turns, and all
+    abbrev start : RunStart
+    start = start_of_line gids (length olds.doors) ran.begins.line.globals
+
+    -- the turns of those who took part, and all
     to_turns : (t : RunTurn) → Contains (framed ran).stops.middle t → Contains turns t
-    to_turns t there = subst (λ (ts : List RunTurn). Contains ts t) (sym (cut ran.goes.works).1)
-        (Contains-append_right ran.begun.desk.own (cut ran.goes.works).0 t there)
+    to_turns t there = subst (λ (ts : List RunTurn). Contains ts t) (sym (cut ran.goes_on.goes.works).1)
+        (Contains-append_right ran.begun.desk.own (cut ran.goes_on.goes.works).0 t there)
 
     from_turns : (t : RunTurn) → Contains turns t → Contains all t
     from_turns t there =
-        Contains-append_left (ran.begun.desk.own ++ (cut ran.goes.works).0) (ran.goes.works.last ∷ []) t
-        (subst (λ (ts : List RunTurn). Contains ts t) (cut ran.goes.works).1 there)
+        Contains-append_left (ran.begun.desk.own ++ (cut ran.goes_on.goes.works).0) (ran.goes_on.goes.works.last ∷ []) t
+        (subst (λ (ts : List RunTurn). Contains ts t) (cut ran.goes_on.goes.works).1 there)
+
+    links_same : news.links ≡ ran.goes_on.used.links
+    links_same = ap (λ (e : Edges L A K). e.links) ran.goes_on.news_are
 
     -- the worker that took a turn which ended a claim
     record TookIt (t : RunTurn) : Type 0 where
       place : ℕ
       old : L × K
       new : L × K
-      old_is : slice_get olds place ≡ Some old
-      new_is : slice_get news place ≡ Some new
+      old_is : slice_get olds.links place ≡ Some old
+      new_is : slice_get news.links place ≡ Some new
       own : WorkedAmong D links place all old.0 new.0
       there : Contains own.its.worked t
 
-    took_by : (worked : WorkedTogether D links ran.begun.desk.own olds news turns ran.goes.works.work_short) (t : RunTurn)
-        → Contains turns t → EndsClaim t.op → TookIt t
-    took_by worked t there ends =
-        let c = cut_at turns t there in
-        let its = get_at worked.uses t.pass (worked.numbered c.front t c.back c.is) in
+    abbrev Together : Type 0
+    Together = WorkedTogether D links doors ran.begun.console ran.begun.desk.own (used_edges on olds) ran.goes_on.used
+        transcripts turns ran.goes_on.goes.works.work_short
+
+    took_by : (worked : Together) (t : RunTurn) → Contains turns t → EndsClaim t.op → t.pass < length worked.uses
+        → TookIt t
+    took_by worked t there ends low =
+        let its = get_at worked.uses t.pass low in
         let u = its.0 in
         let used = worked.each t.pass u its.1 in
         let own_there = subst (λ (ts : List RunTurn). Contains ts t) used.own (by_pass t.pass turns t there refl) in
@@ -156,10 +188,10 @@ module _ {D L K O : Type 0} {says : DiskSays D} {links : LinkSays L} {sinks : Si
           place = t.pass;
           old = u.old;
           new = u.new;
-          old_is = ap (λ (ls : List (L × K)). slice_get ls t.pass) worked.olds_are
-              ∙ map_get (λ (x : LinkUse L K). x.old) worked.uses t.pass u its.1;
-          new_is = ap (λ (ls : List (L × K)). slice_get ls t.pass) worked.news_are
-              ∙ map_get (λ (x : LinkUse L K). x.new) worked.uses t.pass u its.1;
+          old_is = ap (λ (ls : List (L × K)). slice_get ls t.pass) worked.used.olds_are
+              ∙ map_get (λ (x : Use L K Bool). x.old) worked.uses t.pass u its.1;
+          new_is = ap (λ (ls : List (L × K)). slice_get ls t.pass) (links_same ∙ worked.used.news_are)
+              ∙ map_get (λ (x : Use L K Bool). x.new) worked.uses t.pass u its.1;
           own = record {
             from = used.from;
             to = used.to;
@@ -182,52 +214,70 @@ module _ {D L K O : Type 0} {says : DiskSays D} {links : LinkSays L} {sinks : Si
               own_there);
         }
 
+    -- a turn of a door's session
+    by_door : {P : Type 0} (worked : Together) (t : RunTurn) → Contains turns t → EndsClaim t.op
+        → length worked.uses ≤ t.pass → P
+    by_door worked t there ends high =
+        let c = cut_at turns t there in
+        let within = worked.numbered c.front t c.back c.is in
+        let door : ℕ = t.pass - length worked.uses in
+        let pass : length worked.uses + door ≡ t.pass = omega (arith, high) in
+        let its = get_at worked.door_uses door (omega (arith, high, within)) in
+        let used = worked.each_door door its.0 its.1 in
+        not_by_door (session_of door) used.its.before used.its.last t used.its.serves.kinds used.its.leaves
+        (subst (λ (ts : List RunTurn). Contains ts t) used.own (by_pass (length worked.uses + door) turns t there (sym pass)))
+        ends
+
+    took_so : (worked : Together) (t : RunTurn) → Contains turns t → EndsClaim t.op → TookIt t
+    took_so worked t there ends = by (ltb t.pass (length worked.uses)) refl
+      where
+        by : (low : Bool) → ltb t.pass (length worked.uses) ≡ low → TookIt t
+        by true is = took_by worked t there ends (ltb-true t.pass (length worked.uses) is)
+        by false is = by_door worked t there ends (ltb-false t.pass (length worked.uses) is)
+
     took_it : (e : Event) → (came : ComesOfClaimEnd (framed ran).stops.middle e) → TookIt came.turn
     took_it e came = ⊎_elim
-        (λ (worked : WorkedTogether D links ran.begun.desk.own olds news turns ran.goes.works.work_short).
-        took_by worked came.turn (to_turns came.turn came.among) came.ends)
-        (λ (nobody : NobodyWorked ran.begun.desk.own olds news turns ran.goes.works.work_short).
+        (λ (worked : Together). took_so worked came.turn (to_turns came.turn came.among) came.ends)
+        (λ (nobody : NobodyWorked ran.begun.desk.own (used_edges on olds) ran.goes_on.used transcripts turns ran.goes_on.goes.works.work_short).
         not_by_call ran.begins.call ran.begun.desk.own ran.begun.is_short came.turn ran.begins.own
         (subst (λ (ts : List RunTurn). Contains ts came.turn) nobody.none (to_turns came.turn came.among)) came.ends)
-        ran.goes.works.worked
+        ran.goes_on.goes.works.worked
 
     lost_at : LossesComeOfWorkers says sinks → WorkersShowLosses says sinks links
         → (gid : Gid) (id mirror piece : ℕ) (mark : Mark)
         → Contains ended.journal.events.items (Lost gid id mirror piece mark)
-        → LostAtPlace links (start_of_line gids ran.begins.line.globals) ended.journal.events.items olds news gid id
-        mirror mark
+        → LostAtPlace links start ended.journal.events.items olds.links news.links gid id mirror mark
     lost_at losses lost gid id mirror piece mark there =
-        let came = losses words gids disk out ended out' (framed ran) gid id mirror piece mark there in
+        let came = losses words gids (length olds.doors) disk out ended out' (framed ran) gid id mirror piece mark there in
         let took = took_it (Lost gid id mirror piece mark) came in record {
           place = took.place;
           old = took.old;
           new = took.new;
           old_is = took.old_is;
           new_is = took.new_is;
-          told = lost words gids disk out ended out' (framed ran) took.place took.old.0 took.new.0 took.own came.turn gid id
-              mirror piece mark took.there came.there;
+          told = lost words gids (length olds.doors) disk out ended out' (framed ran) took.place took.old.0 took.new.0
+              took.own came.turn gid id mirror piece mark took.there came.there;
         }
 
     sized_at : LengthsComeOfWorkers says sinks → WorkersShowLengths says sinks links
         → (gid : Gid) (id total : ℕ) → Contains ended.journal.events.items (Sized gid id total)
-        → SizedAtPlace links (start_of_line gids ran.begins.line.globals) ended.journal.events.items olds news gid id
-        total
+        → SizedAtPlace links start ended.journal.events.items olds.links news.links gid id total
     sized_at lengths sized gid id total there =
-        let came = lengths words gids disk out ended out' (framed ran) gid id total there in
+        let came = lengths words gids (length olds.doors) disk out ended out' (framed ran) gid id total there in
         let took = took_it (Sized gid id total) came in record {
           place = took.place;
           old = took.old;
           new = took.new;
           old_is = took.old_is;
           new_is = took.new_is;
-          told = sized words gids disk out ended out' (framed ran) took.place took.old.0 took.new.0 took.own came.turn gid
-              id total took.there came.there;
+          told = sized words gids (length olds.doors) disk out ended out' (framed ran) took.place took.old.0 took.new.0
+              took.own came.turn gid id total took.there came.there;
         }
 
   pub shows_links : LossesComeOfWorkers says sinks → LengthsComeOfWorkers says sinks
       → WorkersShowLosses says sinks links → WorkersShowLengths says sinks links
-      → RunsTogether says links sinks words gids disk olds out ended news out'
-      → ShowsLinks links words gids ended.journal.events.items olds news
+      → RunsTogether says links doors sinks words gids disk olds out ended news transcripts out'
+      → ShowsLinks links words gids (length olds.doors) ended.journal.events.items olds.links news.links
   shows_links losses lengths lost sized (inl never) = inl never.0.journal
   shows_links losses lengths lost sized (inr ran) = inr (record {
     line = ran.begins.line;

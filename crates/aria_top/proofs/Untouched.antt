@@ -6,8 +6,13 @@ use Rattle.conn_worker.specs.Hands.{LinkAt, WorkerAt, fresh, link_at}
 use Rattle.conn_worker.specs.Works.{ComesOut, HasNoRoom, RunSight, Worked}
 use Rattle.conn_worker.specs.declared.ends.Spent.{Spent}
 use Rattle.conn_worker.specs.declared.ends.WorkEnd.{WorkEnd}
+use Rattle.console_session.specs.declared.serving.Transcript.{Transcript}
+use Rattle.desk_seats.specs.Uses.{Use}
+use Rattle.desk_seats.proofs.Seating.{get_at, index_at}
+use Rattle.desk_seats.proofs.Uses.{map_get, map_length, same_some}
 use Rattle.dl_disk.specs.declared.disk.Disk.{Ghosts as DiskSays}
 use Rattle.dl_kinds.specs.declared.outside.Sink.{Ghosts as SinkSays}
+use Rattle.door_source.specs.declared.Doors.{Ghosts as DoorSays}
 use Rattle.engine_turns.specs.Told.{RunTurn}
 use Rattle.link_source.specs.declared.Links.{Ghosts as LinkSays}
 use Rattle.machine_core.specs.declared.events.Event.{Event}
@@ -15,21 +20,15 @@ use Rattle.machine_core.specs.declared.events.Event.TheVariants.{Stopped}
 use Rattle.std.proofs.Common.{Result}
 use Rattle.run_frame.specs.Finishes.{Ran}
 use Rattle.run_frame.specs.Untouched.{OnlyReads}
+use Rattle.run_frame.specs.declared.console.ConsoleTerms.{ConsoleTerms}
 use Rattle.run_frame.specs.declared.ended.Ended.{Ended}
 use Rattle.aria_top.specs.LinksLeft.{LeavesLinks}
-use Rattle.aria_top.specs.RunsTogether.{RunsTogether}
-use Rattle.aria_top.specs.Together.{LinkUse, NobodyWorked, WorkedTogether}
+use Rattle.aria_top.specs.RunsTogether.{RanTogether, RunsTogether, used_edges}
+use Rattle.aria_top.specs.Together.{Edges, NobodyWorked, WorkedTogether}
 use Rattle.aria_top.proofs.Framed.{framed}
-use Rattle.aria_top.proofs.Linked.{map_get}
-use Rattle.aria_top.proofs.Seating.{get_at, index_at}
-use Rattle.aria_top.proofs.Uses.{same_some}
 
 none_there : {P : Type 0} → Contains [] Stopped → P
 none_there there = absurd (let within = there.1 in omega (arith, within))
-
-map_length : {X Y : Type 0} (f : X → Y) (xs : List X) → length (map f xs) ≡ length xs
-map_length f [] = refl
-map_length f (x ∷ xs) = let rest = map_length f xs in omega (arith, rest)
 
 -- a link that wasn't used
 stays : (tells : Bool) (at : LinkAt) → IsLaterLink tells at at
@@ -60,50 +59,79 @@ module _ {L K : Type 0} (links : LinkSays L) where
       subst (λ (l : L × K). IsLaterLink links.tells (link_at links old.0) (link_at links l.0)) one
       (stays links.tells (link_at links old.0))
 
-  used_go_on : (D : Type 0) → LinksGoOn → (olds news : List (L × K)) (call turns : List RunTurn) (short : Bool)
-      → WorkedTogether D links call olds news turns short → GoOn olds news
-  used_go_on D go_on olds news call turns short worked place old new old_is new_is =
-      let olds_get = ap (λ (ls : List (L × K)). slice_get ls place) (sym worked.olds_are) ∙ old_is in
-      let low = (index_at (map (λ (u : LinkUse L K). u.old) worked.uses) place old olds_get).0 in
-      let many = map_length (λ (u : LinkUse L K). u.old) worked.uses in
-      let its = get_at worked.uses place (omega (arith, low, many)) in
-      let u = its.0 in
-      let used = worked.each place u its.1 in
-      let old_same : u.old ≡ old = same_some u.old old
-      (sym (map_get (λ (x : LinkUse L K). x.old) worked.uses place u its.1) ∙ olds_get) in
-      let new_same : u.new ≡ new = same_some u.new new
-      (sym (map_get (λ (x : LinkUse L K). x.new) worked.uses place u its.1)
-      ∙ (ap (λ (ls : List (L × K)). slice_get ls place) (sym worked.news_are) ∙ new_is)) in
-      subst (λ (l : L × K). IsLaterLink links.tells (link_at links l.0) (link_at links new.0)) old_same
-      (subst (λ (l : L × K). IsLaterLink links.tells (link_at links u.old.0) (link_at links l.0)) new_same
-      (worker_goes_on place used.from used.to u.old.0 u.new.0 used.came go_on used.its))
+  module _ {A : Type 0} (doors : DoorSays A) (D : Type 0) (console : ConsoleTerms) (call : List RunTurn) (olds news : Edges L A K)
+      (transcripts : List Transcript) (turns : List RunTurn) (short : Bool)
+      (worked : WorkedTogether D links doors console call olds news transcripts turns short) where
+    used_go_on : LinksGoOn → GoOn olds.links news.links
+    used_go_on go_on place old new old_is new_is =
+        let are = worked.used in
+        let olds_get = ap (λ (ls : List (L × K)). slice_get ls place) (sym are.olds_are) ∙ old_is in
+        let low = (index_at (map (λ (u : Use L K Bool). u.old) worked.uses) place old olds_get).0 in
+        let many = map_length (λ (u : Use L K Bool). u.old) worked.uses in
+        let its = get_at worked.uses place (omega (arith, low, many)) in
+        let u = its.0 in
+        let used = worked.each place u its.1 in
+        let old_same : u.old ≡ old = same_some u.old old
+        (sym (map_get (λ (x : Use L K Bool). x.old) worked.uses place u its.1) ∙ olds_get) in
+        let new_same : u.new ≡ new = same_some u.new new
+        (sym (map_get (λ (x : Use L K Bool). x.new) worked.uses place u its.1)
+        ∙ (ap (λ (ls : List (L × K)). slice_get ls place) (sym are.news_are) ∙ new_is)) in
+        subst (λ (l : L × K). IsLaterLink links.tells (link_at links l.0) (link_at links new.0)) old_same
+        (subst (λ (l : L × K). IsLaterLink links.tells (link_at links u.old.0) (link_at links l.0)) new_same
+        (worker_goes_on place used.from used.to u.old.0 u.new.0 used.came go_on used.its))
 
-  used_many : (D : Type 0) (olds news : List (L × K)) (call turns : List RunTurn) (short : Bool)
-      → WorkedTogether D links call olds news turns short → length news ≡ length olds
-  used_many D olds news call turns short worked =
-      ap length worked.news_are
-      ∙ (map_length (λ (u : LinkUse L K). u.new) worked.uses
-      ∙ sym (ap length worked.olds_are ∙ map_length (λ (u : LinkUse L K). u.old) worked.uses))
+    used_many : length news.links ≡ length olds.links
+    used_many =
+        let are = worked.used in
+        ap length are.news_are
+        ∙ (map_length (λ (u : Use L K Bool). u.new) worked.uses
+        ∙ sym (ap length are.olds_are ∙ map_length (λ (u : Use L K Bool). u.old) worked.uses))
 
-module _ {D L K O : Type 0} {says : DiskSays D} {links : LinkSays L} {sinks : SinkSays O} {words : List (List ℕ)}
-    {gids : ℕ} {disk : D} {olds : List (L × K)} {out : O} {ended : Ended D} {news : List (L × K)} {out' : O} where
-  pub leaves_links : ((ran : Ran says sinks words gids disk out ended out') → Contains ended.journal.events.items Stopped)
-      → LinksGoOn → OnlyReads says disk ended
-      → RunsTogether says links sinks words gids disk olds out ended news out'
-      → LeavesLinks says links disk olds ended news
-  leaves_links stopped go_on reads (inl never) = record {
-    reads = reads;
-    all = λ none. never.1;
-    many = ap length never.1;
-    places = same_go_on links olds news never.1;
-  }
+module _ {D L A K O : Type 0} {says : DiskSays D} {links : LinkSays L} {doors : DoorSays A} {sinks : SinkSays O}
+    {words : List (List ℕ)} {gids : ℕ} {disk : D} {olds : Edges L A K} {out : O} {ended : Ended D} {news : Edges L A K}
+    {transcripts : List Transcript} {out' : O} where
+  module _ (ran : RanTogether says links doors sinks words gids disk olds out ended news transcripts out') where
+    abbrev before : Edges L A K
+    before = used_edges ran.begun.console.is_on olds
+
+    abbrev used : Edges L A K
+    used = ran.goes_on.used
+
+    abbrev Nobody : Type 0
+    Nobody = NobodyWorked ran.begun.desk.own before used transcripts ran.goes_on.goes.works.turns
+        ran.goes_on.goes.works.work_short
+
+    links_same : news.links ≡ used.links
+    links_same = ap (λ (e : Edges L A K). e.links) ran.goes_on.news_are
+
+    ran_many : length used.links ≡ length olds.links
+    ran_many = ⊎_elim
+        (λ worked. used_many links doors D ran.begun.console ran.begun.desk.own before used transcripts
+        ran.goes_on.goes.works.turns ran.goes_on.goes.works.work_short worked)
+        (λ (nobody : Nobody). ap (λ (e : Edges L A K). length e.links) nobody.same) ran.goes_on.goes.works.worked
+
+    ran_go_on : LinksGoOn → GoOn links olds.links used.links
+    ran_go_on go_on = ⊎_elim
+        (λ worked. used_go_on links doors D ran.begun.console ran.begun.desk.own before used transcripts
+        ran.goes_on.goes.works.turns ran.goes_on.goes.works.work_short worked go_on)
+        (λ (nobody : Nobody).
+        same_go_on links olds.links used.links (ap (λ (e : Edges L A K). e.links) nobody.same))
+        ran.goes_on.goes.works.worked
+
+  pub leaves_links : ((ran : Ran says sinks words gids (length olds.doors) disk out ended out')
+      → Contains ended.journal.events.items Stopped) → LinksGoOn → OnlyReads says disk ended
+      → RunsTogether says links doors sinks words gids disk olds out ended news transcripts out'
+      → LeavesLinks says links disk olds.links ended news.links
+  leaves_links stopped go_on reads (inl never) =
+      let same = ap (λ (e : Edges L A K). e.links) never.1 in record {
+        reads = reads;
+        all = λ none. same;
+        many = ap length same;
+        places = same_go_on links olds.links news.links same;
+      }
   leaves_links stopped go_on reads (inr ran) = record {
     reads = reads;
     all = λ none. none_there (subst (λ (es : List Event). Contains es Stopped) none (stopped (framed ran)));
-    many = ⊎_elim (λ worked. used_many links D olds news ran.begun.desk.own ran.goes.works.turns ran.goes.works.work_short worked)
-        (λ (nobody : NobodyWorked ran.begun.desk.own olds news ran.goes.works.turns ran.goes.works.work_short).
-        ap length nobody.same) ran.goes.works.worked;
-    places = ⊎_elim (λ worked. used_go_on links D go_on olds news ran.begun.desk.own ran.goes.works.turns ran.goes.works.work_short worked)
-        (λ (nobody : NobodyWorked ran.begun.desk.own olds news ran.goes.works.turns ran.goes.works.work_short).
-        same_go_on links olds news nobody.same) ran.goes.works.worked;
+    many = ap length (links_same ran) ∙ ran_many ran;
+    places = subst (GoOn links olds.links) (sym (links_same ran)) (ran_go_on ran go_on);
   }

@@ -30,15 +30,15 @@ module _ {L K : Type 0} (links : LinkSays L) (start : RunStart) (events : List E
     pub new_is : slice_get news place ≡ Some new
     pub told : SizedAsTold links start events place old.0 new.0 gid id total
 
-module _ {L K : Type 0} (links : LinkSays L) (words : List (List ℕ)) (gids : ℕ) where
+module _ {L K : Type 0} (links : LinkSays L) (words : List (List ℕ)) (gids doors : ℕ) where
   -- each claim that failed, and each length, is as the link of the claim's worker told
   pub record LinksCauses (events : List Event) (olds news : List (L × K)) : Type 0 where
     pub line : CommandLine
     pub means : IsLine words line
     pub lost : (gid : Gid) (id mirror piece : ℕ) (mark : Mark) → Contains events (Lost gid id mirror piece mark)
-        → LostAtPlace links (start_of_line gids line.globals) events olds news gid id mirror mark
+        → LostAtPlace links (start_of_line gids doors line.globals) events olds news gid id mirror mark
     pub sized : (gid : Gid) (id total : ℕ) → Contains events (Sized gid id total)
-        → SizedAtPlace links (start_of_line gids line.globals) events olds news gid id total
+        → SizedAtPlace links (start_of_line gids doors line.globals) events olds news gid id total
 
   abbrev pub ShowsLinks : List Event → (olds news : List (L × K)) → Type 0
   ShowsLinks events olds news = (events ≡ []) ⊎ LinksCauses events olds news

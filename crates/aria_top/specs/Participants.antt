@@ -1,17 +1,20 @@
--- Who takes part in the desk of a run, and what each did.
-use Rattle.std.specs.Prelude.{◌≡◌, ◌<◌, ◌+◌, ℕ, Bool, false, List, [], ◌∷◌, Result, Some, map, length, slice_get, slice_index_or}
-use Rattle.std.specs.List.{list_any}
-use Rattle.conn_worker.specs.Works.{Worked}
+-- Who takes part in the desk of a run, and what each does there.
+use Rattle.std.specs.Prelude.{◌≡◌, ◌+◌, ℕ, Bool, Result}
+use Rattle.conn_worker.specs.Works.{RunSight, Worked}
 use Rattle.conn_worker.specs.declared.ends.Spent.{Spent}
 use Rattle.conn_worker.specs.declared.ends.WorkEnd.{WorkEnd}
+use Rattle.console_session.specs.DoorSessions.{ServesDoor}
+use Rattle.console_session.specs.declared.serving.Transcript.{Transcript}
+use Rattle.desk_seats.specs.declared.participants.Participant.{Participant}
+use Rattle.door_source.specs.declared.Doors.{Ghosts as DoorSays}
 use Rattle.engine_core.specs.EngineViews.{EngineStart}
 use Rattle.engine_turns.specs.declared.operations.Answer.{Answer}
 use Rattle.engine_turns.specs.declared.operations.Operation.{Operation}
 use Rattle.link_source.specs.declared.Links.{Ghosts as LinkSays}
 use Rattle.machine_core.specs.declared.events.Event.{Event}
-use Rattle.turn_desk.specs.Passes.{IsPassOf, PassView, TurnDeskView, sight_at}
+use Rattle.turn_desk.specs.Passes.{PassView, TurnDeskView}
 use Rattle.run_frame.specs.Stops.{ends_short}
-use Rattle.aria_top.specs.declared.participants.Participant.{Participant}
+use Rattle.run_frame.specs.declared.console.ConsoleTerms.{ConsoleTerms}
 
 -- a pass of a run
 abbrev pub RunPass : Type 0 → Type 0
@@ -21,55 +24,28 @@ RunPass D = PassView (EngineStart D) Operation Answer Event
 abbrev pub RunDesk : Type 0 → Type 0
 RunDesk D = TurnDeskView (EngineStart D) Event
 
-module _ {D L K : Type 0} where
-  -- a worker that didn't work yet
-  abbrev pub participant_of : ℕ → RunPass D → L × K → Participant D L K
-  participant_of number pass link =
-      record { number = number; pass = Some pass; link = link.0; clock = link.1; is_short = false }
+-- one who works over a link; what comes of it is whether memory was wanting
+abbrev pub Worker : (D L K : Type 0) → Type 0
+Worker D L K = Participant (RunPass D) L K Bool
 
-  -- the workers with these passes and links, numbered from this one on
-  abbrev pub participants_from : ℕ → List (RunPass D) → List (L × K) → List (Participant D L K)
-  participants_from number (pass ∷ passes) (link ∷ links) =
-      participant_of number pass link ∷ participants_from (number + 1) passes links
-  participants_from number passes links = []
+-- one who serves a door
+abbrev pub DoorKeeper : (D A K : Type 0) → Type 0
+DoorKeeper D A K = Participant (RunPass D) A K Transcript
 
-  abbrev pub link_of : Participant D L K → L × K
-  link_of p = (p.link, p.clock)
+-- the session of a door, by the door's number; the line's own call is of session 0
+abbrev pub session_of : ℕ → ℕ
+session_of door = door + 1
 
-  -- each has a pass
-  abbrev pub HavePasses : List (Participant D L K) → Type 0
-  HavePasses participants =
-      (passes : List (RunPass D)) × (map (λ (p : Participant D L K). p.pass) participants ≡ map Some passes)
+module _ {D K : Type 0} where
+  -- The worker of this number worked over its link, and it was seen whether memory was wanting.
+  pub record WorksAt {L : Type 0} (links : LinkSays L) (worker : ℕ) (from : RunSight D) (old : L × K) (to : RunSight D)
+      (new : L × K) (short : Bool) : Type 0 where
+    pub came : Result WorkEnd Spent
+    pub worked : Worked links worker from old.0 to new.0 came
+    pub short_is : short ≡ ends_short came
 
-  -- the passes and the links of these, in order, and whether memory was wanting for any
-  pub record AreOf (participants : List (Participant D L K)) (passes : List (RunPass D)) (links : List (L × K))
-      (short : Bool) : Type 0 where
-    pub passes_are : map (λ (p : Participant D L K). p.pass) participants ≡ map Some passes
-    pub links_are : map link_of participants ≡ links
-    pub short_is : short ≡ list_any (λ (p : Participant D L K). p.is_short) participants
-
-  -- it has a pass of the desk
-  abbrev pub MayWorkAt : RunDesk D → Participant D L K → Type 0
-  MayWorkAt desk p = (pass : RunPass D) × (p.pass ≡ Some pass) × IsPassOf desk pass
-
-  abbrev pub MayAllWork : RunDesk D → List (Participant D L K) → Type 0
-  MayAllWork desk participants =
-      (place : ℕ) (p : Participant D L K) → slice_get participants place ≡ Some p → MayWorkAt desk p
-
-  module _ (links : LinkSays L) (desk : RunDesk D) where
-    -- The worker took its turns with its pass, over its link, and it was seen whether memory was wanting.
-    pub record WorkedAt (old new : Participant D L K) : Type 0 where
-      pub pass : RunPass D
-      pub pass' : RunPass D
-      pub had : old.pass ≡ Some pass
-      pub has : new.pass ≡ Some pass'
-      pub of_desk : IsPassOf desk pass'
-      pub number : new.number ≡ old.number
-      pub came : Result WorkEnd Spent
-      pub worked : Worked links old.number (sight_at desk pass) old.link (sight_at desk pass') new.link came
-      pub short_is : new.is_short ≡ ends_short came
-
-    pub record AllWorked (old new : List (Participant D L K)) : Type 0 where
-      pub many : length new ≡ length old
-      pub each : (place : ℕ) (d : Participant D L K) → place < length old
-          → WorkedAt (slice_index_or old place d) (slice_index_or new place d)
+  -- the session of the door served it, as the console asks
+  abbrev pub ServesAt : {A : Type 0} → DoorSays A → ConsoleTerms → ℕ → RunSight D → A × K → RunSight D → A × K
+      → Transcript → Type 0
+  ServesAt doors console door from old to new transcript =
+      ServesDoor doors (session_of door) console.secret console.most from old.0 to new.0 transcript

@@ -1,12 +1,13 @@
 // What a run needs of the outside.
 ghost use Rattle.std.specs.Prelude.{◌≡◌, ◌≤◌, IfOk, MatchOption, map, string_bytes};
 ghost use Rattle.run_frame.specs.Begins.{LacksLine};
-ghost use Rattle.aria_top.specs.Needs.{AreNeeds, doors_by, has_console, links_by, port_by};
+ghost use Rattle.aria_top.specs.Needs.{AreNeeds, doors_by, links_by, port_by};
 ghost use Rattle.aria_top.specs.declared.limits.TheConstants.{MAX_LINKS};
 
 use crate::limits::{CONSOLE_DOORS, MAX_LINKS};
 use command_line::{NoMemory, read};
 use option_set::{Num, Options};
+use run_frame::is_console_on;
 use std::alloc::Global;
 
 /// What a run of a command line needs.
@@ -20,12 +21,6 @@ pub struct Needs {
     pub port: u16,
 }
 
-fn has_console(globals: &Options) -> bool
-    ensures { result ≡ has_console globals.now }
-{
-    globals.number(Num::EnableRpc) == 1
-}
-
 // As many workers as may work for one download; with a console, for all that may be active.
 fn links_of(globals: &Options) -> u16
     ensures is { result ≡ links_by globals.now }
@@ -33,7 +28,7 @@ fn links_of(globals: &Options) -> u16
     ensures few { result ≤ MAX_LINKS }
 {
     let split = globals.number(Num::Split);
-    if has_console(globals) {
+    if is_console_on(globals) {
         let most = split * globals.number(Num::MaxConcurrentDownloads);
         most.min(u64::from(MAX_LINKS)) as u16
     } else {
@@ -44,7 +39,7 @@ fn links_of(globals: &Options) -> u16
 fn doors_of(globals: &Options) -> u16
     ensures { result ≡ doors_by globals.now }
 {
-    if has_console(globals) {
+    if is_console_on(globals) {
         CONSOLE_DOORS
     } else {
         0

@@ -1,38 +1,43 @@
-// A run over all links.
+// A run over all links and doors.
 ghost use Rattle.std.specs.Prelude.{◌≡◌, ◌≤◌, ◌||◌, IsTrue, length, map, string_bytes};
 ghost use Rattle.run_frame.specs.DiskCauses.{LeavesOtherFiles, ShowsDisk};
 ghost use Rattle.run_frame.specs.Endings.{EndsAsShown};
 ghost use Rattle.run_frame.specs.Histories.{IsHistory};
 ghost use Rattle.run_frame.specs.Printing.{PrintsText};
-ghost use Rattle.run_frame.specs.Results.{ended_of};
 ghost use Rattle.run_frame.specs.Survivals.{SurvivesRun};
-ghost use Rattle.aria_top.specs.declared.limits.TheConstants.{MAX_LINKS};
+ghost use Rattle.aria_top.specs.declared.limits.TheConstants.{CONSOLE_DOORS, MAX_LINKS};
+ghost use Rattle.aria_top.specs.DoorsCauses.{ShowsDoors};
 ghost use Rattle.aria_top.specs.LinksCauses.{ShowsLinks};
 ghost use Rattle.aria_top.specs.LinksLeft.{LeavesLinks};
-ghost use Rattle.aria_top.specs.RunsTogether.{GoesTogether, RunsTogether};
+ghost use Rattle.aria_top.specs.RunsTogether.{GoesOnBegun, GoesTogether, RunsTogether, edges, edges_left, ended_run};
 ghost use Rattle.aria_top.specs.Together.{ComesFirst};
 
+use crate::finished::FinishedRun;
 use crate::work::{Work, work_through};
 use conn_worker::turns_bring_what_came;
+use console_session::{Transcript, replies_are_of_the_history};
 use dl_clock::Clock;
 use dl_disk::Disk;
 use dl_kinds::Sink;
+use door_source::Doors;
+use engine_turns::turns_tell_runs;
 use link_source::Links;
 use machine_core::Journal;
 use run_frame::{
-    Begun, Ended, Finished, Unbegun, begin, begun_runs_are_stopped, finish, losses_come_of_workers,
-    refuse, runs_end_as_shown, runs_have_whole_histories, runs_leave_other_files,
-    runs_print_one_text, runs_show_their_disk, runs_survive_crashes, unbegun_runs_only_read,
-    workers_show_their_link,
+    Begun, Ended, Unbegun, begin, begun_runs_are_stopped, finish, losses_come_of_workers, refuse,
+    runs_end_as_shown, runs_have_whole_histories, runs_leave_other_files, runs_print_one_text,
+    runs_show_their_disk, runs_survive_crashes, unbegun_runs_only_read, workers_show_their_link,
 };
 use std::alloc::Global;
 use std::sync::Wait;
 use std::thread::Threads;
 
-/// What is left of a run that came to its end, and its links.
-pub(crate) struct Left<D, L, K> {
+/// What is left of a run that came to its end, its links and its doors, and what was done at these.
+pub(crate) struct Left<D, L, A, K> {
     pub(crate) ended: Ended<D>,
     pub(crate) links: Vec<(L, K)>,
+    pub(crate) doors: Vec<(A, K)>,
+    pub(crate) transcripts: Vec<Transcript>,
 }
 
 fn either(first: bool, second: bool) -> bool
@@ -41,61 +46,100 @@ fn either(first: bool, second: bool) -> bool
     first || second
 }
 
-// All workers work, and the run ends.
-fn go_through<R: Threads + Wait + Sync, D: Disk + Send, L: Links + Send, K: Clock + Send, O: Sink>(
+// All workers work, these doors are served, and the run ends.
+fn go_through<
+    R: Threads + Wait + Sync,
+    D: Disk + Send,
+    L: Links + Send,
+    A: Doors + Send,
+    K: Clock + Send,
+    O: Sink,
+>(
     rt: &R,
     alloc: Global,
     begun: Begun<D>,
     links: Vec<(L, K)>,
+    doors: Vec<(A, K)>,
     out: &mut O,
-) -> Left<D, L, K>
+) -> Left<D, L, A, K>
     requires links { (1 ≤ length links.items) × (length links.items ≤ MAX_LINKS) }
+    requires doors { length doors.items ≤ CONSOLE_DOORS }
     requires first { ComesFirst begun.desk.own }
-    ensures { GoesTogether D.Disk L.Links O.Sink begun links.items
-        out.old result.ended result.links.items out.new }
+    ensures { GoesTogether D.Disk L.Links A.Doors O.Sink begun (edges links.items doors.items)
+        out.old result.ended (edges result.links.items result.doors.items)
+        result.transcripts.items out.new }
 {
-    let Begun { desk, is_short } = begun;
+    let Begun {
+        desk,
+        is_short,
+        console,
+    } = begun;
     let Work {
         engine,
         links,
+        doors,
+        transcripts,
         is_short: is_work_short,
-    } = work_through(rt, alloc, desk, links);
+    } = work_through(rt, alloc, desk, &console, links, doors);
     Left {
         ended: finish(alloc, engine, either(is_short, is_work_short), out),
         links,
+        doors,
+        transcripts,
     }
 }
 
-// The run of these words over these links.
-fn run_through<R: Threads + Wait + Sync, D: Disk + Send, L: Links + Send, K: Clock + Send, O: Sink>(
+// Doors are served where the console is on.
+fn go_on<
+    R: Threads + Wait + Sync,
+    D: Disk + Send,
+    L: Links + Send,
+    A: Doors + Send,
+    K: Clock + Send,
+    O: Sink,
+>(
     rt: &R,
     alloc: Global,
-    words: &[String],
-    disk: D,
+    begun: Begun<D>,
     links: Vec<(L, K)>,
-    gids: u64,
+    doors: Vec<(A, K)>,
     out: &mut O,
-) -> Left<D, L, K>
-    requires { (1 ≤ length links.items) × (length links.items ≤ MAX_LINKS) }
-    ensures { RunsTogether D.Disk L.Links O.Sink (map string_bytes words.now) gids disk links.items
-        out.old result.ended result.links.items out.new }
+) -> Left<D, L, A, K>
+    requires links { (1 ≤ length links.items) × (length links.items ≤ MAX_LINKS) }
+    requires doors { length doors.items ≤ CONSOLE_DOORS }
+    requires first { ComesFirst begun.desk.own }
+    ensures { GoesOnBegun D.Disk L.Links A.Doors O.Sink begun (edges links.items doors.items)
+        out.old result.ended (edges result.links.items result.doors.items)
+        result.transcripts.items out.new }
 {
-    match begin(alloc, words, disk, gids) {
-        Ok(begun) => go_through(rt, alloc, begun, links, out),
-        Err(Unbegun { ending, disk }) => Left {
-            ended: Ended {
-                ending: refuse(alloc, ending, out),
-                disk,
-                journal: Journal::new(alloc),
-            },
-            links,
-        },
+    if begun.console.is_on {
+        return go_through(rt, alloc, begun, links, doors, out);
+    }
+    let no_doors = Vec::<(A, K)>::new(alloc);
+    let Left {
+        ended,
+        links,
+        doors: none,
+        transcripts,
+    } = go_through(rt, alloc, begun, links, no_doors, out);
+    none.destroy_empty();
+    Left {
+        ended,
+        links,
+        doors,
+        transcripts,
     }
 }
 
-/// The run of these words, which stand behind the program's name, over all links: one worker for each, in a thread of its own
-/// where one can be started. Doors aren't used. `gids` is what the ids of downloads are made from.
-pub fn run<R: Threads + Wait + Sync, D: Disk + Send, L: Links + Send, K: Clock + Send, A, O: Sink>(
+// The run of these words over these links and doors.
+fn run_through<
+    R: Threads + Wait + Sync,
+    D: Disk + Send,
+    L: Links + Send,
+    A: Doors + Send,
+    K: Clock + Send,
+    O: Sink,
+>(
     rt: &R,
     alloc: Global,
     words: &[String],
@@ -104,32 +148,81 @@ pub fn run<R: Threads + Wait + Sync, D: Disk + Send, L: Links + Send, K: Clock +
     doors: Vec<(A, K)>,
     gids: u64,
     out: &mut O,
-) -> Finished<D, L, K, A>
-    requires { (1 ≤ length links.items) × (length links.items ≤ MAX_LINKS) }
-    // What was done over the links, from the words to the summary.
-    ensures does { RunsTogether D.Disk L.Links O.Sink (map string_bytes words.now) gids disk links.items
-        out.old (ended_of result) result.links.items out.new }
+) -> Left<D, L, A, K>
+    requires links { (1 ≤ length links.items) × (length links.items ≤ MAX_LINKS) }
+    requires doors { length doors.items ≤ CONSOLE_DOORS }
+    ensures { RunsTogether D.Disk L.Links A.Doors O.Sink (map string_bytes words.now) gids disk
+        (edges links.items doors.items) out.old result.ended
+        (edges result.links.items result.doors.items) result.transcripts.items out.new }
+{
+    match begin(alloc, words, disk, gids, doors.len() as u16) {
+        Ok(begun) => go_on(rt, alloc, begun, links, doors, out),
+        Err(Unbegun { ending, disk }) => Left {
+            ended: Ended {
+                ending: refuse(alloc, ending, out),
+                disk,
+                journal: Journal::new(alloc),
+            },
+            links,
+            doors,
+            transcripts: Vec::new(alloc),
+        },
+    }
+}
+
+/// The run of these words, which stand behind the program's name, over all links: one worker for each, in a thread of its own
+/// where one can be started. Where the words turn the console on, each door is served beside them by a session, numbered
+/// from 1 on, in a thread of its own; otherwise doors aren't used. `gids` is what the ids of downloads are made from.
+pub fn run<
+    R: Threads + Wait + Sync,
+    D: Disk + Send,
+    L: Links + Send,
+    A: Doors + Send,
+    K: Clock + Send,
+    O: Sink,
+>(
+    rt: &R,
+    alloc: Global,
+    words: &[String],
+    disk: D,
+    links: Vec<(L, K)>,
+    doors: Vec<(A, K)>,
+    gids: u64,
+    out: &mut O,
+) -> FinishedRun<D, L, K, A>
+    requires links { (1 ≤ length links.items) × (length links.items ≤ MAX_LINKS) }
+    requires doors { length doors.items ≤ CONSOLE_DOORS }
+    // What was done over the links and at the doors, from the words to the summary.
+    ensures does { RunsTogether D.Disk L.Links A.Doors O.Sink (map string_bytes words.now) gids disk
+        (edges links.items doors.items) out.old (ended_run result) (edges_left result)
+        result.transcripts.items out.new }
     // How it ended is shown.
-    ensures ending { EndsAsShown D.Disk O.Sink (map string_bytes words.now) gids disk
-        out.old (ended_of result) out.new }
+    ensures ending { EndsAsShown D.Disk O.Sink (map string_bytes words.now) gids
+        (length doors.items) disk out.old (ended_run result) out.new }
     // Why it didn't begin is printed, or the summary, and nothing else.
-    ensures output { PrintsText D.Disk O.Sink (map string_bytes words.now) gids disk
-        out.old (ended_of result) out.new }
+    ensures output { PrintsText D.Disk O.Sink (map string_bytes words.now) gids
+        (length doors.items) disk out.old (ended_run result) out.new }
     // One legal history, which begins with the call of the line and leaves nothing unsaved.
-    ensures history { IsHistory D.Disk (map string_bytes words.now) gids disk (ended_of result) }
+    ensures history { IsHistory D.Disk (map string_bytes words.now) gids
+        (length doors.items) disk (ended_run result) }
     // What it tells of the disk was so, and files that weren't asked for are as they were.
-    ensures disk { ShowsDisk D.Disk (map string_bytes words.now) gids disk (ended_of result) }
-    ensures others { IsTrue D.tells
-        → LeavesOtherFiles D.Disk (map string_bytes words.now) gids disk (ended_of result) }
+    ensures disk { ShowsDisk D.Disk (map string_bytes words.now) gids
+        (length doors.items) disk (ended_run result) }
+    ensures others { IsTrue D.tells → LeavesOtherFiles D.Disk (map string_bytes words.now) gids
+        (length doors.items) disk (ended_run result) }
     // What it tells of a claim's loss or length came over the link of the claim's worker.
-    ensures links { ShowsLinks L.Links (map string_bytes words.now) gids
+    ensures links { ShowsLinks L.Links (map string_bytes words.now) gids (length doors.items)
         result.journal.events.items links.items result.links.items }
     // What is complete has its digests, and nothing that was promised is lost by a crash.
-    ensures survives { IsTrue D.tells
-        → SurvivesRun D.Disk (map string_bytes words.now) gids disk (ended_of result) }
+    ensures survives { IsTrue D.tells → SurvivesRun D.Disk (map string_bytes words.now) gids
+        (length doors.items) disk (ended_run result) }
     // Nothing else is touched, and each link keeps its place.
-    ensures untouched { LeavesLinks D.Disk L.Links disk links.items (ended_of result) result.links.items }
-    ensures doors { result.doors ≡ doors }
+    ensures untouched { LeavesLinks D.Disk L.Links disk links.items (ended_run result)
+        result.links.items }
+    // Each door was served by the session of its number, and what its clients were told is of the one history; or none was.
+    ensures doors { ShowsDoors A.Doors (map string_bytes words.now) gids
+        (edges links.items doors.items) (ended_run result) (edges_left result)
+        result.transcripts.items }
 {
     begun_runs_are_stopped::<D, O>();
     runs_end_as_shown::<D, O>();
@@ -142,17 +235,25 @@ pub fn run<R: Threads + Wait + Sync, D: Disk + Send, L: Links + Send, K: Clock +
     runs_survive_crashes::<D, O>();
     unbegun_runs_only_read::<D, O>();
     turns_bring_what_came();
-    let Left { ended, links } = run_through(rt, alloc, words, disk, links, gids, out);
+    turns_tell_runs();
+    replies_are_of_the_history();
+    let Left {
+        ended,
+        links,
+        doors,
+        transcripts,
+    } = run_through(rt, alloc, words, disk, links, doors, gids, out);
     let Ended {
         ending,
         disk,
         journal,
     } = ended;
-    Finished {
+    FinishedRun {
         ending,
         disk,
         links,
         doors,
+        transcripts,
         journal,
     }
 }

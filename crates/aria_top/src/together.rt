@@ -1,85 +1,87 @@
-// Workers at one desk, each in a thread of its own.
-ghost use Rattle.std.specs.Prelude.{◌≡◌, ◌<◌, length};
-ghost use Rattle.run_frame.specs.Stops as stops;
-ghost use Rattle.aria_top.specs.Participants.{AllWorked, MayAllWork, MayWorkAt, WorkedAt};
+// All who take part in the desk of a run, each in a thread of its own.
+ghost use Rattle.std.specs.Prelude.{◌≡◌};
+ghost use Rattle.aria_top.specs.Participants.{ServesAt, WorksAt};
+ghost use Rattle.desk_seats.specs.Uses.{AllMayTakePart, AllTookPart, MayTakePart, TookPart};
 
-use crate::participants::Participant;
-use conn_worker::{Spent, WorkEnd, work};
+use crate::taking_part::{serve_at, work_at};
+use console_session::Transcript;
+use desk_seats::{Participant, for_each_of_both};
 use dl_clock::Clock;
 use dl_disk::Disk;
+use door_source::Doors;
 use engine_core::Engine;
 use link_source::Links;
+use run_frame::ConsoleTerms;
 use std::alloc::Global;
 use std::sync::Wait;
-use std::thread;
 use std::thread::Threads;
-use turn_desk::TurnDesk;
+use turn_desk::{Pass, TurnDesk};
 
-// Memory was wanting for a worker.
-fn ends_short(came: Result<WorkEnd, Spent>) -> bool
-    ensures { result ≡ stops.ends_short came }
-{
-    came == Ok(WorkEnd::NoMemory)
-}
-
-// One worker works over its link, until its work ends.
-fn work_at<R: Wait, D: Disk, L: Links, K: Clock>(
+// All of these workers work and all of these doors are served.
+fn spread<
+    R: Threads + Wait + Sync,
+    D: Disk + Send,
+    L: Links + Send,
+    A: Doors + Send,
+    K: Clock + Send,
+>(
     rt: &R,
     alloc: Global,
     desk: &TurnDesk<Engine<D>>,
-    participant: &mut Participant<D, L, K>,
+    console: &ConsoleTerms,
+    workers: &mut [Participant<Pass<Engine<D>>, L, K, bool>],
+    keepers: &mut [Participant<Pass<Engine<D>>, A, K, Transcript>],
 )
-    requires { MayWorkAt desk.now participant.old }
-    ensures { WorkedAt L.Links desk.now participant.old participant.new }
+    requires workers { AllMayTakePart desk.now workers.old }
+    requires doors { AllMayTakePart desk.now keepers.old }
+    ensures workers { AllTookPart desk.now (WorksAt L.Links) workers.old workers.new }
+    ensures doors { AllTookPart desk.now (ServesAt A.Doors console.now) keepers.old keepers.new }
 {
-    let Some(pass) = participant.pass.take() else {
-        unreachable!()
-    };
-    let mut chair = desk.chair(rt, pass);
-    let came = work(
-        alloc,
-        &mut chair,
-        participant.number,
-        &mut participant.link,
-        &mut participant.clock,
-    );
-    participant.is_short = ends_short(came);
-    participant.pass = Some(chair.leave());
-}
-
-// Each of these workers works, in a thread of its own where one can be started.
-fn spread_work<R: Threads + Wait + Sync, D: Disk + Send, L: Links + Send, K: Clock + Send>(
-    rt: &R,
-    alloc: Global,
-    desk: &TurnDesk<Engine<D>>,
-    participants: &mut [Participant<D, L, K>],
-)
-    requires some { 0 < length participants.old }
-    requires may { MayAllWork desk.now participants.old }
-    ensures { AllWorked L.Links desk.now participants.old participants.new }
-{
-    thread::for_each_mut(
+    for_each_of_both(
         rt,
-        participants,
-        participants.len(),
-        &|_: usize, participant: &mut Participant<D, L, K>|
-            requires { MayWorkAt desk.now participant.now }
-            ensures { WorkedAt L.Links desk.entry.now participant.entry.now participant.exit.now }
-        { work_at(rt, alloc, desk, participant) },
+        keepers,
+        workers,
+        &|_: usize, keeper: &mut Participant<Pass<Engine<D>>, A, K, Transcript>|
+            requires { MayTakePart desk.now keeper.now }
+            ensures { TookPart desk.entry.now (ServesAt A.Doors console.entry.now)
+                keeper.entry.now keeper.exit.now }
+        { serve_at(rt, alloc, desk, console, keeper) },
+        &|_: usize, worker: &mut Participant<Pass<Engine<D>>, L, K, bool>|
+            requires { MayTakePart desk.now worker.now }
+            ensures { TookPart desk.entry.now (WorksAt L.Links)
+                worker.entry.now worker.exit.now }
+        { work_at(rt, alloc, desk, worker) },
     );
 }
 
-/// All workers work, each in a thread of its own. Where one can't be started its part is done by the caller's, which does
-/// its own one first.
-pub(crate) fn all_work<R: Threads + Wait + Sync, D: Disk + Send, L: Links + Send, K: Clock + Send>(
+/// All workers work and all doors are served, each in a thread of its own. Where one can't be started its part is done behind
+/// another's.
+pub(crate) fn take_part<
+    R: Threads + Wait + Sync,
+    D: Disk + Send,
+    L: Links + Send,
+    A: Doors + Send,
+    K: Clock + Send,
+>(
     rt: &R,
     alloc: Global,
     desk: &TurnDesk<Engine<D>>,
-    participants: &mut Vec<Participant<D, L, K>>,
+    console: &ConsoleTerms,
+    workers: &mut Vec<Participant<Pass<Engine<D>>, L, K, bool>>,
+    keepers: &mut Vec<Participant<Pass<Engine<D>>, A, K, Transcript>>,
 )
-    requires some { 0 < length participants.old.items }
-    requires may { MayAllWork desk.now participants.old.items }
-    ensures { AllWorked L.Links desk.now participants.old.items participants.new.items }
+    requires workers { AllMayTakePart desk.now workers.old.items }
+    requires doors { AllMayTakePart desk.now keepers.old.items }
+    ensures workers { AllTookPart desk.now (WorksAt L.Links) workers.old.items workers.new.items }
+    ensures doors { AllTookPart desk.now (ServesAt A.Doors console.now)
+        keepers.old.items keepers.new.items }
 {
-    spread_work(rt, alloc, desk, participants.as_mut_slice());
+    spread(
+        rt,
+        alloc,
+        desk,
+        console,
+        workers.as_mut_slice(),
+        keepers.as_mut_slice(),
+    );
 }

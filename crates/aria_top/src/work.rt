@@ -1,110 +1,176 @@
-// The work of a run over its links, up to its stop.
-ghost use Rattle.std.specs.Prelude.{◌≡◌, ◌≤◌, ◌||◌, IfErr, IfOk, length};
+// The work of a run over its links and at its doors, up to its stop.
+ghost use Rattle.std.specs.Prelude.{◌≡◌, ◌≤◌, ◌+◌, ◌||◌, IfErr, IfOk, length};
+ghost use Rattle.std.specs.List.{list_any};
 ghost use Rattle.conn_worker.specs.Works.{RunSight};
-ghost use Rattle.aria_top.specs.declared.limits.TheConstants.{MAX_LINKS};
+ghost use Rattle.aria_top.specs.declared.limits.TheConstants.{CONSOLE_DOORS, MAX_LINKS};
+ghost use Rattle.aria_top.specs.RunsTogether.{edges};
 ghost use Rattle.aria_top.specs.Together.{ComesFirst, HasRoom, IsShared, WorkEnds, WorksAndStops};
 
-use crate::participants::{Participant, seat_all, unseat_all};
 use crate::stop::stop;
-use crate::together::all_work;
+use crate::together::take_part;
+use console_session::Transcript;
+use desk_seats::{Room, room_for, seat_all, unseat_all};
 use dl_clock::Clock;
 use dl_disk::Disk;
+use door_source::Doors;
 use engine_core::Engine;
 use link_source::Links;
+use run_frame::ConsoleTerms;
 use std::alloc::Global;
 use std::sync::Wait;
 use std::thread::Threads;
 use turn_desk::{Closed, Pass, SoloDesk, TurnDesk, own_turns_keep_their_order};
 
-/// A desk with a pass for each link, and room for those who take part.
-pub(crate) struct Shared<D: Disk, L, K> {
+/// A desk with a pass for each link and each door, and room for those who take part.
+pub(crate) struct Shared<D: Disk, L, A, K> {
     pub(crate) desk: TurnDesk<Engine<D>>,
     pub(crate) passes: Vec<Pass<Engine<D>>>,
-    pub(crate) room: Vec<Participant<D, L, K>>,
+    pub(crate) workers: Room<Pass<Engine<D>>, L, K, bool>,
+    pub(crate) keepers: Room<Pass<Engine<D>>, A, K, Transcript>,
 }
 
 /// What came of the work.
-pub(crate) struct Work<D: Disk, L, K> {
+pub(crate) struct Work<D: Disk, L, A, K> {
     pub(crate) engine: Engine<D>,
     pub(crate) links: Vec<(L, K)>,
+    pub(crate) doors: Vec<(A, K)>,
+    pub(crate) transcripts: Vec<Transcript>,
     /// Memory was wanting.
     pub(crate) is_short: bool,
 }
 
-// A desk with so many passes. Where memory is wanting the owner's desk comes back.
-fn share<D: Disk, L, K>(
+// A desk with a pass for each of so many links and doors. Where memory is wanting the owner's desk comes back.
+fn share<D: Disk, L, A, K>(
     alloc: Global,
     solo: SoloDesk<Engine<D>>,
-    passes: u32,
-) -> Result<Shared<D, L, K>, SoloDesk<Engine<D>>>
-    requires { 1 ≤ passes }
-    ensures ok { IfOk result (IsShared solo passes) }
-    ensures room { IfOk result HasRoom }
+    links: u32,
+    doors: u32,
+) -> Result<Shared<D, L, A, K>, SoloDesk<Engine<D>>>
+    requires links { (1 ≤ links) × (links ≤ MAX_LINKS) }
+    requires doors { doors ≤ CONSOLE_DOORS }
+    ensures ok { IfOk result (IsShared solo (links + doors)) }
+    ensures room { IfOk result (HasRoom links doors) }
     ensures err { IfErr result (λ given_back. given_back ≡ solo) }
 {
-    let Ok(room) = Vec::with_capacity(alloc, passes as usize) else {
+    let Ok(workers) = room_for(alloc, links as usize) else {
         return Err(solo);
     };
-    match TurnDesk::start(alloc, solo, passes) {
-        Ok((desk, passes)) => Ok(Shared { desk, passes, room }),
+    let Ok(keepers) = room_for(alloc, doors as usize) else {
+        workers.clear_out();
+        return Err(solo);
+    };
+    match TurnDesk::start(alloc, solo, links + doors) {
+        Ok((desk, passes)) => Ok(Shared {
+            desk,
+            passes,
+            workers,
+            keepers,
+        }),
         Err((solo, _)) => {
-            room.destroy_empty();
+            workers.clear_out();
+            keepers.clear_out();
             Err(solo)
         }
     }
 }
 
-// All work at the desk, and it is closed.
-fn work_shared<R: Threads + Wait + Sync, D: Disk + Send, L: Links + Send, K: Clock + Send>(
+// Whether memory was wanting for any of them.
+fn any_short(shorts: &[bool]) -> bool
+    ensures { result ≡ list_any (λ short. short) shorts.now }
+{
+    shorts.iter().any(|short| *short)
+}
+
+// All take part in the desk, and it is closed.
+fn work_shared<
+    R: Threads + Wait + Sync,
+    D: Disk + Send,
+    L: Links + Send,
+    A: Doors + Send,
+    K: Clock + Send,
+>(
     rt: &R,
     alloc: Global,
-    shared: Shared<D, L, K>,
+    shared: Shared<D, L, A, K>,
+    console: &ConsoleTerms,
     links: Vec<(L, K)>,
-) -> Work<D, L, K>
-    requires some { 1 ≤ length links.items }
-    requires room { HasRoom shared }
-    requires shared { (solo : RunSight D) × IsShared solo (length links.items) shared }
-    ensures { (solo : RunSight D) → IsShared solo (length links.items) shared → ComesFirst solo.own
-        → WorkEnds D.Disk L.Links solo links.items
-        result.links.items result.engine result.is_short }
+    doors: Vec<(A, K)>,
+) -> Work<D, L, A, K>
+    requires links { (1 ≤ length links.items) × (length links.items ≤ MAX_LINKS) }
+    requires doors { length doors.items ≤ CONSOLE_DOORS }
+    requires room { HasRoom (length links.items) (length doors.items) shared }
+    requires shared { (solo : RunSight D)
+        × IsShared solo (length links.items + length doors.items) shared }
+    ensures { (solo : RunSight D) → IsShared solo (length links.items + length doors.items) shared
+        → ComesFirst solo.own
+        → WorkEnds D.Disk L.Links A.Doors console.now solo (edges links.items doors.items)
+        (edges result.links.items result.doors.items) result.transcripts.items
+        result.engine result.is_short }
 {
     own_turns_keep_their_order::<Engine<D>>();
     let Shared {
         desk,
         passes,
-        room: participants,
+        workers,
+        keepers,
     } = shared;
-    let (mut passes, mut links, mut participants) = (passes, links, participants);
-    seat_all(&mut passes, &mut links, &mut participants);
-    all_work(rt, alloc, &desk, &mut participants);
-    let is_short = unseat_all(participants, &mut passes, &mut links);
+    let Room {
+        seats: workers,
+        came: shorts,
+    } = workers;
+    let Room {
+        seats: keepers,
+        came: transcripts,
+    } = keepers;
+    let (mut passes, mut links, mut doors) = (passes, links, doors);
+    let (mut workers, mut keepers) = (workers, keepers);
+    let (mut shorts, mut transcripts) = (shorts, transcripts);
+    seat_all(&mut passes, &mut doors, &mut keepers);
+    seat_all(&mut passes, &mut links, &mut workers);
+    take_part(rt, alloc, &desk, console, &mut workers, &mut keepers);
+    unseat_all(workers, &mut passes, &mut links, &mut shorts);
+    unseat_all(keepers, &mut passes, &mut doors, &mut transcripts);
     match desk.close(passes) {
         Closed::Whole { served } => Work {
             engine: served,
             links,
-            is_short,
+            doors,
+            transcripts,
+            is_short: any_short(&shorts),
         },
         Closed::StillOut { .. } => unreachable!(),
     }
 }
 
-// Works over all links, where memory suffices for a desk.
-fn work_links<R: Threads + Wait + Sync, D: Disk + Send, L: Links + Send, K: Clock + Send>(
+// Works over all links and serves all doors, where memory suffices for a desk.
+fn work_edges<
+    R: Threads + Wait + Sync,
+    D: Disk + Send,
+    L: Links + Send,
+    A: Doors + Send,
+    K: Clock + Send,
+>(
     rt: &R,
     alloc: Global,
     solo: SoloDesk<Engine<D>>,
+    console: &ConsoleTerms,
     links: Vec<(L, K)>,
-) -> Work<D, L, K>
+    doors: Vec<(A, K)>,
+) -> Work<D, L, A, K>
     requires links { (1 ≤ length links.items) × (length links.items ≤ MAX_LINKS) }
+    requires doors { length doors.items ≤ CONSOLE_DOORS }
     requires first { ComesFirst solo.own }
-    ensures { WorkEnds D.Disk L.Links solo links.items
-        result.links.items result.engine result.is_short }
+    ensures { WorkEnds D.Disk L.Links A.Doors console.now solo (edges links.items doors.items)
+        (edges result.links.items result.doors.items) result.transcripts.items
+        result.engine result.is_short }
 {
-    match share(alloc, solo, links.len() as u32) {
-        Ok(shared) => work_shared(rt, alloc, shared, links),
+    match share(alloc, solo, links.len() as u32, doors.len() as u32) {
+        Ok(shared) => work_shared(rt, alloc, shared, console, links, doors),
         Err(solo) => Work {
             engine: solo.into_served(),
             links,
+            doors,
+            transcripts: Vec::new(alloc),
             is_short: true,
         },
     }
@@ -116,28 +182,42 @@ fn either(first: bool, second: bool) -> bool
     first || second
 }
 
-/// Works over all links until nothing is left to do, or nothing more can be done, and stops the run.
+/// Works over all links and serves all doors until nothing is left to do, or nothing more can be done, and stops the run.
 pub(crate) fn work_through<
     R: Threads + Wait + Sync,
     D: Disk + Send,
     L: Links + Send,
+    A: Doors + Send,
     K: Clock + Send,
->(rt: &R, alloc: Global, solo: SoloDesk<Engine<D>>, links: Vec<(L, K)>) -> Work<D, L, K>
+>(
+    rt: &R,
+    alloc: Global,
+    solo: SoloDesk<Engine<D>>,
+    console: &ConsoleTerms,
+    links: Vec<(L, K)>,
+    doors: Vec<(A, K)>,
+) -> Work<D, L, A, K>
     requires links { (1 ≤ length links.items) × (length links.items ≤ MAX_LINKS) }
+    requires doors { length doors.items ≤ CONSOLE_DOORS }
     requires first { ComesFirst solo.own }
-    ensures { WorksAndStops D.Disk L.Links solo links.items
-        result.links.items result.engine result.is_short }
+    ensures { WorksAndStops D.Disk L.Links A.Doors console.now solo (edges links.items doors.items)
+        (edges result.links.items result.doors.items) result.transcripts.items
+        result.engine result.is_short }
 {
     let Work {
         engine,
         links,
+        doors,
+        transcripts,
         is_short,
-    } = work_links(rt, alloc, solo, links);
+    } = work_edges(rt, alloc, solo, console, links, doors);
     let mut engine = engine;
     let is_stop_short = stop(&mut engine);
     Work {
         engine,
         links,
+        doors,
+        transcripts,
         is_short: either(is_short, is_stop_short),
     }
 }

@@ -1,25 +1,26 @@
+use Rattle.aria_top.proofs.Doors.{shows_doors}
 use Rattle.aria_top.proofs.Framed.{whole}
 use Rattle.aria_top.proofs.Linked.{shows_links}
 use Rattle.aria_top.proofs.Untouched.{leaves_links}
 use Rattle.aria_top.proofs.running.run.Goals as goal
 
 pub returns-clause-ending : goal.returns-clause-ending
-returns-clause-ending g c = c.runs_end_as_shown.ensures _ _ _ _ _ _ (whole c.run_through-ended.ensures)
+returns-clause-ending g c = c.runs_end_as_shown.ensures _ _ _ _ _ _ _ (whole c.run_through-ended.ensures)
 
 pub returns-clause-output : goal.returns-clause-output
-returns-clause-output g c = c.runs_print_one_text.ensures _ _ _ _ _ _ (whole c.run_through-ended.ensures)
+returns-clause-output g c = c.runs_print_one_text.ensures _ _ _ _ _ _ _ (whole c.run_through-ended.ensures)
 
 pub returns-clause-history : goal.returns-clause-history
-returns-clause-history g c = c.runs_have_whole_histories.ensures _ _ _ _ _ _ (whole c.run_through-ended.ensures)
+returns-clause-history g c = c.runs_have_whole_histories.ensures _ _ _ _ _ _ _ (whole c.run_through-ended.ensures)
 
 pub returns-clause-disk : goal.returns-clause-disk
-returns-clause-disk g c = c.runs_show_their_disk.ensures _ _ _ _ _ _ (whole c.run_through-ended.ensures)
+returns-clause-disk g c = c.runs_show_their_disk.ensures _ _ _ _ _ _ _ (whole c.run_through-ended.ensures)
 
 pub returns-clause-others : goal.returns-clause-others
-returns-clause-others g c = c.runs_leave_other_files.ensures _ _ _ _ _ _ (whole c.run_through-ended.ensures)
+returns-clause-others g c = c.runs_leave_other_files.ensures _ _ _ _ _ _ _ (whole c.run_through-ended.ensures)
 
 pub returns-clause-survives : goal.returns-clause-survives
-returns-clause-survives g c = c.runs_survive_crashes.ensures _ _ _ _ _ _ (whole c.run_through-ended.ensures)
+returns-clause-survives g c = c.runs_survive_crashes.ensures _ _ _ _ _ _ _ (whole c.run_through-ended.ensures)
 
 pub returns-clause-links : goal.returns-clause-links
 returns-clause-links g c =
@@ -28,5 +29,9 @@ returns-clause-links g c =
 
 pub returns-clause-untouched : goal.returns-clause-untouched
 returns-clause-untouched g c =
-    leaves_links (c.begun_runs_are_stopped.ensures _ _ _ _ _ _) c.turns_bring_what_came.ensures.links
-    (c.unbegun_runs_only_read.ensures _ _ _ _ _ _ (whole c.run_through-ended.ensures)) c.run_through-ended.ensures
+    leaves_links (c.begun_runs_are_stopped.ensures _ _ _ _ _ _ _) c.turns_bring_what_came.ensures.links
+    (c.unbegun_runs_only_read.ensures _ _ _ _ _ _ _ (whole c.run_through-ended.ensures)) c.run_through-ended.ensures
+
+pub returns-clause-doors : goal.returns-clause-doors
+returns-clause-doors g c =
+    shows_doors c.turns_tell_runs.ensures.appended c.replies_are_of_the_history.ensures c.run_through-ended.ensures

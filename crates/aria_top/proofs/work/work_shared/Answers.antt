@@ -1,82 +1,186 @@
-use Rattle.std.proofs.Common.{◌≤◌, ap, inl, arith, length, rules, subst, vec_capacity}
+use Rattle.std.proofs.Common.{◌≡◌, ◌≤◌, ◌<◌, ◌∙◌, ◌++◌, ◌^◌, Bool, List, ap, arith, inl, length, map, rules, subst, vec_capacity}
+use Rattle.std.proofs.lemmas.List.Elements.{All-append}
+use Rattle.std.specs.List.{list_any}
+use Rattle.desk_seats.specs.Seats.{last_for}
+use Rattle.desk_seats.specs.Uses.{AllTookPart}
+use Rattle.desk_seats.proofs.Uses.{HasPassOf, all_of_desk, are_done, may_all, of_desk, pass_in, took_all}
 use Rattle.run_frame.specs.Stops.{IsAfter}
-use Rattle.aria_top.specs.Participants.{AllWorked}
+use Rattle.aria_top.specs.Participants.{ServesAt, WorksAt}
+use Rattle.aria_top.specs.RunsTogether.{edges}
 use Rattle.aria_top.proofs.Closing.{worked_together}
-use Rattle.aria_top.proofs.Uses.{all_of_desk, from_length, have_passes, many_passes, may_all, worked_all}
+use Rattle.aria_top.proofs.Sharing.{for_doors, for_links, many_back, many_back_of_workers, many_keepers, many_workers, new_for_doors, new_for_links, no_pass_left, passes_are}
 use Rattle.aria_top.proofs.work.work_shared.Goals as goal
 
-pub all_work-requires-clause-some : goal.all_work-requires-clause-some
-all_work-requires-clause-some g c κs within =
+pub take_part-requires-clause-workers : goal.take_part-requires-clause-workers
+take_part-requires-clause-workers g c κs within =
     let is = c.requires.shared.1 in
-    let some = c.requires.some in
-    let many = from_length 0 c.args.shared.passes.items c.args.links.items is.many in
-    let now = ap length c.seat_all.ensures.seated in
-    omega (arith, some, many, now)
+    let few : length c.args.links.items < 2 ^ 32 = let most = c.requires.links.1 in omega (arith, most) in
+    may_all c.requires.shared.0 c.args.shared.desk 0 _ c.args.links.items _
+    (new_for_links c.requires.shared.0 c.args.shared c.args.links.items c.args.doors.items is
+    c.seat_all.new.passes.items c.seat_all.ensures.rest) few c.seat_all-2.ensures.seated
 
-pub all_work-requires-clause-may : goal.all_work-requires-clause-may
-all_work-requires-clause-may g c κs within =
+pub take_part-requires-clause-doors : goal.take_part-requires-clause-doors
+take_part-requires-clause-doors g c κs within =
     let is = c.requires.shared.1 in
-    may_all c.requires.shared.0 c.args.shared.desk c.args.shared.passes.items c.args.links.items _ is.new
-    c.seat_all.ensures.seated
+    let few : length c.args.doors.items < 2 ^ 32 = let most = c.requires.doors in omega (arith, most) in
+    may_all c.requires.shared.0 c.args.shared.desk (length c.args.links.items) _ c.args.doors.items _
+    (new_for_doors c.requires.shared.0 c.args.shared c.args.links.items c.args.doors.items is
+    c.seat_all.new.passes.items c.seat_all.ensures.rest) few c.seat_all.ensures.seated
 
-pub unseat_all-is_short-requires-clause-seated : goal.unseat_all-is_short-requires-clause-seated
-unseat_all-is_short-requires-clause-seated g c =
-    have_passes g.L.Links c.args.shared.desk c.seat_all.new.participants.items c.all_work.new.participants.items
-    (worked_all c.seat_all.new.participants.items c.all_work.new.participants.items c.all_work.ensures)
+pub unseat_all-requires-clause-done : goal.unseat_all-requires-clause-done
+unseat_all-requires-clause-done g c =
+    are_done c.args.shared.desk (WorksAt g.L.Links) c.seat_all-2.new.seats.items c.take_part.new.workers.items
+    (took_all c.args.shared.desk (WorksAt g.L.Links) c.seat_all-2.new.seats.items c.take_part.new.workers.items
+    c.take_part.ensures.workers)
 
-pub unseat_all-is_short-requires-clause-passes : goal.unseat_all-is_short-requires-clause-passes
-unseat_all-is_short-requires-clause-passes g c =
-    let is = c.requires.shared.1 in
-    let many = from_length 0 c.args.shared.passes.items c.args.links.items is.many in
-    let now = ap length c.seat_all.ensures.seated in
-    let all = c.all_work.ensures.many in
-    let same = is.many in
+pub unseat_all-requires-2-clause-done : goal.unseat_all-requires-2-clause-done
+unseat_all-requires-2-clause-done g c =
+    are_done c.args.shared.desk (ServesAt g.A.Doors c.args.console.now) c.seat_all.new.seats.items
+    c.take_part.new.keepers.items
+    (took_all c.args.shared.desk (ServesAt g.A.Doors c.args.console.now) c.seat_all.new.seats.items
+    c.take_part.new.keepers.items c.take_part.ensures.doors)
+
+pub unseat_all-requires-clause-passes : goal.unseat_all-requires-clause-passes
+unseat_all-requires-clause-passes g c =
+    let workers = many_workers c.requires.shared.0 c.args.shared c.args.links.items c.args.doors.items c.requires.shared.1
+    c.seat_all.new.passes.items c.seat_all.ensures.rest c.args.console.now c.seat_all-2.new.seats.items c.take_part.new.workers.items c.seat_all.new.seats.items
+    c.take_part.new.keepers.items c.seat_all-2.ensures.seated c.seat_all.ensures.seated c.take_part.ensures.workers
+    c.take_part.ensures.doors in
+    let over = ap length (c.seat_all-2.ensures.rest ∙ no_pass_left c.requires.shared.0 c.args.shared c.args.links.items c.args.doors.items c.requires.shared.1
+    c.seat_all.new.passes.items c.seat_all.ensures.rest) in
+    let all = c.requires.shared.1.many in
     let room : length c.args.shared.passes.items ≤ vec_capacity c.args.shared.passes = search (c, rules) in
-    let capacity = c.seat_all.ensures.passes in
-    omega (arith, many, now, all, same, room, capacity)
+    let one = c.seat_all.ensures.passes in
+    let two = c.seat_all-2.ensures.passes in
+    omega (arith, workers, over, all, room, one, two)
 
-pub unseat_all-is_short-requires-clause-links : goal.unseat_all-is_short-requires-clause-links
-unseat_all-is_short-requires-clause-links g c =
-    let is = c.requires.shared.1 in
-    let many = from_length 0 c.args.shared.passes.items c.args.links.items is.many in
-    let now = ap length c.seat_all.ensures.seated in
-    let all = c.all_work.ensures.many in
+pub unseat_all-requires-clause-edges : goal.unseat_all-requires-clause-edges
+unseat_all-requires-clause-edges g c =
+    let workers = many_workers c.requires.shared.0 c.args.shared c.args.links.items c.args.doors.items c.requires.shared.1
+    c.seat_all.new.passes.items c.seat_all.ensures.rest c.args.console.now c.seat_all-2.new.seats.items c.take_part.new.workers.items c.seat_all.new.seats.items
+    c.take_part.new.keepers.items c.seat_all-2.ensures.seated c.seat_all.ensures.seated c.take_part.ensures.workers
+    c.take_part.ensures.doors in
     let room : length c.args.links.items ≤ vec_capacity c.args.links = search (c, rules) in
-    let capacity = c.seat_all.ensures.links in
-    omega (arith, many, now, all, room, capacity)
+    let one = c.seat_all-2.ensures.edges in
+    omega (arith, workers, room, one)
+
+pub unseat_all-requires-clause-came : goal.unseat_all-requires-clause-came
+unseat_all-requires-clause-came g c =
+    let workers = many_workers c.requires.shared.0 c.args.shared c.args.links.items c.args.doors.items c.requires.shared.1
+    c.seat_all.new.passes.items c.seat_all.ensures.rest c.args.console.now c.seat_all-2.new.seats.items c.take_part.new.workers.items c.seat_all.new.seats.items
+    c.take_part.new.keepers.items c.seat_all-2.ensures.seated c.seat_all.ensures.seated c.take_part.ensures.workers
+    c.take_part.ensures.doors in
+    let room = c.requires.room.for_links.came_fits in
+    omega (arith, workers, room)
+
+pub unseat_all-requires-2-clause-passes : goal.unseat_all-requires-2-clause-passes
+unseat_all-requires-2-clause-passes g c =
+    let keepers = many_keepers c.requires.shared.0 c.args.shared c.args.links.items c.args.doors.items c.requires.shared.1
+    c.seat_all.new.passes.items c.seat_all.ensures.rest c.args.console.now c.seat_all-2.new.seats.items c.take_part.new.workers.items c.seat_all.new.seats.items
+    c.take_part.new.keepers.items c.seat_all-2.ensures.seated c.seat_all.ensures.seated c.take_part.ensures.workers
+    c.take_part.ensures.doors in
+    let back = many_back_of_workers c.requires.shared.0 c.args.shared c.args.links.items c.args.doors.items c.requires.shared.1
+    c.seat_all.new.passes.items c.seat_all.ensures.rest c.args.console.now c.seat_all-2.new.seats.items c.take_part.new.workers.items c.seat_all.new.seats.items
+    c.take_part.new.keepers.items c.seat_all-2.ensures.seated c.seat_all.ensures.seated c.take_part.ensures.workers
+    c.take_part.ensures.doors
+    c.seat_all-2.new.passes.items c.unseat_all.new.passes.items c.seat_all-2.ensures.rest
+    c.unseat_all.ensures.back.passes_are in
+    let all = c.requires.shared.1.many in
+    let room : length c.args.shared.passes.items ≤ vec_capacity c.args.shared.passes = search (c, rules) in
+    let one = c.seat_all.ensures.passes in
+    let two = c.seat_all-2.ensures.passes in
+    let three = c.unseat_all.ensures.passes in
+    omega (arith, keepers, back, all, room, one, two, three)
+
+pub unseat_all-requires-2-clause-edges : goal.unseat_all-requires-2-clause-edges
+unseat_all-requires-2-clause-edges g c =
+    let keepers = many_keepers c.requires.shared.0 c.args.shared c.args.links.items c.args.doors.items c.requires.shared.1
+    c.seat_all.new.passes.items c.seat_all.ensures.rest c.args.console.now c.seat_all-2.new.seats.items c.take_part.new.workers.items c.seat_all.new.seats.items
+    c.take_part.new.keepers.items c.seat_all-2.ensures.seated c.seat_all.ensures.seated c.take_part.ensures.workers
+    c.take_part.ensures.doors in
+    let room : length c.args.doors.items ≤ vec_capacity c.args.doors = search (c, rules) in
+    let one = c.seat_all.ensures.edges in
+    omega (arith, keepers, room, one)
+
+pub unseat_all-requires-2-clause-came : goal.unseat_all-requires-2-clause-came
+unseat_all-requires-2-clause-came g c =
+    let keepers = many_keepers c.requires.shared.0 c.args.shared c.args.links.items c.args.doors.items c.requires.shared.1
+    c.seat_all.new.passes.items c.seat_all.ensures.rest c.args.console.now c.seat_all-2.new.seats.items c.take_part.new.workers.items c.seat_all.new.seats.items
+    c.take_part.new.keepers.items c.seat_all-2.ensures.seated c.seat_all.ensures.seated c.take_part.ensures.workers
+    c.take_part.ensures.doors in
+    let room = c.requires.room.for_doors.came_fits in
+    omega (arith, keepers, room)
 
 pub close-requires : goal.close-requires
 close-requires g c =
-    let all = worked_all c.seat_all.new.participants.items c.all_work.new.participants.items c.all_work.ensures in
+    let desk = c.args.shared.desk in
+    let are = passes_are c.requires.shared.0 c.args.shared c.args.links.items c.args.doors.items c.requires.shared.1
+    c.seat_all.new.passes.items c.seat_all.ensures.rest c.args.console.now c.seat_all-2.new.seats.items c.take_part.new.workers.items c.seat_all.new.seats.items
+    c.take_part.new.keepers.items c.seat_all-2.ensures.seated c.seat_all.ensures.seated c.take_part.ensures.workers
+    c.take_part.ensures.doors
+    c.seat_all-2.new.passes.items c.unseat_all.new.passes.items c.seat_all-2.ensures.rest
+    c.unseat_all.ensures.back.passes_are c.unseat_all-2.new.passes.items c.unseat_all-2.ensures.back.passes_are in
+    let workers = of_desk desk (WorksAt g.L.Links) c.seat_all-2.new.seats.items c.take_part.new.workers.items
+    (took_all desk (WorksAt g.L.Links) c.seat_all-2.new.seats.items c.take_part.new.workers.items
+    c.take_part.ensures.workers) in
+    let keepers = of_desk desk (ServesAt g.A.Doors c.args.console.now) c.seat_all.new.seats.items
+    c.take_part.new.keepers.items
+    (took_all desk (ServesAt g.A.Doors c.args.console.now) c.seat_all.new.seats.items c.take_part.new.keepers.items
+    c.take_part.ensures.doors) in
     record {
-      of_desk = all_of_desk c.args.shared.desk c.all_work.new.participants.items
-          c.unseat_all-is_short.new.passes.items c.unseat_all-is_short.ensures.passes_are
-          (λ place w is. let its = all place w is in (its.2.pass', its.2.has, its.2.of_desk));
+      of_desk = all_of_desk desk (map pass_in c.take_part.new.workers.items ++ map pass_in c.take_part.new.keepers.items)
+          c.unseat_all-2.new.passes.items are
+          (All-append (HasPassOf desk) (map pass_in c.take_part.new.workers.items)
+          (map pass_in c.take_part.new.keepers.items) workers keepers);
     }
 
 pub unreachable-requires : goal.unreachable-requires
 unreachable-requires g c =
-    let is = c.requires.shared.1 in
-    let many = from_length 0 c.args.shared.passes.items c.args.links.items is.many in
-    let now = ap length c.seat_all.ensures.seated in
-    let all = c.all_work.ensures.many in
-    let back = many_passes c.all_work.new.participants.items c.unseat_all-is_short.new.passes.items
-    c.unseat_all-is_short.ensures.passes_are in
-    let count = is.count in
+    let back = many_back c.requires.shared.0 c.args.shared c.args.links.items c.args.doors.items c.requires.shared.1
+    c.seat_all.new.passes.items c.seat_all.ensures.rest c.args.console.now c.seat_all-2.new.seats.items c.take_part.new.workers.items c.seat_all.new.seats.items
+    c.take_part.new.keepers.items c.seat_all-2.ensures.seated c.seat_all.ensures.seated c.take_part.ensures.workers
+    c.take_part.ensures.doors
+    c.seat_all-2.new.passes.items c.unseat_all.new.passes.items c.seat_all-2.ensures.rest
+    c.unseat_all.ensures.back.passes_are c.unseat_all-2.new.passes.items c.unseat_all-2.ensures.back.passes_are in
+    let count = c.requires.shared.1.count in
     let few = c.in-StillOut.ensures.few in
-    omega (arith, many, now, all, back, count, few)
+    omega (arith, back, count, few)
 
 pub returns : goal.returns
 returns g c solo is first =
     let end = c.in-Whole.ensures in
-    let worked = subst
-    (λ ws. AllWorked g.L.Links c.args.shared.desk ws c.all_work.new.participants.items) c.seat_all.ensures.seated
-    c.all_work.ensures in
+    let desk = c.args.shared.desk in
+    let front = c.seat_all.new.passes.items in
+    let links = c.args.links.items in
+    let doors = c.args.doors.items in
+    let ws' = c.take_part.new.workers.items in
+    let ks' = c.take_part.new.keepers.items in
+    let worked = subst (λ ws. AllTookPart desk (WorksAt g.L.Links) ws ws') c.seat_all-2.ensures.seated
+    c.take_part.ensures.workers in
+    let served = subst (λ ks. AllTookPart desk (ServesAt g.A.Doors c.args.console.now) ks ks') c.seat_all.ensures.seated
+    c.take_part.ensures.doors in
+    let short : c.any_short.result ≡ list_any (λ (its : Bool). its) c.unseat_all.new.came.items =
+    c.any_short.ensures ∙ ap (λ (bs : List Bool). list_any (λ (its : Bool). its) bs) c.deref.ensures.value in
     record {
       turns = end.0;
-      worked = inl (worked_together solo c.args.links.items c.unseat_all-is_short.new.links.items c.args.shared
-          c.unseat_all-is_short.new.passes.items c.all_work.new.participants.items end.0 c.unseat_all-is_short.result is
-          worked c.unseat_all-is_short.ensures end.2 c.requires.some c.own_turns_keep_their_order.ensures.first first);
+      worked = inl (worked_together c.args.console.now solo desk (edges links doors)
+          (edges c.unseat_all.new.edges.items c.unseat_all-2.new.edges.items) c.unseat_all-2.new.came.items
+          c.unseat_all.new.came.items (last_for links front) (last_for doors c.args.shared.passes.items)
+          c.unseat_all-2.new.passes.items ws' ks' end.0
+          (for_links solo c.args.shared links doors is front c.seat_all.ensures.rest)
+          (for_doors solo c.args.shared links doors is front c.seat_all.ensures.rest)
+          (new_for_links solo c.args.shared links doors is front c.seat_all.ensures.rest)
+          (new_for_doors solo c.args.shared links doors is front c.seat_all.ensures.rest) worked served
+          c.unseat_all.ensures.back.edges_are c.unseat_all.ensures.back.came_are c.unseat_all-2.ensures.back.edges_are
+          c.unseat_all-2.ensures.back.came_are
+          (many_workers solo c.args.shared links doors is front c.seat_all.ensures.rest c.args.console.now c.seat_all-2.new.seats.items ws'
+          c.seat_all.new.seats.items ks' c.seat_all-2.ensures.seated c.seat_all.ensures.seated c.take_part.ensures.workers
+          c.take_part.ensures.doors)
+          (passes_are solo c.args.shared links doors is front c.seat_all.ensures.rest c.args.console.now c.seat_all-2.new.seats.items ws'
+          c.seat_all.new.seats.items ks' c.seat_all-2.ensures.seated c.seat_all.ensures.seated c.take_part.ensures.workers
+          c.take_part.ensures.doors c.seat_all-2.new.passes.items c.unseat_all.new.passes.items c.seat_all-2.ensures.rest
+          c.unseat_all.ensures.back.passes_are c.unseat_all-2.new.passes.items c.unseat_all-2.ensures.back.passes_are)
+          is.count end.2 c.any_short.result short c.requires.links.0 c.own_turns_keep_their_order.ensures.first first);
       after = subst (λ s. IsAfter g.D.Disk s end.0 c.in-Whole.served) is.given (record {
         stands = end.1.stands_for;
         start = end.1.start_is;

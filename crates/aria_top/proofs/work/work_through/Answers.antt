@@ -4,8 +4,8 @@ use Rattle.aria_top.proofs.work.work_through.Goals as goal
 
 pub returns : goal.returns
 returns g c =
-    let work = c.work_links-engine.result in
-    let ends = c.work_links-engine.ensures in
+    let work = c.work_edges-engine.result in
+    let ends = c.work_edges-engine.ensures in
     let last = c.stop-is_stop_short.ensures.stops c.args.solo.given ends.turns ends.after in
     record {
       turns = ends.turns;

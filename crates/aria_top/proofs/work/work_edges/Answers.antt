@@ -1,13 +1,16 @@
-use Rattle.std.proofs.Common.{◌≡◌, ℕ, inr, length, refl, rules, subst}
+use Rattle.std.proofs.Common.{◌≡◌, ◌+◌, ◌∙◌, ap, inr, length, refl, rules, subst}
 use Rattle.run_frame.specs.Stops.{IsAfter}
 use Rattle.aria_top.specs.Together.{IsShared}
-use Rattle.aria_top.proofs.work.work_links.Goals as goal
-use Rattle.aria_top.proofs.work.work_links.Goals.{In-Ok}
+use Rattle.aria_top.proofs.work.work_edges.Goals as goal
+use Rattle.aria_top.proofs.work.work_edges.Goals.{In-Ok}
 
-shared : (g : _) (c : In-Ok g) → IsShared c.args.solo (length c.args.links.items) c.in-Ok.shared
+shared : (g : _) (c : In-Ok g)
+    → IsShared c.args.solo (length c.args.links.items + length c.args.doors.items) c.in-Ok.shared
 shared g c =
-    let many : c.len.result ≡ length c.args.links.items = search (c, rules) in
-    subst (λ (n : ℕ). IsShared c.args.solo n c.in-Ok.shared) many c.in-Ok.ensures.ok
+    let links : c.len.result ≡ length c.args.links.items = search (c, rules) in
+    let doors : c.len-2.result ≡ length c.args.doors.items = search (c, rules) in
+    subst (λ n. IsShared c.args.solo (length c.args.links.items + n) c.in-Ok.shared) doors
+    (subst (λ n. IsShared c.args.solo (n + c.len-2.result) c.in-Ok.shared) links c.in-Ok.ensures.ok)
 
 pub work_shared-requires-clause-shared : goal.work_shared-requires-clause-shared
 work_shared-requires-clause-shared g c κs within = (c.args.solo, shared g c)
@@ -22,7 +25,7 @@ returns-in-Err g c =
     let served = c.into_served.ensures in
     record {
       turns = c.args.solo.own;
-      worked = inr (record { same = refl; none = refl; short_is = refl });
+      worked = inr (record { same = refl; untold = search (c, rules); none = refl; short_is = refl });
       after = subst (λ s. IsAfter g.D.Disk s.given s.own c.into_served.result) c.in-Err.ensures.err
           (subst (λ ts. IsAfter g.D.Disk solo.given ts c.into_served.result) served.own (record {
             stands = served.at.stands_for;
