@@ -11,6 +11,7 @@ import tempfile
 from cases import (  # each lists its cases
     chosen,
     connections,
+    console,
     faults,
     layouts,
     many,

@@ -1,4 +1,7 @@
-"""The cases of the words: options and their values, and what words have a meaning."""
+"""The cases of the words: options and their values, and what words have a meaning.
+
+Where a console is turned on that nobody shuts down, the run is the one without doors.
+"""
 import os
 
 from lib.mirrors import Site
@@ -72,7 +75,7 @@ def spelled(name, letter, value):
             yield [f"-{letter}{value}"]
 
 
-@case("the values of each option")
+@case("the values of each option", alone=True)
 def _(room):
     for name, letter, right, wrong in NUMBERS + SIZES + TEXTS:
         for value in right:
@@ -86,7 +89,7 @@ def _(room):
                 room.refuses(28, "--enable-rpc", f"--{name}={value}")
 
 
-@case("options in ways that have no meaning")
+@case("options in ways that have no meaning", alone=True)
 def _(room):
     for name, letter, right, _ in NUMBERS + SIZES + TEXTS:
         value = right[0]
@@ -156,7 +159,7 @@ def _(room):
     want(os.listdir(room.folder) == ["t.torrent"], f"files were made: {os.listdir(room.folder)}")
 
 
-@case("options beside a metainfo file, in any order and spelling")
+@case("options beside a metainfo file, in any order and spelling", alone=True)
 def _(room):
     with Site({"/a.bin": b"hello"}) as site:
         room.torrent(site.url())
@@ -182,7 +185,7 @@ def _(room):
         want(len(site.requests) == 15, f"{len(site.requests)} requests came")
 
 
-@case("a download that is paused where nobody can let it go on")
+@case("a download that is paused where nobody can let it go on", alone=True)
 def _(room):
     with Site({"/a.bin": b"hello"}) as site:
         room.torrent(site.url())
