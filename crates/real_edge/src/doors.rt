@@ -6,8 +6,8 @@ use crate::faults::Faults;
 use crate::links::{PATIENCE_SECONDS, not_connected, read_some};
 use dl_kinds::IoErr;
 use door_source::{Came, Doors};
-use std::io::{ErrorKind, Write};
-use std::net::{Net, OpenListener, SocketAddr, TcpListener, TcpStream};
+use std::io::{ErrorKind, Read, Write};
+use std::net::{Net, OpenListener, Shutdown, SocketAddr, TcpListener, TcpStream};
 use std::time::Duration;
 use std::{io, thread, time};
 
@@ -15,6 +15,13 @@ use std::{io, thread, time};
 const ACCEPT_LOOKS: u32 = 20;
 
 const LOOK_MS: u64 = 5;
+
+// A peer whose connection ends is heard for so long, each time, and for so many bytes at once, so often.
+const LAST_MS: u64 = 100;
+
+const LAST_BYTES: usize = 4096;
+
+const LAST_READS: u32 = 1024;
 
 /// Listens on an address of this machine, for the doors of a run.
 pub fn listen_on<R: Net>(rt: &R, address: SocketAddr) -> io::Result<R::Listener> {
@@ -72,6 +79,22 @@ fn is_passing(kind: ErrorKind) -> bool {
     )
 }
 
+// Ends what is sent, and passes over what still comes, for a moment: a connection that is closed while bytes wait in it takes
+// from its peer what that was sent (RFC 9112 section 9.6).
+fn hear_out(stream: &mut TcpStream) {
+    let moment = Duration::from_millis(LAST_MS);
+    if stream.shutdown(Shutdown::Write).is_err() || stream.set_read_timeout(Some(moment)).is_err() {
+        return;
+    }
+    let mut rest = [0; LAST_BYTES];
+    for _ in 0..LAST_READS {
+        match stream.read(&mut rest) {
+            Ok(0) | Err(_) => return,
+            Ok(_) => {}
+        }
+    }
+}
+
 // Answers are small, and are to go out at once.
 fn patient(stream: TcpStream) -> io::Result<TcpStream> {
     let patience = Duration::from_secs(PATIENCE_SECONDS);
@@ -121,6 +144,9 @@ impl<'a, R: Net<Stream = TcpStream, Listener = TcpListener> + time::Clock> Doors
     }
 
     fn hang_up(&mut self) {
+        if let Some(stream) = &mut self.stream {
+            hear_out(stream);
+        }
         self.stream = None;
     }
 }
