@@ -1,5 +1,5 @@
 -- What those who took part did together, once their desk is closed.
-use Rattle.std.proofs.Common.{◌≡◌, inl, inr, ◌+◌, ◌≤◌, ◌<◌, ◌++◌, ℕ, zero, suc, Bool, List, [], ◌∷◌, Some, length, map, refl, sym, ap, ◌∙◌, subst, arith, slice_get}
+use Rattle.std.proofs.Common.{◌≡◌, inl, inr, ◌+◌, ◌≤◌, ◌++◌, ℕ, zero, suc, Bool, List, [], ◌∷◌, Some, length, map, sym, ap, ◌∙◌, subst, arith, slice_get}
 use Rattle.std.specs.List.{list_any}
 use Rattle.conn_worker.specs.Works.{RunSight}
 use Rattle.console_session.specs.declared.serving.Transcript.{Transcript}

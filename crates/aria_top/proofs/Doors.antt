@@ -2,11 +2,11 @@
 use Rattle.std.proofs.Common.{◌≡◌, ◌⊎◌, inl, inr, ⊎_elim, ℕ, Bool, true, false, List, [], ◌∷◌, ◌++◌, Some, length, map, refl, sym, ap, ◌∙◌, subst, arith, slice_get}
 use Rattle.std.specs.Prelude.{◌||◌, ◌+◌, if◌then◌else◌, All, Contains}
 use Rattle.std.proofs.lemmas.Bool.{false≢true}
-use Rattle.std.proofs.lemmas.List.Elements.{All-contains, All-head, All-tail, Contains-append_cases, Contains-append_left, Contains-push_cases}
+use Rattle.std.proofs.lemmas.List.Elements.{All-head, All-tail, Contains-append_cases, Contains-append_left, Contains-push_cases}
 use Rattle.console_session.specs.CallTurns.{IsOfSession, call_turns, is_call, places_by, reply_places}
 use Rattle.console_session.specs.SessionLaws.{RepliesAreOfTheHistory}
 use Rattle.console_session.specs.declared.serving.Transcript.{Transcript}
-use Rattle.desk_seats.specs.Uses.{AreUsed, Use}
+use Rattle.desk_seats.specs.Uses.{Use}
 use Rattle.desk_seats.proofs.Uses.{map_length}
 use Rattle.dl_disk.specs.declared.disk.Disk.{Ghosts as DiskSays}
 use Rattle.dl_kinds.specs.declared.outside.Sink.{Ghosts as SinkSays}
@@ -32,13 +32,13 @@ use Rattle.run_frame.specs.Stops.{all_turns}
 use Rattle.run_frame.specs.declared.console.ConsoleTerms.{ConsoleTerms}
 use Rattle.run_frame.specs.declared.ended.Ended.{Ended}
 use Rattle.run_frame.proofs.Ran as ran_facts
-use Rattle.aria_top.specs.DoorsCauses.{DoorsServed, IsPlaceOfCall, IsServedDoor, NoneServed, ShowsDoors}
+use Rattle.aria_top.specs.DoorsCauses.{DoorsServed, IsServedDoor, NoneServed, ShowsDoors}
 use Rattle.aria_top.specs.Participants.{session_of}
-use Rattle.aria_top.specs.RunsTogether.{RanTogether, RunsTogether, used_edges, with_unused}
+use Rattle.aria_top.specs.RunsTogether.{RanTogether, RunsTogether, used_edges}
 use Rattle.aria_top.specs.Together.{Edges, NobodyWorked, UsesDoor, WorkedTogether}
 use Rattle.aria_top.proofs.Called.{place_of_call, stands_where_told}
 use Rattle.aria_top.proofs.Framed.{cut, framed}
-use Rattle.aria_top.proofs.Linked.{behind, first_or_later, here, none_there, of_pass}
+use Rattle.aria_top.proofs.Linked.{behind, here, of_pass}
 
 -- ---- calls that were replied to
 

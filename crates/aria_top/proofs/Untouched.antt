@@ -1,5 +1,5 @@
 -- What a run leaves as it was, and where.
-use Rattle.std.proofs.Common.{◌≡◌, inl, inr, ⊎_elim, ℕ, Bool, List, [], ◌∷◌, Some, length, map, refl, sym, ap, ◌∙◌, subst, arith, slice_get}
+use Rattle.std.proofs.Common.{◌≡◌, inl, inr, ⊎_elim, ℕ, Bool, List, [], Some, length, map, refl, sym, ap, ◌∙◌, subst, arith, slice_get}
 use Rattle.std.specs.Prelude.{Contains}
 use Rattle.conn_worker.specs.Brought.{IsLaterLink, LinksGoOn}
 use Rattle.conn_worker.specs.Hands.{LinkAt, WorkerAt, fresh, link_at}

@@ -1,4 +1,4 @@
-use Rattle.std.proofs.Common.{◌≡◌, ◌+◌, ◌∙◌, ap, inr, length, refl, rules, subst}
+use Rattle.std.proofs.Common.{◌≡◌, ◌+◌, inr, length, refl, rules, subst}
 use Rattle.run_frame.specs.Stops.{IsAfter}
 use Rattle.aria_top.specs.Together.{IsShared}
 use Rattle.aria_top.proofs.work.work_edges.Goals as goal
