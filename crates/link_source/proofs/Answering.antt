@@ -8,11 +8,13 @@ use Rattle.std.specs.Prelude.{◌↔◌, is_some, IsTrue, nat_lt}
 use Rattle.std.specs.Str.{bytes_eq}
 use Rattle.link_source.proofs.Reading.{asks_once}
 use Rattle.link_source.specs.BadAnswers.{IsUsed, next_bad}
-use Rattle.link_source.specs.Memory.{mirror_of, mirrors_of, contents_of, UsesNext, GivesText}
-use Rattle.link_source.specs.Mirrors.{Mirror, UsesBadAnswer, bad_at, mirror_at, mirror_reply, reply_of}
+use Rattle.link_source.specs.Files.{MemFile, file_of, placed_file_of}
+use Rattle.link_source.specs.Memory.{mirror_of, mirrors_of, contents_of, stored_at, UsesNext, GivesText}
+use Rattle.link_source.specs.Mirrors.{Mirror, file_at, UsesBadAnswer, bad_at, mirror_at, mirror_reply, reply_by, reply_of}
 use Rattle.link_source.specs.Replies.{bare_reply, text_under}
 use Rattle.link_source.specs.Requests.{Asks}
 use Rattle.link_source.specs.declared.bad_answers.Bad.{Bad}
+use Rattle.link_source.specs.declared.mirrors.MemFile as code
 use Rattle.link_source.specs.declared.mirrors.MemMirror.{MemMirror}
 
 -- ---- the same mirror by its value
@@ -62,6 +64,24 @@ replies mirrors host port found target first last is =
         ≡ option_map_or (λ mirror. mirror_reply (mirror_of mirror) target first last) at (bare_reply [])
     mapped None = refl
     mapped (Some mirror) = refl
+
+-- the same file by its value
+pub stored : (files : List (List ℕ × code.MemFile)) (target : List ℕ) (found : Option code.MemFile) → found ≡ stored_at files target
+    → file_at (map placed_file_of files) target ≡ option_map file_of found
+stored files target found is =
+    ap (option_map (λ (file : List ℕ × MemFile). file.1)) (find-map placed_file_of (λ (file : List ℕ × MemFile). bytes_eq file.0 target) files)
+    ∙ turned (find (λ file. bytes_eq file.0 target) files)
+    ∙ ap (option_map file_of) (sym is)
+  where
+    turned : (at : Option (List ℕ × code.MemFile))
+        → option_map (λ (file : List ℕ × MemFile). file.1) (option_map placed_file_of at) ≡ option_map file_of (option_map (λ file. file.1) at)
+    turned None = refl
+    turned (Some file) = refl
+
+-- and what is replied of it
+pub replies_by : (mirror : MemMirror) (target : List ℕ) (found : Option code.MemFile) (first last : ℕ) → found ≡ stored_at mirror.files.items target
+    → mirror_reply (mirror_of mirror) target first last ≡ reply_by mirror.manner (option_map file_of found) first last
+replies_by mirror target found first last is = ap (λ file. reply_by mirror.manner file first last) (stored mirror.files.items target found is)
 
 -- ---- the bad answer that is used
 

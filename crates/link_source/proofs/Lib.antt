@@ -1,6 +1,7 @@
 mod Answering
 mod ChunkSteps
 mod Heads
+mod Loads
 mod Numbers
 mod Reading
 mod Using

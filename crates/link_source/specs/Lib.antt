@@ -2,10 +2,13 @@ pub mod BadAnswers
 pub mod Chunks
 pub mod Endpoint
 pub mod Exchanges
+pub mod Files
 pub mod Link
+pub mod Load
 pub mod MemLinks
 pub mod Memory
 pub mod Mirrors
 pub mod Reading
 pub mod Replies
 pub mod Requests
+pub mod Resources

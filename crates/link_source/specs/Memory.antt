@@ -1,17 +1,23 @@
 -- What the parts of links in memory show.
-use Rattle.std.specs.Prelude.{◌≡◌, ◌==◌, ◌&&◌, Bool, bytes_eq, ℕ, List, [], ◌∷◌, Option, Some, None, MatchOption, reverse, map}
+use Rattle.std.specs.Prelude.{◌≡◌, ◌==◌, ◌&&◌, Bool, bytes_eq, ℕ, List, [], ◌∷◌, Option, Some, None, MatchOption, option_map, find, reverse, map}
 use Rattle.link_source.specs.BadAnswers.{IsUsed, next_bad}
 use Rattle.link_source.specs.Mirrors.{Content, Mirror, HasReply, reply_of}
 use Rattle.link_source.specs.Replies.{Reply}
 use Rattle.link_source.specs.Exchanges.{Exchange}
+use Rattle.link_source.specs.Files.{placed_file_of}
 use Rattle.link_source.specs.declared.bad_answers.Bad.{Bad}
+use Rattle.link_source.specs.declared.mirrors.MemFile as code
 use Rattle.link_source.specs.declared.mirrors.MemMirror.{MemMirror}
 use Rattle.link_source.specs.declared.replies.MemReply.{MemReply}
 use Rattle.link_source.specs.declared.exchanges.MemExchange.{MemExchange}
 use Rattle.link_source.specs.declared.exchanges.MemPeer.{MemPeer}
 
+-- the first file of this target, as it is stored
+abbrev pub stored_at : List (List ℕ × code.MemFile) → List ℕ → Option code.MemFile
+stored_at files target = option_map (λ file. file.1) (find (λ file. bytes_eq file.0 target) files)
+
 abbrev pub mirror_of : MemMirror → Mirror
-mirror_of m = record { host = m.host; port = m.port; files = m.files.items; manner = m.manner }
+mirror_of m = record { host = m.host; port = m.port; files = map placed_file_of m.files.items; manner = m.manner }
 
 abbrev pub mirrors_of : List MemMirror → List Mirror
 mirrors_of mirrors = map mirror_of mirrors

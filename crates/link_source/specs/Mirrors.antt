@@ -4,11 +4,10 @@ use Rattle.std.specs.Option.{option_map_or}
 use Rattle.std.specs.Str.{bytes_eq}
 use Rattle.link_source.specs.BadAnswers.{IsUsed, next_bad}
 use Rattle.link_source.specs.Endpoint.{host_value}
+use Rattle.link_source.specs.Files.{MemFile, Bytes, Moved}
 use Rattle.link_source.specs.Replies.{Reply, bare_reply, text_under, not_found, moved, ranges_reply, whole_reply}
 use Rattle.link_source.specs.Requests.{Asks, request_of}
 use Rattle.link_source.specs.declared.bad_answers.Bad.{Bad}
-use Rattle.link_source.specs.declared.mirrors.MemFile.{MemFile}
-use Rattle.link_source.specs.declared.mirrors.MemFile.TheVariants.{Bytes, Moved}
 use Rattle.link_source.specs.declared.mirrors.Manner.{Manner}
 use Rattle.link_source.specs.declared.mirrors.Manner.TheVariants.{Ranges, Whole, Chunked, ToEnd}
 

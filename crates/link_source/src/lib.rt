@@ -15,15 +15,18 @@ mod due;
 mod endpoint;
 mod exchanges;
 mod laws;
+mod load;
 mod memory;
 mod mirrors;
 mod replies;
 mod requests;
+mod resources;
 
 pub use bad_answers::{Bad, BadKind};
 pub use endpoint::{EndErr, Endpoint, is_usable};
 pub use exchanges::MOST_RECEIVED;
 pub use laws::requests_are_read_once;
+pub use load::load_part;
 pub use memory::MemLinks;
 pub use mirrors::{Manner, MemFile, MemMirror};
 

@@ -1,8 +1,9 @@
 // Mirrors in memory, and what they answer.
 ghost use Rattle.std.specs.Prelude.{◌≡◌, ◌≤◌, ◌↔◌, [], None, find, position, IsTrue, IfOk, option_copied};
 ghost use Rattle.std.specs.Str.{bytes_eq};
-ghost use Rattle.link_source.specs.Mirrors.{reply_of, mirror_at, file_at, mirror_reply, content_reply};
-ghost use Rattle.link_source.specs.Memory.{is_at, mirror_of, mirrors_of, reply_seen, true_reply, GivesText};
+ghost use Rattle.link_source.specs.Mirrors.{reply_of, mirror_at, mirror_reply, content_reply};
+ghost use Rattle.link_source.specs.Memory.{is_at, mirror_of, mirrors_of, reply_seen, stored_at, true_reply, GivesText};
+ghost use Rattle.link_source.specs.Resources.{bytes_of};
 ghost use Rattle.link_source.specs.Replies.{text_under};
 
 use crate::bad_answers::{Bad, BadAnswers};
@@ -10,6 +11,7 @@ use crate::replies::{
     MemReply, moved_reply, not_found_reply, reply_by_range, reply_in_whole, silence,
 };
 use crate::requests::{Asked, read_request};
+use crate::resources::Resource;
 use dl_kinds::{Blob, Text};
 use std::alloc::{AllocError, Global};
 
@@ -17,6 +19,8 @@ use std::alloc::{AllocError, Global};
 #[derive(Debug, Drop)]
 pub enum MemFile {
     Bytes(Blob),
+    /// The first bytes of the load of this number, which are made as they are asked for.
+    Load { n: u64, len: u64 },
     /// The resource is at this location, which is a URL or is relative to the one that led here.
     Moved(Text),
 }
@@ -54,7 +58,7 @@ pub struct Answered {
 
 // The first file of a target.
 fn find_file<'a>(files: &'a [(Text, MemFile)], target: &[u8]) -> Option<&'a MemFile>
-    ensures { option_copied result ≡ file_at files.now target.now }
+    ensures { option_copied result ≡ stored_at files.now target.now }
 {
     files
         .iter()
@@ -65,18 +69,18 @@ fn find_file<'a>(files: &'a [(Text, MemFile)], target: &[u8]) -> Option<&'a MemF
 fn reply_with(
     alloc: Global,
     manner: Manner,
-    bytes: &[u8],
+    resource: &Resource<'_>,
     asked: &Asked<'_>,
 ) -> Result<MemReply, AllocError>
     requires { asked.now.first ≤ asked.now.last }
     ensures { IfOk result (λ reply. reply_seen reply
-        ≡ content_reply manner bytes.now asked.now.first asked.now.last) }
+        ≡ content_reply manner (bytes_of resource.now) asked.now.first asked.now.last) }
 {
     match manner {
-        Manner::Ranges => reply_by_range(alloc, false, bytes, asked.first, asked.last),
-        Manner::Chunked => reply_by_range(alloc, true, bytes, asked.first, asked.last),
-        Manner::Whole => reply_in_whole(alloc, true, bytes),
-        Manner::ToEnd => reply_in_whole(alloc, false, bytes),
+        Manner::Ranges => reply_by_range(alloc, false, resource, asked.first, asked.last),
+        Manner::Chunked => reply_by_range(alloc, true, resource, asked.first, asked.last),
+        Manner::Whole => reply_in_whole(alloc, true, resource),
+        Manner::ToEnd => reply_in_whole(alloc, false, resource),
     }
 }
 
@@ -91,7 +95,14 @@ impl MemMirror {
         match find_file(&self.files, asked.target) {
             None => not_found_reply(alloc),
             Some(MemFile::Moved(location)) => moved_reply(alloc, location.as_str()),
-            Some(MemFile::Bytes(bytes)) => reply_with(alloc, self.manner, bytes.bytes(), asked),
+            Some(MemFile::Bytes(bytes)) => {
+                let stored = Resource::Stored(bytes.bytes());
+                reply_with(alloc, self.manner, &stored, asked)
+            }
+            Some(MemFile::Load { n, len }) => {
+                let load = Resource::Load { n: *n, len: *len };
+                reply_with(alloc, self.manner, &load, asked)
+            }
         }
     }
 }

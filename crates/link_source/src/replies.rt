@@ -1,10 +1,12 @@
 // Replies of mirrors in memory.
 ghost use Rattle.std.specs.Prelude.{◌≡◌, ◌≤◌, ◌<◌, [], IfOk, string_bytes};
 ghost use Rattle.link_source.specs.Memory.{reply_seen};
+ghost use Rattle.link_source.specs.Resources.{bytes_of};
 ghost use Rattle.link_source.specs.Replies.{bare_reply, body_text, text_of, length_line, not_found, moved, not_satisfiable, part_head, part_reply, ranges_reply, whole_head, whole_reply, status_head, flipped, spoiled_text, text_under};
 
 use crate::bad_answers::{Bad, BadKind};
 use crate::chunks::in_chunks;
+use crate::resources::Resource;
 use std::alloc::{AllocError, Global};
 
 /// A reply before it is written.
@@ -89,20 +91,21 @@ fn head_of_part(
 pub fn reply_by_range(
     alloc: Global,
     chunked: bool,
-    bytes: &[u8],
+    resource: &Resource<'_>,
     first: u64,
     last: u64,
 ) -> Result<MemReply, AllocError>
     requires { first ≤ last }
-    ensures { IfOk result (λ reply. reply_seen reply ≡ ranges_reply chunked bytes.now first last) }
+    ensures { IfOk result (λ reply. reply_seen reply
+        ≡ ranges_reply chunked (bytes_of resource.now) first last) }
 {
-    let total = bytes.len() as u64;
+    let total = resource.len();
     if first >= total {
         return not_satisfiable_reply(alloc, total);
     }
     let last = last.min(total - 1);
     let head = head_of_part(alloc, chunked, first, last, total)?;
-    let content = bytes[first as usize..last as usize + 1].to_vec(alloc)?;
+    let content = resource.part(alloc, first, last + 1 - first)?;
     Ok(MemReply {
         head,
         place: first,
@@ -124,14 +127,18 @@ fn head_of_whole(alloc: Global, told: bool, total: u64) -> Result<Vec<u8>, Alloc
 }
 
 /// All bytes, whose number is told or not.
-pub fn reply_in_whole(alloc: Global, told: bool, bytes: &[u8]) -> Result<MemReply, AllocError>
-    ensures { IfOk result (λ reply. reply_seen reply ≡ whole_reply told bytes.now) }
+pub fn reply_in_whole(
+    alloc: Global,
+    told: bool,
+    resource: &Resource<'_>,
+) -> Result<MemReply, AllocError>
+    ensures { IfOk result (λ reply. reply_seen reply ≡ whole_reply told (bytes_of resource.now)) }
 {
-    let head = head_of_whole(alloc, told, bytes.len() as u64)?;
+    let head = head_of_whole(alloc, told, resource.len())?;
     Ok(MemReply {
         head,
         place: 0,
-        content: bytes.to_vec(alloc)?,
+        content: resource.part(alloc, 0, resource.len())?,
         chunked: false,
     })
 }

@@ -4,12 +4,12 @@ use Rattle.std.specs.Option.{option_and_then, option_map_or}
 use Rattle.std.specs.Prelude.{Option, Some, None}
 use Rattle.link_source.specs.BadAnswers.{next_bad}
 use Rattle.link_source.specs.Endpoint.{host_value}
+use Rattle.link_source.specs.Files.{MemFile}
 use Rattle.link_source.specs.Mirrors.{Content, Mirror, AddsReply, HasReply, bad_at, file_at, mirror_reply, number_at, reply_by, reply_of}
 use Rattle.link_source.specs.Replies.{bare_reply, text_under}
 use Rattle.link_source.specs.Requests.{request_of}
 use Rattle.link_source.specs.declared.bad_answers.Bad.{Bad}
 use Rattle.link_source.specs.declared.mirrors.Manner.{Manner}
-use Rattle.link_source.specs.declared.mirrors.MemFile.{MemFile}
 use Rattle.memory_reply_laws.specs.Answers.{RequestsAreAlike, Has, RequestsAreAnswered, NoneIsNext}
 
 pub requests_are_alike : RequestsAreAlike

@@ -1,11 +1,11 @@
 -- What mirrors in memory give in answer to a request.
 use Rattle.std.specs.Prelude.{◌≡◌, ℕ, ◌^◌, ◌<◌, ◌≤◌, List, [], Option, Some, None}
 use Rattle.link_source.specs.Endpoint.{host_value}
+use Rattle.link_source.specs.Files.{MemFile}
 use Rattle.link_source.specs.Mirrors.{Content, Mirror, AddsReply, bad_at, mirror_at, file_at, reply_by}
 use Rattle.link_source.specs.Replies.{text_under}
 use Rattle.link_source.specs.Requests.{request_of}
 use Rattle.link_source.specs.declared.mirrors.Manner.{Manner}
-use Rattle.link_source.specs.declared.mirrors.MemFile.{MemFile}
 use Rattle.range_http.specs.declared.asked.Asked.{Asked}
 use Rattle.range_http.specs.Request.{request_text}
 

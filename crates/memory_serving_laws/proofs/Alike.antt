@@ -2,7 +2,7 @@
 use Rattle.std.proofs.Common.{◌≡◌, ℕ, zero, suc, ◌≤◌, Bool, List, [], ◌∷◌, inl, inr, ap, sym, ◌∙◌, arith}
 use Rattle.link_source.specs.Mirrors.{Content, mirror_at, number_at}
 use Rattle.link_source.specs.Exchanges.{Exchange}
-use Rattle.link_source.specs.declared.mirrors.MemFile.{MemFile}
+use Rattle.link_source.specs.Files.{MemFile}
 use Rattle.request_chain.specs.Answered.{GaveAll}
 use Rattle.request_chain.specs.Redirects.{redirect_limit}
 use Rattle.memory_serving_laws.specs.Alike.{AnswersKeepMirrors, LeadsAlike, LeadsAmongAlike, LeadsToSizeAlike}

@@ -8,10 +8,10 @@ use Rattle.link_source.specs.Mirrors.{Content, AddsReply, HasReply, bad_at, mirr
 use Rattle.link_source.specs.Replies.{text_under}
 use Rattle.link_source.specs.Requests.{Asks}
 use Rattle.link_source.specs.Exchanges.{Exchange}
+use Rattle.link_source.specs.Files.{MemFile}
 use Rattle.link_source.specs.declared.bad_answers.Bad.{Bad}
 use Rattle.link_source.specs.declared.endpoint.Endpoint.{Endpoint}
 use Rattle.link_source.specs.declared.mirrors.Manner.{Manner}
-use Rattle.link_source.specs.declared.mirrors.MemFile.{MemFile}
 use Rattle.range_http.specs.declared.asked.Asked.{Asked}
 use Rattle.memory_reply_laws.specs.Answers.{Has, RequestsAreAlike, RequestsAreAnswered}
 use Rattle.request_chain.specs.Answered.{GaveAnswer}

@@ -1,10 +1,9 @@
 -- A URL leads to one resource.
 use Rattle.std.proofs.Common.{◌≡◌, ℕ, zero, suc, List, inl, inr, refl, ap, sym, subst, ◌∙◌}
 use Rattle.link_source.specs.Endpoint.{endpoint_of}
+use Rattle.link_source.specs.Files.{MemFile, Bytes, Moved}
 use Rattle.link_source.specs.Mirrors.{Content}
 use Rattle.link_source.specs.Replies.{bare_reply, moved, text_of}
-use Rattle.link_source.specs.declared.mirrors.MemFile.{MemFile}
-use Rattle.link_source.specs.declared.mirrors.MemFile.TheVariants.{Bytes, Moved}
 use Rattle.memory_reply_laws.specs.Replies.{MovedIsRead}
 use Rattle.range_http.specs.Fields.{sole}
 use Rattle.range_http.specs.Verdict.{verdict_of}

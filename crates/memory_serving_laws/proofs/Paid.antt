@@ -6,7 +6,7 @@ use Rattle.std.specs.Prelude.{Option, Some, None, nat_lt, nat_le}
 use Rattle.dl_words.specs.Lists.{part_at}
 use Rattle.link_source.specs.Mirrors.{Content}
 use Rattle.link_source.specs.Exchanges.{Exchange}
-use Rattle.link_source.specs.declared.mirrors.MemFile.TheVariants.{Bytes}
+use Rattle.link_source.specs.Files.{Bytes}
 use Rattle.range_http.specs.declared.asked.Asked.{Asked}
 use Rattle.reply_reader.specs.Answers.{Turn, Due, Given, Away, Lost as LostTurn, Answer, size_to}
 use Rattle.reply_reader.specs.Fills.{AnswerFills}

@@ -5,10 +5,9 @@ use Rattle.std.specs.Prelude.{All, Option, Some, None}
 use Rattle.memory_serving_laws.specs.Charges.{AreKnownOf, IsKnownOf, next_known}
 use Rattle.dl_words.specs.Lists.{part_at}
 use Rattle.link_source.specs.Endpoint.{IsUsable}
+use Rattle.link_source.specs.Files.{MemFile, Bytes}
 use Rattle.memory_serving_laws.specs.Leads.{StandsAt, Redirects, Leads}
 use Rattle.link_source.specs.Mirrors.{Content}
-use Rattle.link_source.specs.declared.mirrors.MemFile.{MemFile}
-use Rattle.link_source.specs.declared.mirrors.MemFile.TheVariants.{Bytes}
 use Rattle.span_map.specs.Jobs.{IsJobPart}
 use Rattle.request_chain.specs.Plans.{Done, Open, Lost, NextAsk, Ask, Over, plan_of}
 use Rattle.request_chain.specs.Redirects.{redirect_limit}

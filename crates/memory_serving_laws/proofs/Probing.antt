@@ -8,12 +8,12 @@ use Rattle.link_source.specs.Endpoint.{IsUsable}
 use Rattle.link_source.specs.Mirrors.{Content, content_reply}
 use Rattle.link_source.specs.Replies.{bare_reply, body_text, moved, not_satisfiable, spoiled_text, status_head, text_of, text_under}
 use Rattle.link_source.specs.Exchanges.{Exchange}
+use Rattle.link_source.specs.Files.{Bytes, Moved}
 use Rattle.link_source.specs.declared.bad_answers.Bad.{Bad}
 use Rattle.link_source.specs.declared.bad_answers.BadKind.{BadKind}
 use Rattle.link_source.specs.declared.bad_answers.BadKind.TheVariants.{Status, Cut, Flip}
 use Rattle.link_source.specs.declared.mirrors.Manner.{Manner}
 use Rattle.link_source.specs.declared.mirrors.Manner.TheVariants.{Ranges, Whole, Chunked, ToEnd}
-use Rattle.link_source.specs.declared.mirrors.MemFile.TheVariants.{Bytes, Moved}
 use Rattle.range_http.specs.declared.head.Head.{Head}
 use Rattle.range_http.specs.declared.verdict.Verdict.{Verdict}
 use Rattle.range_http.specs.declared.verdict.Verdict.TheVariants.{NotFound}

@@ -7,11 +7,11 @@ use Rattle.memory_serving_laws.specs.Leads.{StandsAt, Redirects}
 use Rattle.link_source.specs.Mirrors.{Content, content_reply}
 use Rattle.link_source.specs.Replies.{bare_reply, body_text, moved, spoiled_text, text_of, text_under}
 use Rattle.link_source.specs.Exchanges.{Exchange}
+use Rattle.link_source.specs.Files.{Bytes, Moved}
 use Rattle.link_source.specs.declared.bad_answers.Bad.{Bad}
 use Rattle.link_source.specs.declared.bad_answers.BadKind.{BadKind}
 use Rattle.link_source.specs.declared.bad_answers.BadKind.TheVariants.{Status, Cut, Flip}
 use Rattle.link_source.specs.declared.mirrors.Manner.{Manner}
-use Rattle.link_source.specs.declared.mirrors.MemFile.TheVariants.{Bytes, Moved}
 use Rattle.range_http.specs.declared.asked.Asked.{Asked}
 use Rattle.memory_reply_laws.specs.Answers.{RequestsAreAlike, RequestsAreAnswered}
 use Rattle.memory_reply_laws.specs.BadReplies.{with_turned, FlippedIsTrue, BareIsNotFlipped, CutIsFront}

@@ -1,10 +1,9 @@
 -- Which resource a URL leads to, also over redirects (RFC 9110 sections 10.2.2 and 15.4).
 use Rattle.std.specs.Prelude.{◌≡◌, ◌⊎◌, ℕ, zero, suc, List, Some, codes}
+use Rattle.link_source.specs.Files.{MemFile, Bytes, Moved}
 use Rattle.link_source.specs.Mirrors.{Content, Mirror, mirror_at, file_at}
 use Rattle.link_source.specs.Replies.{bare_reply, moved, text_of}
 use Rattle.link_source.specs.declared.endpoint.Endpoint.{Endpoint}
-use Rattle.link_source.specs.declared.mirrors.MemFile.{MemFile}
-use Rattle.link_source.specs.declared.mirrors.MemFile.TheVariants.{Bytes, Moved}
 use Rattle.memory_reply_laws.specs.Reading.{IsReadable}
 use Rattle.range_http.specs.Fields.{values_of, sole}
 use Rattle.range_http.specs.Verdict.{verdict_of}

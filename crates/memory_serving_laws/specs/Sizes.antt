@@ -3,8 +3,8 @@ use Rattle.std.specs.Prelude.{◌≡◌, ◌≢◌, ◌⊎◌, ◌==◌, ◌<◌
 use Rattle.link_source.specs.Link.{LinkState}
 use Rattle.link_source.specs.Mirrors.{Content}
 use Rattle.link_source.specs.Exchanges.{Exchange}
+use Rattle.link_source.specs.Files.{Bytes}
 use Rattle.link_source.specs.declared.mirrors.Manner.TheVariants.{ToEnd}
-use Rattle.link_source.specs.declared.mirrors.MemFile.TheVariants.{Bytes}
 use Rattle.request_chain.specs.Probes.{Probe, Due, Told, Away, Lost, Probed}
 use Rattle.request_chain.specs.Redirects.{redirect_limit}
 use Rattle.memory_serving_laws.specs.Laws.{GainedAnswers}
