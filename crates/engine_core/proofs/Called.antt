@@ -14,6 +14,7 @@ use Rattle.engine_turns.specs.declared.operations.Operation.TheVariants as opera
 use Rattle.engine_turns.specs.declared.operations.Said.{Said}
 use Rattle.machine_core.specs.Starts.{Download, RunStart}
 use Rattle.machine_core.specs.declared.calls.Call.{Call}
+use Rattle.machine_core.specs.declared.calls.Call.TheVariants as call
 use Rattle.machine_core.specs.declared.events.Event.{Event}
 use Rattle.machine_core.specs.declared.events.Event.TheVariants.{Called}
 use Rattle.rate_limits.specs.Shared.{RunLevels, own_level}
@@ -22,7 +23,7 @@ use Rattle.stored_run.specs.Saves.{UnlessStarved}
 use Rattle.stored_run.specs.Steps.{DoesRow, turn_from}
 use Rattle.stored_run.specs.declared.run.StoredView.{StoredView}
 use Rattle.engine_core.specs.Beginning.{Begins}
-use Rattle.engine_core.specs.Buckets.{FollowOptions, HasRates, LevelsGoOn, all_followed, followed, own_rates}
+use Rattle.engine_core.specs.Buckets.{FollowOptions, HasRates, HaveRates, LevelsGoOn, changes_options, all_followed, followed, own_rates}
 use Rattle.engine_core.specs.Engines.{past_of, standing_of, start_of}
 use Rattle.engine_core.specs.Performing.{Performs}
 use Rattle.engine_core.specs.declared.state.EngineState.{EngineState}
@@ -110,6 +111,62 @@ called_few session call old new f f' said row start_is =
     (sym start_is)
     (subst (λ (past : List Event). length (downloads_of old.machine.start past)
     ≤ length (downloads_of old.machine.start old.machine.past) + 1) (sym row.grown) few)
+
+-- ---- the rates of those that were there
+
+uncalled_rate : (start : RunStart) (past : List Event) (session : ℕ) (asked : Call) (now : Moment) (d : Download)
+    → changes_options asked ≡ false → own_rate start (Called session asked now ∷ past) d ≡ own_rate start past d
+uncalled_rate start past session (call.ChangeOption key options) now d none = absurd cc
+uncalled_rate start past session other now d none = refl
+
+row_keeps : (at : TurnStart) (s : RunStanding) (session : ℕ) (asked : Call) (events : List Event) (said : Said)
+    → UnlessStarved (CallRow at s session asked) events said → changes_options asked ≡ false → (d : Download)
+    → own_rate at.start (history_after s.past events) d ≡ own_rate at.start s.past d
+row_keeps at s session asked events said is none d = ⊎_elim
+    (λ starved. ap (λ (es : List Event). own_rate at.start (history_after s.past es) d) starved.0)
+    (λ (row : CallRow at s session asked events said).
+    let called = Called session asked at.now ∷ s.past in
+    let still = stays_uncalled at.start called row.saves (saves_calm at row.those called row.saves row.outcome row.saved) in
+    ap (λ (es : List Event). own_rate at.start (history_after s.past es) d) row.cut
+    ∙ (still.own d ∙ uncalled_rate at.start s.past session asked at.now d none)) is
+
+-- unless its options changed the bucket of a download that was there has its rate
+pub called_kept : {D : Type 0} (session : ℕ) (asked : Call) (old new : StoredView D) (f f' : ℕ) (said : Said)
+    (levels : RunLevels) → DoesRow (λ at s. UnlessStarved (CallRow at s session asked)) old f new f' said
+    → new.machine.start ≡ old.machine.start → HasRates old.machine.start old.machine.past levels
+    → changes_options asked ≡ false
+    → HaveRates new.machine.start new.machine.past (downloads_of new.machine.start new.machine.past) levels.own
+called_kept session asked old new f f' said levels row start_is rates none =
+    let s : RunStanding = record { past = old.machine.past; handed = []; overall = full_level 0 0; own = [] } in
+    let start = old.machine.start in
+    let past = old.machine.past in
+    let after = history_after past row.events in
+    let here = row.is f s (omega arith) refl in
+    let grows = downloads_grow start past row.events in
+    let kept : HaveRates start after (downloads_of start after) levels.own =
+    λ place d there within.
+    rates.own place d
+    (prefix_there (downloads_of start past) grows.more place d
+    (subst (λ (ds : List Download). slice_get ds place ≡ Some d) grows.is there)
+    (let many = rates.many in omega (arith, within, many)))
+    ∙ sym (row_keeps (turn_from old f) s session asked row.events said here none d) in
+    subst (λ (st : RunStart). HaveRates st new.machine.past (downloads_of st new.machine.past) levels.own) (sym start_is)
+    (subst (λ (p : List Event). HaveRates start p (downloads_of start p) levels.own) (sym row.grown) kept)
+
+-- none goes
+pub called_more : {D : Type 0} (session : ℕ) (asked : Call) (old new : StoredView D) (f f' : ℕ) (said : Said)
+    → DoesRow (λ at s. UnlessStarved (CallRow at s session asked)) old f new f' said
+    → new.machine.start ≡ old.machine.start
+    → length (downloads_of old.machine.start old.machine.past) ≤ length (downloads_of new.machine.start new.machine.past)
+called_more session asked old new f f' said row start_is =
+    let start = old.machine.start in
+    let past = old.machine.past in
+    let grows = downloads_grow start past row.events in
+    let all = ap (λ (ds : List Download). length ds) grows.is ∙ length-append (downloads_of start past) grows.more in
+    let more : length (downloads_of start past) ≤ length (downloads_of start (history_after past row.events)) =
+    omega (arith, all) in
+    subst (λ (st : RunStart). length (downloads_of start past) ≤ length (downloads_of st new.machine.past)) (sym start_is)
+    (subst (λ (p : List Event). length (downloads_of start past) ≤ length (downloads_of start p)) (sym row.grown) more)
 
 -- ---- the call
 

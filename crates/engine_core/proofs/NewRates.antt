@@ -16,7 +16,7 @@ use Rattle.machine_core.specs.declared.events.Event.{Event}
 use Rattle.rate_tokens.specs.Level.{Level, full_level}
 use Rattle.engine_turns.specs.Levels.{own_rate, with_new_rate}
 use Rattle.engine_core.proofs.Downloads.{AreApart, downloads_apart}
-use Rattle.engine_core.specs.Buckets.{all_followed, followed, followed_at, own_levels_on, own_rates}
+use Rattle.engine_core.specs.Buckets.{HaveRates, all_followed, followed, followed_at, own_levels_on, own_rates}
 
 abbrev none : Level
 none = full_level 0 0
@@ -92,11 +92,6 @@ all_followed_length (r ∷ rates) now (level ∷ levels) few =
 
 -- ---- as the turns say
 
--- the buckets have the rates of these downloads
-abbrev pub HaveRates : RunStart → List Event → List Download → List Level → Type 0
-HaveRates start past ds levels = (place : ℕ) (d : Download) → slice_get ds place ≡ Some d → place < length levels
-    → (slice_index_or levels place none).rate ≡ own_rate start past d
-
 module _ (start : RunStart) (past after : List Event) (now : ℕ) where
   pub levels_followed : (ds : List Download) (levels : List Level) → HaveRates start past ds levels
       → length levels ≤ length ds
@@ -156,3 +151,20 @@ pub prefix_there : {X : Type 0} (xs more : List X) (place : ℕ) (x : X) → sli
 prefix_there [] more place x is within = absurd (omega (arith, within))
 prefix_there (y ∷ xs) more zero x is within = is
 prefix_there (y ∷ xs) more (suc place) x is within = prefix_there xs more place x is (omega (arith, within))
+
+-- ---- buckets that have their rates
+
+same_rate : (rate now : ℕ) (level : Level) → level.rate ≡ rate → followed rate now level ≡ level
+same_rate rate now level is = let same : (level.rate == rate) ≡ true = eq-eqb level.rate rate is in rw same refl
+
+-- .. stay as they are
+pub followed_before : (start : RunStart) (past : List Event) (now : ℕ) (ds : List Download) (levels : List Level)
+    → HaveRates start past ds levels → length levels ≤ length ds
+    → levels ≡ all_followed (take (length levels) (map (own_rate start past) ds)) now levels
+followed_before start past now ds [] have few = refl
+followed_before start past now [] (level ∷ levels) have few = absurd (omega (arith, few))
+followed_before start past now (d ∷ ds) (level ∷ levels) have few =
+    let first = same_rate (own_rate start past d) now level (have 0 d refl (omega arith)) in
+    let rest = followed_before start past now ds levels
+    (λ place x there within. have (suc place) x there (omega (arith, within))) (omega (arith, few)) in
+    λ i. sym first i ∷ rest i

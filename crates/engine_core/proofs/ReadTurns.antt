@@ -52,6 +52,7 @@ use Rattle.stored_run.proofs.Between.{after_front}
 use Rattle.url_names.specs.UrlNames.{IsNameBy, IsNameOfUrl}
 use Rattle.verify_piece.specs.Hashes.{digest_by}
 use Rattle.verify_piece.specs.Seals.{PieceBytes}
+use Rattle.engine_core.specs.Durable.{HaveLengths}
 use Rattle.engine_core.specs.Disks.{IsAlike, LeavesTurn, LeavesUnopened, OpensNext}
 use Rattle.engine_core.specs.Engines.{past_of, start_of}
 use Rattle.engine_core.specs.Readings.{GivesRead, ReadsElse, ReadsOpened, TakesRead, TakesSeal}
@@ -299,16 +300,18 @@ module _ {D : Type 0} (state : D → DiskState) (old new : EngineState D) (told 
       → WritesAsTold S (history_of told) t t.op (state new.run.disk).seen
       → ((want : Want) → IsWrittenAlone S (t ∷ told) want → HasFiles want.dir want.layout seen
       → KeepsUnwritten S (history_of told) t want seen (state new.run.disk).seen)
+      → HaveLengths S (t ∷ told) (state new.run.disk)
       → ((gid : Gid) (how : End) → Contains t.events (Ended gid how) → IsRefusalEnd how
       → RefusesAsRead S (history_of told) gid how seen)
       → ((gid : Gid) (right : Bool) → Contains t.events (Checked gid right)
       → ChecksAsRead S (history_of told) gid right (state new.run.disk).seen)
       → FitsFiles S told t seen (state new.run.disk).seen
-  fits_files may takes opened untouched written payload refused checked = record {
+  fits_files may takes opened untouched written payload lengths refused checked = record {
     takes = takes_then t.op takes may.answered;
     opened = opened;
     written = written;
     payload = payload;
+    lengths = lengths;
     untouched = untouched;
     refused = refused;
     checked = checked;

@@ -317,6 +317,8 @@ module _ {D : Type 0} (tells : Bool) (state : D → DiskState) (faults : D → �
             start_is past_then)
             (written_read state old new told turn (left_since told_is) was.wants_are past_was past_then may)
             (payload_read laws state old new told turn (left_since told_is) legal_then was.wants_are asked past_was start_is past_then)
+            (keeps_promises laws active tells told_is state faults old new told turn (left_since told_is) was past_was past_then start_is
+            legal may (ap (λ (b : Bool). moment_told b (state old.run.disk)) told_is) (is.disk told_is)).lengths
             (refused_read laws active state old new told turn (found_since told_is) legal_was legal_then may
             was.wants_are kept_then past_was start_is past_then)
             (checked_read laws active state old new told turn (found_since told_is) legal_was legal_then may

@@ -1,6 +1,8 @@
 -- The buckets of a run from one turn to the next.
-use Rattle.std.specs.Prelude.{◌≡◌, ℕ, Option, Some, List, [], ◌∷◌, ◌++◌, if◌then◌else◌, length, map, nat_lt, slice_get, slice_index_or, slice_set}
+use Rattle.std.specs.Prelude.{◌≡◌, ◌<◌, ℕ, Bool, true, false, Option, Some, List, [], ◌∷◌, ◌++◌, if◌then◌else◌, length, map, nat_lt, slice_get, slice_index_or, slice_set}
 use Rattle.machine_core.specs.Starts.{Download, RunStart}
+use Rattle.machine_core.specs.declared.calls.Call.{Call}
+use Rattle.machine_core.specs.declared.calls.Call.TheVariants as call
 use Rattle.machine_core.specs.declared.events.Event.{Event}
 use Rattle.rate_limits.specs.Shared.{RunLevels, own_level}
 use Rattle.rate_tokens.specs.Level.{Level, full_level}
@@ -28,7 +30,17 @@ pub record LevelsGoOn (start : RunStart) (past after : List Event) (spent : Opti
   pub overall : new.overall ≡ level_on spent (overall_rate start past) (overall_rate start after) now old.overall
   pub own : new.own ≡ own_levels_on start past after spent now (downloads_of start after) old.own
 
+-- the buckets that are there have the rates of these downloads
+abbrev pub HaveRates : RunStart → List Event → List Download → List Level → Type 0
+HaveRates start past ds levels = (place : ℕ) (d : Download) → slice_get ds place ≡ Some d → place < length levels
+    → (slice_index_or levels place (full_level 0 0)).rate ≡ own_rate start past d
+
 -- ---- once the options changed
+
+-- a call that changes the options of a download
+abbrev pub changes_options : Call → Bool
+changes_options (call.ChangeOption key options) = true
+changes_options other = false
 
 -- a bucket takes the rate, unless it has it
 abbrev pub followed : (rate now : ℕ) → Level → Level

@@ -33,7 +33,7 @@ use Rattle.stored_run.specs.Opening.{is_checked_in}
 use Rattle.stored_run.specs.Refused.{IsRefusalEnd, RefusesAsRead}
 use Rattle.stored_run.specs.Settlings.{IsTruly, SpellsCheckOf}
 use Rattle.verify_piece.specs.Seals.{PieceBytes}
-use Rattle.engine_core.specs.Askings.{IsAsked, IsWrittenAlone}
+use Rattle.engine_core.specs.Askings.{IsAsked, IsOpenedWant, IsWrittenAlone}
 use Rattle.engine_core.specs.Writings.{WritesAsTold, KeepsUnwritten}
 
 -- ---- pieces
@@ -112,7 +112,7 @@ IsUntouched start told want =
     → share_names other want ≡ false
 
 -- The turn is as the files say that the disk read at the mark before it, and at the mark behind it: in what it takes, opens
--- and writes.
+-- and writes. Behind it the files of each want that is opened have their lengths.
 pub record FitsFiles (start : RunStart) (before : List RunTurn) (t : RunTurn) (old new : Files) : Type 0 where
   pub takes : TakesAsRead start before t t.op old
   pub opened : (gid : Gid) (verified blocks : List Bool) (now : Moment)
@@ -120,6 +120,8 @@ pub record FitsFiles (start : RunStart) (before : List RunTurn) (t : RunTurn) (o
   pub written : WritesAsTold start (history_of before) t t.op new
   pub payload : (want : Want) → IsWrittenAlone start (t ∷ before) want → HasFiles want.dir want.layout old
       → KeepsUnwritten start (history_of before) t want old new
+  pub lengths : (want : Want) (gid : Gid) → IsWrittenAlone start (t ∷ before) want
+      → IsOpenedWant start (t ∷ before) gid want → HasFiles want.dir want.layout new
   pub untouched : (want : Want) → IsUntouched start (t ∷ before) want → SameFor want old new
   pub refused : (gid : Gid) (how : End) → Contains t.events (Ended gid how) → IsRefusalEnd how
       → RefusesAsRead start (history_of before) gid how old

@@ -2,6 +2,7 @@ pub mod Speeds
 pub mod Windows
 pub mod Ends
 pub mod Subjects
+pub mod Sums
 pub mod Uris
 pub mod Told
 pub mod Files

@@ -32,6 +32,11 @@ recent_bytes lengths_of which now (Landed gid id mirror run moment) =
     if counts_gid which gid && is_recent now moment then run_bytes (lengths_of gid) run else 0
 recent_bytes lengths_of which now e = 0
 
+-- the download whose blocks landed
+abbrev pub landed_gid : Event → Option Gid
+landed_gid (Landed gid id mirror run moment) = Some gid
+landed_gid e = None
+
 -- the bytes of a second. What is beyond a number of 64 bits counts as the greatest
 abbrev pub speed_in : RunStart → List Event → Option Gid → Moment → ℕ
 speed_in start past which now =

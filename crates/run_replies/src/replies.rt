@@ -7,10 +7,12 @@ ghost use Rattle.machine_core.specs.Replays.{queue_in};
 ghost use Rattle.run_replies.specs.Windows as windows;
 ghost use Rattle.run_replies.specs.Statuses.{status_view_of};
 ghost use Rattle.run_replies.specs.Subjects.{AreNames};
+ghost use Rattle.run_replies.specs.Sums.{AreSpeeds};
 
 use crate::ends::Ends;
 use crate::options::{global_reply, options_reply};
 use crate::queued::{active_gids, stopped_gids, waiting_gids};
+use crate::speeds::Speeds;
 use crate::stats::stat;
 use crate::told::read_download;
 use crate::windows::window;
@@ -25,17 +27,19 @@ fn status_view(
     machine: &Machine,
     alloc: Global,
     ends: &Ends,
+    speeds: &Speeds,
     gid: Gid,
     now: Moment,
 ) -> Result<Option<StatusView>, AllocError>
-    requires { AreEnds ends.now machine.now.past }
+    requires ends { AreEnds ends.now machine.now.past }
+    requires speeds { AreSpeeds speeds.now machine.now.start machine.now.past now }
     ensures { (names : DownloadGid → List ℕ) → AreNames machine.now.start machine.now.past names
         → IfOk result (λ view. view
         ≡ status_view_of machine.now.start machine.now.past now names gid) }
 {
     let read = read_download(machine, alloc, gid)?;
     match read {
-        Some(download) => Ok(Some(download.status_view(alloc, ends, now)?)),
+        Some(download) => Ok(Some(download.status_view(alloc, ends, speeds, now)?)),
         None => Ok(None),
     }
 }
@@ -50,7 +54,7 @@ fn status_reply(
         → IfOk result (λ reply. reply
         ≡ spec.status_reply machine.now.start machine.now.past names now gid) }
 {
-    match status_view(machine, alloc, &Ends::Sought, gid, now)? {
+    match status_view(machine, alloc, &Ends::Sought, &Speeds::Sought, gid, now)? {
         Some(view) => Ok(Some(Reply::Status(view))),
         None => Ok(None),
     }
@@ -79,22 +83,24 @@ fn files_reply(machine: &Machine, alloc: Global, gid: Gid) -> Result<Option<Repl
     }
 }
 
-// What is told of these downloads, with their ends looked for there.
+// What is told of these downloads, with their ends and speeds looked for there.
 fn status_views(
     machine: &Machine,
     alloc: Global,
     ends: &Ends,
+    speeds: &Speeds,
     gids: &[Gid],
     now: Moment,
 ) -> Result<StatusViews, AllocError>
-    requires { AreEnds ends.now machine.now.past }
+    requires ends { AreEnds ends.now machine.now.past }
+    requires speeds { AreSpeeds speeds.now machine.now.start machine.now.past now }
     ensures { (names : DownloadGid → List ℕ) → AreNames machine.now.start machine.now.past names
         → IfOk result (λ views. views
         ≡ spec.statuses_of machine.now.start machine.now.past now names gids.now) }
 {
     let mut views = StatusViews::new(alloc);
     for gid in gids {
-        if let Some(view) = status_view(machine, alloc, ends, *gid, now)? {
+        if let Some(view) = status_view(machine, alloc, ends, speeds, *gid, now)? {
             views.push(view)?;
         }
     }
@@ -112,7 +118,9 @@ fn statuses_reply(
         ≡ spec.statuses_reply machine.now.start machine.now.past names now gids.now) }
 {
     let ends = Ends::of(machine, alloc, gids)?;
-    Ok(Reply::Statuses(status_views(machine, alloc, &ends, gids, now)?))
+    let speeds = Speeds::of(machine, alloc, gids.len(), now)?;
+    let views = status_views(machine, alloc, &ends, &speeds, gids, now)?;
+    Ok(Reply::Statuses(views))
 }
 
 fn found(reply: Option<Reply>) -> Reply
@@ -244,10 +252,10 @@ fn reply_by_names(
 
 /// What a call is answered that asks and comes at this moment: it is read off the run before the call. `Refused` comes with
 /// `NotFound` or `Ambiguous`, where a key names no download, or several. Statuses of the lists are told in their order, and
-/// those of a negative offset backwards. A speed is that of the last ten seconds: it is read off the end of the journal. How
-/// one download failed is looked for in the journal from its end on, and how several did is gathered in one look at it; all
-/// else takes time in proportion to what is told, to the list that is asked for, and to the pieces of the downloads that are
-/// told of.
+/// those of a negative offset backwards. A speed is that of the last ten seconds: it is read off the end of the journal, those
+/// of several downloads in one look. How one download failed is looked for in the journal from its end on, and how several did
+/// is gathered in one look at it; all else takes time in proportion to what is told, to the list that is asked for, and to the
+/// pieces of the downloads that are told of.
 pub fn reply_to(
     machine: &Machine,
     alloc: Global,

@@ -1,15 +1,21 @@
 // How fast the bytes of downloads come.
-ghost use Rattle.std.specs.Prelude.{IfSome, ◌≡◌, ◌*◌, ◌-◌, ◌^◌, ◌≤◌, ◌<◌, min, not, false, sum_by};
+ghost use Rattle.std.specs.BTreeMap.{get};
+ghost use Rattle.std.specs.Ordering.{nat_cmp};
+ghost use Rattle.std.specs.Prelude.{IfOk, IfSome, List, OnOk, Some, ◌≡◌, ◌==◌, ◌++◌, ◌∷◌, [], ◌*◌, ◌-◌, ◌^◌, ◌≤◌, ◌<◌, if◌then◌else◌, min, not, false, sum_by, ℕ};
 ghost use Rattle.std.specs.Option.{option_map, option_map_or, unwrap_or};
 ghost use Rattle.dl_kinds.specs.declared.plan.TheConstants.{BLOCK_LEN as MOST_BYTES};
 ghost use Rattle.piece_table.specs.Sums as sums;
 ghost use Rattle.machine_core.specs.Asked.{known_by};
 ghost use Rattle.machine_core.specs.OwnParts.{no_lengths};
 ghost use Rattle.machine_core.specs.RunLegal.{known_lengths, moment_of_event};
+ghost use Rattle.machine_core.specs.declared.events.Event.{Event as RunEvent};
 ghost use Rattle.run_replies.specs.Speeds as spec;
+ghost use Rattle.run_replies.specs.Sums.{AreSpeeds, HasSums, sum_under};
 
 use dl_kinds::{BLOCK_LEN, Gid, Moment, Run};
 use machine_core::{Event, Lengths, Machine};
+use std::alloc::{AllocError, Global};
+use std::collections::BTreeMap;
 
 /// Landings of so many milliseconds before a call make the speed that it is told.
 pub const SPEED_MS: u64 = 10_000;
@@ -144,4 +150,111 @@ pub(crate) fn speed(machine: &Machine, which: Option<Gid>, now: Moment) -> u64
     ensures { result ≡ spec.speed_in machine.now.start machine.now.past which now }
 {
     bytes_so_late(machine, which, now) / SPEED_SECONDS
+}
+
+/// Where the speeds of downloads are looked for.
+#[derive(Drop)]
+pub(crate) enum Speeds {
+    /// In the journal, from its end on.
+    Sought,
+    /// Among the bytes of the last ten seconds, which were summed up for all downloads, each under its gid.
+    Gathered(BTreeMap<u64, u64>),
+}
+
+// The download whose blocks landed.
+fn landed_gid(event: &Event) -> Option<Gid>
+    ensures { result ≡ spec.landed_gid event.now }
+{
+    match event {
+        Event::Landed { gid, .. } => Some(*gid),
+        _ => None,
+    }
+}
+
+// The bytes under a gid.
+fn sum_under(sums: &BTreeMap<u64, u64>, gid: Gid) -> u64
+    ensures { result ≡ sum_under sums.now gid.0 }
+{
+    sums.get(&gid.0).copied().unwrap_or(0)
+}
+
+// Puts so many bytes under a gid.
+fn put_sum(sums: &mut BTreeMap<u64, u64>, gid: Gid, sum: u64) -> Result<(), AllocError>
+    ensures { OnOk result ((other : ℕ) → get nat_cmp sums.new other
+        ≡ (if gid.0 == other then Some sum else get nat_cmp sums.old other)) }
+{
+    sums.insert(gid.0, sum)?;
+    Ok(())
+}
+
+// Adds the bytes that an event brought in the last ten seconds.
+fn add_recent(
+    machine: &Machine,
+    now: Moment,
+    event: &Event,
+    sums: &mut BTreeMap<u64, u64>,
+) -> Result<(), AllocError>
+    ensures { (newer : List RunEvent)
+        → HasSums sums.old (known_lengths machine.now.start machine.now.past) now newer
+        → OnOk result (HasSums sums.new (known_lengths machine.now.start machine.now.past) now
+        (newer ++ event.now ∷ [])) }
+{
+    let Some(gid) = landed_gid(event) else {
+        return Ok(());
+    };
+    let bytes = recent_bytes(machine, Some(gid), now, event);
+    let sum = sum_under(sums, gid).saturating_add(bytes);
+    put_sum(sums, gid, sum)
+}
+
+// The bytes of the last ten seconds of all downloads. It looks no further back than `bytes_so_late` does.
+fn sums_so_late(
+    machine: &Machine,
+    alloc: Global,
+    now: Moment,
+) -> Result<BTreeMap<u64, u64>, AllocError>
+    ensures { IfOk result (λ sums. HasSums sums
+        (known_lengths machine.now.start machine.now.past) now machine.now.past) }
+{
+    let journal = machine.journal();
+    let count = journal.len();
+    let mut sums = BTreeMap::new(alloc);
+    for back in 0..count {
+        let event = journal.get(count - 1 - back).unwrap();
+        if is_old(now, event) {
+            return Ok(sums);
+        }
+        add_recent(machine, now, event, &mut sums)?;
+    }
+    Ok(sums)
+}
+
+impl Speeds {
+    /// Where the speeds of so many downloads are looked for: for several the journal is gone through but once.
+    pub(crate) fn of(
+        machine: &Machine,
+        alloc: Global,
+        count: usize,
+        now: Moment,
+    ) -> Result<Self, AllocError>
+        ensures { IfOk result (λ speeds.
+            AreSpeeds speeds machine.now.start machine.now.past now) }
+    {
+        if count > 1 {
+            Ok(Speeds::Gathered(sums_so_late(machine, alloc, now)?))
+        } else {
+            Ok(Speeds::Sought)
+        }
+    }
+
+    /// The bytes a second of a download.
+    pub(crate) fn speed(&self, machine: &Machine, gid: Gid, now: Moment) -> u64
+        requires { AreSpeeds self.now machine.now.start machine.now.past now }
+        ensures { result ≡ spec.speed_of machine.now.start machine.now.past gid now }
+    {
+        match self {
+            Speeds::Sought => speed(machine, Some(gid), now),
+            Speeds::Gathered(sums) => sum_under(sums, gid) / SPEED_SECONDS,
+        }
+    }
 }

@@ -3,11 +3,12 @@ ghost use Rattle.std.specs.Prelude.{◌≡◌, IfOk};
 ghost use Rattle.dl_kinds.specs.Plan.{pieces_of};
 ghost use Rattle.run_replies.specs.Ends.{AreEnds};
 ghost use Rattle.run_replies.specs.Statuses as spec;
+ghost use Rattle.run_replies.specs.Sums.{AreSpeeds};
 ghost use Rattle.run_replies.specs.Told.{lengths_told, own_told};
 
 use crate::StatusView;
 use crate::ends::{Ends, error_message, told_code};
-use crate::speeds::speed;
+use crate::speeds::Speeds;
 use crate::told::{Told, hex_text};
 use dl_kinds::{Moment, Status, Text};
 use machine_core::accounts_match_runs;
@@ -52,9 +53,11 @@ impl<'a> Told<'a> {
         &self,
         alloc: Global,
         ends: &Ends,
+        speeds: &Speeds,
         now: Moment,
     ) -> Result<StatusView, AllocError>
-        requires { AreEnds ends.now self.now.machine.past }
+        requires ends { AreEnds ends.now self.now.machine.past }
+        requires speeds { AreSpeeds speeds.now self.now.machine.start self.now.machine.past now }
         ensures { IfOk result (λ view. view ≡ spec.status_view self.now.machine.start
             self.now.machine.past now self.now.name self.now.download.gid self.now.download) }
     {
@@ -65,7 +68,7 @@ impl<'a> Told<'a> {
             completed_length: self.machine.landed_bytes(self.gid),
             connections: self.machine.standing(self.gid) as u64,
             dir: Text::of(alloc, self.folder())?,
-            download_speed: speed(self.machine, Some(self.gid), now),
+            download_speed: speeds.speed(self.machine, self.gid, now),
             error_code: told_code(code),
             error_message: error_message(alloc, code)?,
             files: self.file_views(alloc)?,

@@ -58,3 +58,4 @@ pub mod Came
 pub mod RefusedEnds
 pub mod Unchecked
 pub mod Truly
+pub mod Quiet

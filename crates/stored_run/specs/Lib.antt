@@ -14,3 +14,4 @@ pub mod Opening
 pub mod Granting
 pub mod Refused
 pub mod Checks
+pub mod Quiet

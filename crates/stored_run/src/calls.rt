@@ -1,11 +1,12 @@
 // Calls, and doors.
-ghost use Rattle.std.specs.Prelude.{◌≡◌, ◌∷◌, [], IfNone, IfOk, IfSome, IsTrue, OnErr, OnOk, false, length, max};
+ghost use Rattle.std.specs.Prelude.{◌≡◌, ◌∷◌, [], IfNone, IfOk, IfSome, IsTrue, OnErr, OnOk, false, length, max, true};
 ghost use Rattle.std.specs.Option.{unwrap_or};
 ghost use Rattle.engine_turns.specs.CallRows.{CallRow, LeaveRow, is_starved};
 ghost use Rattle.machine_core.specs.LawfulCalls.{IsLawful};
 ghost use Rattle.machine_core.specs.declared.events.Event.TheVariants.{Called};
 ghost use Rattle.run_replies.specs.Replies.{IsReplyAt, applied_reply, is_asking};
 ghost use Rattle.stored_run.specs.Leavings.{LeavesDisk};
+ghost use Rattle.stored_run.specs.Quiet.{is_quiet};
 ghost use Rattle.stored_run.specs.Saves.{TellsOnly, UnlessStarved};
 ghost use Rattle.stored_run.specs.Steps.{Continues, DoesRow, RunStays};
 ghost use Rattle.stored_run.specs.Writings.{KeepsPayloads};
@@ -25,6 +26,16 @@ fn has_starved(outcome: Outcome) -> bool
     match outcome {
         Outcome::Starved => true,
         _ => false,
+    }
+}
+
+// Whether a call takes no download off: it asks, adds one, or changes the options of one.
+fn is_quiet(call: &Call) -> bool
+    ensures { result ≡ is_quiet call.now }
+{
+    match call {
+        Call::AddUri { .. } | Call::AddTorrent { .. } | Call::ChangeOption { .. } => true,
+        _ => asks(call),
     }
 }
 
@@ -73,10 +84,32 @@ impl<D: Disk> StoredRun<D> {
         Ok((place, reply_by(asked, applied)))
     }
 
-    /// A call of a console session, or of the command line. The progress of the downloads that it takes off is saved, in the
-    /// order of adding; want of memory for that leaves out the rest. For want of memory before the call's event nothing
-    /// changes.
-    pub fn call(&mut self, session: u32, call: Call) -> Said
+    // A call that takes no download off, so that none is to be saved.
+    fn call_quietly(&mut self, session: u32, call: Call) -> Said
+        requires lawful { IsLawful call }
+        requires quiet { is_quiet call ≡ true }
+        ensures row { DoesRow (λ at s. UnlessStarved (CallRow at s session call)) self.old
+            (D.faults self.old.disk) self.new (D.faults self.new.disk) result }
+        ensures on { RunStays self.old self.new }
+        ensures leaves { IsTrue D.tells → LeavesDisk self.old self.new
+            (D.state self.old.disk) (D.state self.new.disk) }
+        ensures payloads { IsTrue D.tells → KeepsPayloads self.old
+            (D.state self.old.disk) (D.state self.new.disk) }
+    {
+        runs_follow();
+        self.tells_stored();
+        match self.apply(session, call) {
+            Ok((place, reply)) => Said::Replied {
+                place,
+                reply,
+                starved: false,
+            },
+            Err(NoMemory) => Said::NoMemory,
+        }
+    }
+
+    // A call that may take downloads off.
+    fn call_saving(&mut self, session: u32, call: Call) -> Said
         requires { IsLawful call }
         ensures row { DoesRow (λ at s. UnlessStarved (CallRow at s session call)) self.old
             (D.faults self.old.disk) self.new (D.faults self.new.disk) result }
@@ -109,6 +142,26 @@ impl<D: Disk> StoredRun<D> {
                 reply,
                 starved: true,
             },
+        }
+    }
+
+    /// A call of a console session, or of the command line. The progress of the downloads that it takes off is saved, in the
+    /// order of adding; want of memory for that leaves out the rest. For want of memory before the call's event nothing
+    /// changes. Only where a call may take downloads off it takes time in proportion to how many there are.
+    pub fn call(&mut self, session: u32, call: Call) -> Said
+        requires { IsLawful call }
+        ensures row { DoesRow (λ at s. UnlessStarved (CallRow at s session call)) self.old
+            (D.faults self.old.disk) self.new (D.faults self.new.disk) result }
+        ensures on { RunStays self.old self.new }
+        ensures leaves { IsTrue D.tells → LeavesDisk self.old self.new
+            (D.state self.old.disk) (D.state self.new.disk) }
+        ensures payloads { IsTrue D.tells → KeepsPayloads self.old
+            (D.state self.old.disk) (D.state self.new.disk) }
+    {
+        if is_quiet(&call) {
+            self.call_quietly(session, call)
+        } else {
+            self.call_saving(session, call)
         }
     }
 

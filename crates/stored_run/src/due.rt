@@ -7,7 +7,6 @@ use crate::StoredRun;
 use crate::following::runs_follow;
 use dl_disk::Disk;
 use dl_kinds::{Gid, Status};
-use dl_queue::MAX_DOWNLOADS;
 use machine_core::NoMemory;
 
 // Whether a download with this status is active.
@@ -53,12 +52,7 @@ impl<D: Disk> StoredRun<D> {
     pub fn count(&self) -> u32
         ensures { result ≡ length (gids_of self.entry.now) }
     {
-        for n in 0..MAX_DOWNLOADS as u32 {
-            if self.machine.added(n).is_none() {
-                return n;
-            }
-        }
-        MAX_DOWNLOADS as u32
+        self.machine.queue().added_len() as u32
     }
 
     // The download that was added at this place.

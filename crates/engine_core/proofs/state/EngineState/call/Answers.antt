@@ -1,13 +1,16 @@
-use Rattle.std.proofs.Common.{◌≡◌, false, true, length, refl, sym, ap, ◌∙◌, subst, arith, inl, inr}
+use Rattle.std.proofs.Common.{◌≡◌, List, false, true, length, refl, sym, ap, ◌∙◌, subst, arith, inl, inr}
 use Rattle.engine_turns.specs.Levels.{downloads_of}
 use Rattle.engine_turns.specs.declared.operations.Operation.TheVariants as operation
 use Rattle.engine_turns.specs.declared.operations.Said.TheVariants.{NoMemory}
 use Rattle.engine_core.specs.Beginning.{IsBrokenOff}
-use Rattle.engine_core.specs.Buckets.{FollowOptions}
+use Rattle.machine_core.specs.Starts.{RunStart}
+use Rattle.machine_core.specs.declared.events.Event.{Event}
+use Rattle.rate_tokens.specs.Level.{Level}
+use Rattle.engine_core.specs.Buckets.{FollowOptions, HasRates, HaveRates}
 use Rattle.engine_core.specs.Engines.{past_of, start_of}
 use Rattle.engine_core.specs.Performing.{Performs}
 use Rattle.engine_core.specs.Disks.{LeavesUnopened}
-use Rattle.engine_core.proofs.Called.{call_performed, called_few, follow_from, roomier_performs}
+use Rattle.engine_core.proofs.Called.{call_performed, called_few, called_kept, called_more, follow_from, roomier_performs}
 use Rattle.engine_core.proofs.Performed.{broken_off}
 use Rattle.engine_core.proofs.Alike.{begun_alike}
 use Rattle.engine_core.proofs.state.EngineState.call.Goals as goal
@@ -44,8 +47,35 @@ returns-in-Err-reserve g c = record {
   finds = λ told. tt;
 }
 
-pub follow_options-requires : goal.follow_options-requires
-follow_options-requires g c =
+pub follow_options-requires-clause-kept : goal.follow_options-requires-clause-kept
+follow_options-requires-clause-kept g c none =
+    let a = c.args in
+    let old = a.self.now in
+    let run = c.begin.new.self.run in
+    let after = c.call-said.new.self in
+    let same = c.begin.ensures.same in
+    let own = ap (λ l. l.own) c.reserve.ensures.same ∙ ap (λ l. l.own) same.limits in
+    let rates = subst (λ (st : RunStart). HasRates st run.machine.past old.limits) (sym same.machine.start_is)
+    (subst (λ (p : List Event). HasRates (start_of old) p old.limits) (sym same.machine.past_is) c.requires.rates) in
+    subst (λ (levels : List Level). HaveRates after.machine.start after.machine.past
+    (downloads_of after.machine.start after.machine.past) levels) (sym own)
+    (called_kept a.session a.call run after (g.D.Disk.faults run.disk) (g.D.Disk.faults after.disk) c.call-said.result
+    old.limits c.call-said.ensures.row c.call-said.ensures.on.start rates (sym c.changes_options-changes.ensures ∙ none))
+
+pub follow_options-requires-clause-few : goal.follow_options-requires-clause-few
+follow_options-requires-clause-few g c =
+    let old = c.args.self.now in
+    let run = c.begin.new.self.run in
+    let more = called_more c.args.session c.args.call run c.call-said.new.self (g.D.Disk.faults run.disk)
+    (g.D.Disk.faults c.call-said.new.self.disk) c.call-said.result c.call-said.ensures.row c.call-said.ensures.on.start in
+    let many = c.requires.rates.many in
+    let own = ap (λ l. length l.own) c.reserve.ensures.same ∙ ap (λ l. length l.own) c.begin.ensures.same.limits in
+    let same : length (downloads_of run.machine.start run.machine.past) ≡ length (downloads_of (start_of old) (past_of old)) =
+    λ i. length (downloads_of (c.begin.ensures.same.machine.start_is i) (c.begin.ensures.same.machine.past_is i)) in
+    omega (arith, more, many, own, same)
+
+pub follow_options-requires-clause-room : goal.follow_options-requires-clause-room
+follow_options-requires-clause-room g c =
     let old = c.args.self.now in
     let run = c.begin.new.self.run in
     let few = called_few c.args.session c.args.call run c.call-said.new.self (g.D.Disk.faults run.disk)

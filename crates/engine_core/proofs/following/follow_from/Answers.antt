@@ -2,7 +2,7 @@ use Rattle.std.proofs.Common.{◌≡◌, ◌+◌, ℕ, suc, ap, sym, ◌∙◌, 
 use Rattle.std.specs.Prelude.{take}
 use Rattle.engine_core.specs.Buckets.{all_followed, followed_at, own_rates}
 use Rattle.engine_core.proofs.NewRates.{follow_next}
-use Rattle.engine_core.proofs.following.follow_all.Goals as goal
+use Rattle.engine_core.proofs.following.follow_from.Goals as goal
 
 pub loop-place-preserved : goal.loop-place-preserved
 loop-place-preserved c =

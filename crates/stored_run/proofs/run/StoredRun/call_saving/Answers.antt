@@ -14,7 +14,7 @@ use Rattle.stored_run.proofs.EachSaved.{between_called, between_none}
 use Rattle.stored_run.proofs.SavedRows.{call_row, saves_starved}
 use Rattle.stored_run.specs.Writings.{SavesPayloads}
 use Rattle.stored_run.proofs.KeptBytes.{same_payloads, saved_payloads}
-use Rattle.stored_run.proofs.run.StoredRun.call.Goals as goal
+use Rattle.stored_run.proofs.run.StoredRun.call_saving.Goals as goal
 
 pub returns-in_default-clause-leaves : goal.returns-in_default-clause-leaves
 returns-in_default-clause-leaves g c told =

@@ -1,7 +1,7 @@
 use Rattle.std.proofs.Common.{◌≡◌, ◌+◌, ◌≤◌, length}
 use Rattle.std.specs.Prelude.{take}
 use Rattle.engine_core.specs.Buckets.{all_followed, own_rates}
-use Rattle.engine_core.proofs.following.follow_all.Given as goal
+use Rattle.engine_core.proofs.following.follow_from.Given as goal
 
 abbrev pub invariant-loop-place : goal.invariant-loop-place
 invariant-loop-place l =
