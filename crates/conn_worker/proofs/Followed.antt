@@ -1,5 +1,5 @@
 -- What follows an answer.
-use Rattle.std.proofs.Common.{◌≡◌, ◌≢◌, ◌+◌, ℕ, zero, suc, Bool, IsTrue, List, [], None, IfSome, refl, sym, subst, ◌∙◌, inl, arith}
+use Rattle.std.proofs.Common.{◌≡◌, ◌≢◌, ◌+◌, ◌++◌, ⊎_elim, ℕ, zero, suc, Bool, IsTrue, List, [], Option, None, Some, IfSome, refl, sym, subst, ◌∙◌, inl, append_assoc, arith}
 use Rattle.dl_kinds.specs.declared.gid.Gid.{Gid}
 use Rattle.engine_turns.specs.declared.operations.FetchGrant.{FetchGrant}
 use Rattle.engine_turns.specs.declared.operations.Grant.{Grant}
@@ -7,13 +7,20 @@ use Rattle.engine_turns.specs.declared.operations.Grant.TheVariants as grant
 use Rattle.engine_turns.specs.declared.operations.Said.{Said}
 use Rattle.engine_turns.specs.declared.operations.Said.TheVariants as said
 use Rattle.fetch_session.specs.Blocks.{cut}
-use Rattle.fetch_session.specs.Fetches.{IsFetch, MayBegin, MayStep, fetch_plan, lost_of, ready_of, rest_of}
+use Rattle.fetch_session.specs.Fetches.{BringsMore, HasCome, IsFetch, IsFrontOfFetched, MayBegin, MayStep, fetch_plan, lost_of, ready_of, rest_of}
 use Rattle.fetch_session.specs.declared.fetch.Fetch.{Fetch}
 use Rattle.fetch_session.specs.declared.room.FetchRoom.{FetchRoom}
+use Rattle.link_source.specs.Exchanges.{Exchange}
 use Rattle.link_source.specs.Link.{LinkState}
+use Rattle.reply_reader.specs.declared.loss.Loss.{Loss}
 use Rattle.request_chain.specs.Chains.{received_by}
+use Rattle.request_chain.specs.Fetched.{Fetched}
 use Rattle.request_chain.specs.Links.{CountsLinkLoss}
+use Rattle.request_chain.specs.Plans.{Done}
+use Rattle.request_chain.specs.declared.chain.Chain.{Chain}
 use Rattle.span_map.specs.Jobs.{IsJob, run_start}
+use Rattle.span_map.specs.declared.jobs.Job.{Job}
+use Rattle.span_map.specs.declared.jobs.JobPart.{JobPart}
 use Rattle.verify_piece.specs.Seals.{PieceBytes}
 use Rattle.conn_worker.specs.Facts.{IsGain, IsTakenExactly}
 use Rattle.conn_worker.specs.Hands.{Fetching, Hand, Nothing, Fetches, Probes, Seals, LinkAt, allowing, begun_fetch, delivered}
@@ -34,6 +41,23 @@ use Rattle.conn_worker.specs.declared.hands.Waiting.TheVariants as waiting
 pub stepped_comes : (tells : Bool) (f : Fetching) (h : FetchInHand) (link' : LinkAt) → IsStepInHand tells f link' h
     → HasOutcome tells (StepsOn tells f) (kept.Fetches h) link'
 stepped_comes tells f h link' s = (Fetches s.0, (s.0, s.1, refl), s.2)
+
+-- the exchanges tell what was handed out of a fetch that isn't lost
+front_by : (parts : List JobPart) (used : List Exchange) (handed held : List ℕ) (lost : Option Loss) (chain : Chain)
+    → lost ≡ None → HasCome parts used (handed ++ held) lost chain → IsFrontOfFetched parts used handed
+front_by parts used handed held None chain none came = ⊎_elim
+    (λ (all : Fetched parts used (handed ++ held) Done []). record { behind = held; ending = Done; fetched = all })
+    (λ (more : BringsMore parts used (handed ++ held) chain). record {
+      behind = held ++ more.waiting;
+      ending = more.brought.ending;
+      fetched = subst (λ l. Fetched parts used l more.brought.ending []) (append_assoc handed held more.waiting)
+          more.brought.fetched;
+    }) came
+front_by parts used handed held (Some loss) chain none came = absurd (let no : Some loss ≡ None = none in cc)
+
+front_unlost : (job : Job) (used : List Exchange) (handed : List ℕ) (fetch : Fetch) → IsFetch job used handed fetch
+    → lost_of fetch ≡ None → IsFrontOfFetched job.parts used handed
+front_unlost job used handed fetch is none = front_by job.parts used handed fetch.held.items fetch.lost fetch.chain none is.came
 
 -- a fetch that begins may be carried on
 pub begun_may : (tells : Bool) (granted : FetchGrant) (room : FetchRoom) (fetch : Fetch) (link : LinkAt) → IsJob granted.job
@@ -62,6 +86,7 @@ begun_may tells granted room fetch link job begins is plan rest none unlost may 
   };
   some = (let some = job.some in omega (arith, some));
   exact = λ t. omega arith;
+  front = λ t. front_unlost granted.job [] [] fetch is unlost;
 }
 
 allowed_exactly : (tells : Bool) (f : Fetching) (bytes : ℕ) (link : LinkAt) → f.gain ≡ Open → IsGain tells f link f.gain
@@ -95,6 +120,7 @@ allowed_may tells o f bytes link a = record {
   };
   some = a.at.some;
   exact = λ t. allowed_exactly tells f bytes link a.gain a.at.gain t;
+  front = (subst (λ g. IsGain tells f link g) a.gain a.at.gain).2;
 }
 
 -- ---- a fetch that waits
@@ -108,7 +134,7 @@ waits_in_hand tells o f link gain m none = record {
   at = record {
     carried = m.is.carried;
     some = m.some;
-    gain = subst (λ g. IsGain tells f link g) (sym gain) (none, m.exact);
+    gain = subst (λ g. IsGain tells f link g) (sym gain) (none, m.exact, m.front);
   };
 }
 

@@ -59,6 +59,7 @@ ready_due worker now o run bytes last tells f link is =
           more = left_over last run.count f.rest.count at.0.all at.0.within;
           gain = refl;
           exact = at.2;
+          front = at.1;
         };
       },
     )
@@ -212,6 +213,7 @@ buffered o fetch last g tells (Fetches f) link is = record {
     more = is.is.more;
     gain = is.is.gain;
     exact = is.is.exact;
+    front = is.is.front;
   };
 }
 buffered o fetch last g tells (Probes p) link is = absurd is

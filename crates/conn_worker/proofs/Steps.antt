@@ -4,7 +4,7 @@ use Rattle.dl_kinds.specs.declared.runs.Run.{Run}
 use Rattle.dl_words.specs.Counts.{Rose}
 use Rattle.dl_kinds.specs.declared.marks.Mark.{Mark}
 use Rattle.fetch_session.specs.Blocks.{cut, ready_blocks}
-use Rattle.fetch_session.specs.Fetches.{Fails, FetchSteps, HandedIsFetched, IsFetch, IsHeldBack, MayStep, fetch_plan, lost_of, ready_of, rest_of}
+use Rattle.fetch_session.specs.Fetches.{Fails, FetchSteps, HandedIsFetched, IsFetch, IsFrontOfFetched, IsHeldBack, MayStep, fetch_plan, lost_of, ready_of, rest_of}
 use Rattle.fetch_session.specs.declared.fetch.Got.{Got}
 use Rattle.fetch_session.specs.declared.fetch.Fetch.{Fetch}
 use Rattle.link_source.specs.Exchanges.{Exchange}
@@ -194,6 +194,7 @@ taken_open tells o f mid new left link link' later run bytes gain is calls takes
 record IsSpent (f : Fetching) (left : ℕ) (fetch : Fetch) (link : LinkAt) (later : List Exchange) : Type 0 where
   ahead : IsAhead f left fetch link later
   spent : left ≡ 0
+  front : IsFrontOfFetched f.job.parts later f.handed
 
 ahead_by : (o : OpenFetch) (f : Fetching) (new : Fetch) (got : Got) (link link' : LinkAt) (tells : Bool)
     → MayStepOn tells o f link
@@ -228,6 +229,7 @@ open_told o f new got link link' tells m calls none done unlost s t =
       s.later,
       record {
         ahead = ahead_by o f new got link link' tells m s t;
+        front = record { behind = s.came; ending = s.ending; fetched = s.fetched };
         spent = ⊎_elim (λ all. absurd (let zero = done.0 all in omega (arith, none, some, zero)))
             (⊎_elim (λ full. absurd (omega (arith, none, full)))
             (⊎_elim (λ all. omega (arith, all)) (λ lost. absurd (unlost lost)))) s.full;
@@ -253,7 +255,7 @@ open_step tells o f new got link link' m calls ready none done held reads =
     let at : IsFetchingAt tells g link' = record {
       carried = later_carried tells o f new left link link' told.0 Open m.is calls (λ t. (told.1 t).ahead.later_is);
       some = m.some;
-      gain = (λ t. (told.1 t).spent, λ t. (told.1 t).ahead.exact);
+      gain = (λ t. (told.1 t).spent, λ t. (told.1 t).ahead.exact, λ t. (told.1 t).front);
     } in (
       g,
       record { same = refl; at = at },

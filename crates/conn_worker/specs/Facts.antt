@@ -56,14 +56,16 @@ pub record TellsRest (job : Job) (used : List Exchange) (handed : List ℕ) (los
   pub tells : TellsLoss job.parts used (handed ++ came) count loss
 
 -- The blocks that are ready come next in what the exchanges tell; a loss is held against the mirror as its mark, and that of a
--- failed link has the count of its faults, which rose since the grant; where neither came, all that was granted came.
+-- failed link has the count of its faults, which rose since the grant; where neither came, all that was granted came, and the exchanges
+-- tell what was delivered.
 abbrev pub IsGain : Bool → Fetching → LinkAt → Gain → Type 0
 IsGain tells f link (Ready run bytes last) =
     IsReady f run bytes last × (IsTrue tells → IsFrontOfFetched f.job.parts f.used (f.handed ++ bytes))
     × IsTakenExactly tells f
 IsGain tells f link (Lost loss mark) =
     (mark_of loss ≡ Some mark) × CountsLinkLoss f.since.faults link.faults loss × (IsTrue tells → TellsRest f.job f.used f.handed loss)
-IsGain tells f link Open = (IsTrue tells → f.left ≡ 0) × IsTakenExactly tells f
+IsGain tells f link Open =
+    (IsTrue tells → f.left ≡ 0) × IsTakenExactly tells f × (IsTrue tells → IsFrontOfFetched f.job.parts f.used f.handed)
 IsGain tells f link Starved = Unit {0}
 
 -- a fetch in hand, of which blocks are still to be delivered

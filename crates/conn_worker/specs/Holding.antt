@@ -4,7 +4,7 @@ use Rattle.dl_kinds.specs.declared.marks.Mark.{Mark}
 use Rattle.dl_kinds.specs.declared.runs.Moment.{Moment}
 use Rattle.dl_kinds.specs.declared.runs.Run.{Run}
 use Rattle.engine_turns.specs.declared.operations.Operation.{Operation}
-use Rattle.fetch_session.specs.Fetches.{IsFetch, MayBegin, MayStep, fetch_plan, lost_of, ready_of, rest_of}
+use Rattle.fetch_session.specs.Fetches.{IsFetch, IsFrontOfFetched, MayBegin, MayStep, fetch_plan, lost_of, ready_of, rest_of}
 use Rattle.fetch_session.specs.declared.room.FetchRoom.{FetchRoom}
 use Rattle.reply_reader.specs.Losses.{mark_of}
 use Rattle.reply_reader.specs.declared.loss.Loss.{Loss}
@@ -47,6 +47,7 @@ pub record MayStepOn (tells : Bool) (o : OpenFetch) (f : Fetching) (link : LinkA
   pub is : IsOpenFetch tells o f link
   pub some : 1 ≤ f.rest.count
   pub exact : IsTakenExactly tells f
+  pub front : IsTrue tells → IsFrontOfFetched f.job.parts f.used f.handed
 
 -- once the blocks that are ready are delivered
 abbrev pub delivering : Fetching → Gain → Fetching
@@ -122,6 +123,7 @@ pub record IsDelivered (tells : Bool) (o : OpenFetch) (last : Bool) (f : Fetchin
   pub more : last ≡ false → 1 ≤ f.rest.count
   pub gain : f.gain ≡ Open
   pub exact : IsTakenExactly tells f
+  pub front : IsTrue tells → IsFrontOfFetched f.job.parts f.used f.handed
 
 -- they are being delivered
 pub record IsDelivering (tells : Bool) (o : OpenFetch) (last : Bool) (f : Fetching) (link : LinkAt) : Type 0 where

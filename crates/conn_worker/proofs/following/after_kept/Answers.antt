@@ -21,6 +21,7 @@ go_on-requires g c = (
     is = c.requires.1.is;
     some = c.requires.1.more c.if-last.false;
     exact = c.requires.1.exact;
+    front = c.requires.1.front;
   },
 )
 
@@ -30,4 +31,4 @@ returns g c f d =
     let link = link_at links c.args.link.now in
     let link' = link_at links c.go_on.new.link in
     subst (λ l. HasOutcome links.tells (FollowsKept links.tells f l link) c.go_on.result link') (sym c.if-last.false)
-    (c.go_on.ensures f (record { is = d.is; some = d.more c.if-last.false; exact = d.exact }) d.gain)
+    (c.go_on.ensures f (record { is = d.is; some = d.more c.if-last.false; exact = d.exact; front = d.front }) d.gain)
