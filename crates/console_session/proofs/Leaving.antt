@@ -34,8 +34,8 @@ module _ {D T K A : Type 0} (sight : T → SessionSight D) (desk_id : T → Desk
   -- a session that was just made
   pub served : (transcript : Transcript) → old.places.items ≡ [] → old.starved ≡ 0 → transcript.session ≡ new.number
       → transcript.places.items ≡ new.places.items → transcript.starved ≡ min (kept.starved + new.starved) (2 ^ 32 - 1)
-      → ServesDoor says old.number (secret_of old) most (sight desk) door (sight desk'') door' transcript
-  served transcript no_places none_starved session_is places_are starved_is = record {
+      → transcript.end ≡ kept.end → ServesDoor says old.number (secret_of old) most (sight desk) door (sight desk'') door' transcript
+  served transcript no_places none_starved session_is places_are starved_is end_is = record {
     before = did.turns;
     last = took.turn;
     went = add_up (sight desk) (sight desk') (sight desk'') did.turns (took.turn ∷ []) did.takes.went
@@ -58,6 +58,7 @@ module _ {D T K A : Type 0} (sight : T → SessionSight D) (desk_id : T → Desk
           kept.starved new.starved did.starved
           (did.takes.starved ∙ (ap (λ (n : ℕ). starved_after n (call_turns did.turns)) none_starved
           ∙ starved_all (call_turns did.turns)));
+      end_is = end_is;
     };
   }
 

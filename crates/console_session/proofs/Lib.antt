@@ -5,3 +5,5 @@ pub mod Leaving
 pub mod Replying
 pub mod Served
 pub mod Telling
+pub mod Uncalled
+pub mod Placing

@@ -42,6 +42,7 @@ module _ {A : Type 0} (says : DoorSays A) where
     pub places_are : transcript.places.items ≡ reply_places (call_turns turns)
     pub starved_is : transcript.starved
         ≡ capped (starved_in visits + starved_of_end end + starved_replies (call_turns turns))
+    pub end_is : transcript.end ≡ end
 
   -- From the one sight to the other the session took the turns that serve the door, and a last one, by which it left.
   pub record ServesDoor {D : Type 0} (session : ℕ) (secret : Option (List ℕ)) (most : ℕ) (from : SessionSight D)

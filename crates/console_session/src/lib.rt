@@ -7,5 +7,5 @@ mod laws;
 mod serving;
 mod session;
 
-pub use laws::replies_are_of_the_history;
+pub use laws::{calls_stand_where_replied, replies_are_of_the_history};
 pub use serving::{Transcript, serve_door};

@@ -6,7 +6,7 @@ ghost use Rattle.console_session.specs.Sessions.{Attends, session_at};
 
 use crate::attendant::{Attendant, Origin};
 use crate::session::ConsoleSession;
-use console_http::{DoorKept, keep_door};
+use console_http::{DoorEnd, DoorKept, keep_door};
 use dl_clock::Clock;
 use dl_disk::Disk;
 use door_source::Doors;
@@ -27,6 +27,8 @@ pub struct Transcript {
     /// How often memory was wanting, up to 2^32 - 1: the connections that this ended, the calls that left out saves, and
     /// 1 where the buffers couldn't be made.
     pub starved: u32,
+    /// Why the door is served no more.
+    pub end: DoorEnd,
 }
 
 // A session behind the last visit of its door.
@@ -102,5 +104,6 @@ pub fn serve_door<R: Wait, D: Disk, T: Desk<Engine<D>>, A: Doors, K: Clock>(
         session: number,
         places,
         starved: kept.starved.saturating_add(starved),
+        end: kept.end,
     }
 }
