@@ -115,7 +115,7 @@ or_first true b c is = refl
 or_first false true c is = refl
 or_first false false c is = absurd (false≢true is)
 
-ends_so : {D O : Type 0} (sinks : SinkSays O) (v : EngineView D) (out out' : O) (ending : RunEnding) (short : Bool)
+pub ends_so : {D O : Type 0} (sinks : SinkSays O) (v : EngineView D) (out out' : O) (ending : RunEnding) (short : Bool)
     → short ≡ true → EndsBy sinks short v out out' ending → ending ≡ NoMemory
 ends_so sinks v out out' ending true is ends = ends.0
 ends_so sinks v out out' ending false is ends = absurd (false≢true is)

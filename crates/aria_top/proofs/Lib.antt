@@ -6,6 +6,14 @@ pub mod Sharing
 pub mod Closing
 pub mod Framed
 pub mod Linked
+pub mod Spared
+pub mod OneCall
+pub mod Finishing
+pub mod FirstAdded
+pub mod Metas
+pub mod LineOptions
+pub mod Gathered
+pub mod Completed
 pub mod Called
 pub mod Doors
 pub mod Untouched

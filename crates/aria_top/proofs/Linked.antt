@@ -1,6 +1,7 @@
 -- What the history of a run tells of its links came over the link of the claim's worker.
 use Rattle.std.proofs.Common.{◌≡◌, ◌⊎◌, inl, inr, ⊎_elim, ℕ, zero, suc, Bool, true, false, List, [], ◌∷◌, ◌++◌, Option, None, Some, Result, Ok, cond, eq-eqb, eqb, length, refl, sym, ap, ◌∙◌, subst, arith, slice_get}
-use Rattle.std.specs.Prelude.{◌+◌, ◌-◌, ◌≤◌, ◌<◌, All, Contains}
+use Rattle.std.specs.Prelude.{◌+◌, ◌-◌, ◌≤◌, ◌<◌, All, Contains, ◌||◌}
+use Rattle.std.specs.List.{list_any}
 use Rattle.std.proofs.Math.Dec.{ltb}
 use Rattle.std.proofs.lemmas.Bool.{ltb-false, ltb-true}
 use Rattle.std.proofs.lemmas.List.Elements.{All-contains, Contains-append_cases, Contains-append_left, Contains-append_right, Contains-push_cases}
@@ -28,10 +29,10 @@ use Rattle.machine_core.specs.declared.calls.Call.{Call}
 use Rattle.machine_core.specs.declared.events.Event.{Event}
 use Rattle.machine_core.specs.declared.events.Event.TheVariants.{Lost, Sized}
 use Rattle.turn_desk.specs.Turns.{turns_by}
-use Rattle.run_frame.specs.Begins.{IsOwnCall, start_of_line}
+use Rattle.run_frame.specs.Begins.{IsOwnCall, is_no_memory, start_of_line}
 use Rattle.run_frame.specs.LinkCauses.{ComesOfClaimEnd, WorkedAmong}
 use Rattle.run_frame.specs.LinkLaws.{LengthsComeOfWorkers, LossesComeOfWorkers, WorkersShowLengths, WorkersShowLosses}
-use Rattle.run_frame.specs.Stops.{all_turns}
+use Rattle.run_frame.specs.Stops.{all_turns, ends_short}
 use Rattle.run_frame.specs.declared.ended.Ended.{Ended}
 use Rattle.aria_top.specs.LinksCauses.{LostAtPlace, ShowsLinks, SizedAtPlace}
 use Rattle.aria_top.specs.Participants.{session_of}
@@ -94,44 +95,70 @@ of_pass k (u ∷ ts) t there = by (eqb u.pass k) there (of_pass k ts t)
         (first_or_later u (turns_by k ts) t there)
     by false there rest = behind u ts t (rest there)
 
--- ---- turns that end no claim
+-- ---- want of memory
+
+or_middle : (a b c : Bool) → b ≡ true → (a || (b || c)) ≡ true
+or_middle true b c is = refl
+or_middle false true c is = refl
+or_middle false false c is = absurd cc
+
+some_short : (bs : List Bool) (place : ℕ) → slice_get bs place ≡ Some true → list_any (λ (b : Bool). b) bs ≡ true
+some_short [] place is = absurd cc
+some_short (true ∷ bs) place is = refl
+some_short (false ∷ bs) zero is = absurd (let same : Some false ≡ Some true = is in cc)
+some_short (false ∷ bs) (suc n) is = some_short bs n is
+
+-- ---- turns that are no work
+
+-- what a worker's own turns do
+abbrev pub IsWork : Operation → Type 0
+IsWork (operation.Call session call now) = ⊥
+IsWork operation.Pulse = ⊥
+IsWork operation.Leave = ⊥
+IsWork (operation.Stop now) = ⊥
+IsWork op = Unit {0}
+
+ends_work : (op : Operation) → EndsClaim op → IsWork op
+ends_work (operation.Lose claim mark now) ends = tt
+ends_work (operation.Sized claim total now) ends = tt
+ends_work other ends = absurd ends
 
 not_by_call : {P : Type 0} (call : Option Call) (turns : List RunTurn) (short : Bool) (t : RunTurn)
-    → IsOwnCall call turns short → Contains turns t → EndsClaim t.op → P
+    → IsOwnCall call turns short → Contains turns t → IsWork t.op → P
 not_by_call None turns short t is there ends =
     none_there t (subst (λ (ts : List RunTurn). Contains ts t) is.0 there)
 not_by_call (Some call) turns short t is there ends =
     ⊎_elim (λ (none : Contains [] t). none_there t none)
-    (λ (same : is.0 ≡ t). absurd (subst EndsClaim (ap (λ (u : RunTurn). u.op) (sym same) ∙ is.2) ends))
+    (λ (same : is.0 ≡ t). absurd (subst IsWork (ap (λ (u : RunTurn). u.op) (sym same) ∙ is.2) ends))
     (Contains-push_cases [] is.0 t (subst (λ (ts : List RunTurn). Contains ts t) is.1 there))
 
 not_before : {P : Type 0} (worker : ℕ) (call : Option Call) (turns : List RunTurn) (short : Bool) (t : RunTurn)
-    → IsOwnCall call turns short → Contains (own_before worker turns) t → EndsClaim t.op → P
+    → IsOwnCall call turns short → Contains (own_before worker turns) t → IsWork t.op → P
 not_before zero call turns short t is there ends = not_by_call call turns short t is there ends
 not_before (suc worker) call turns short t is there ends = none_there t there
 
 not_by_stop : {P : Type 0} (came : Result WorkEnd Spent) (moment : ℕ) (turns : List RunTurn) (t : RunTurn)
-    → StopsUnlessFinished came moment turns → Contains turns t → EndsClaim t.op → P
+    → StopsUnlessFinished came moment turns → Contains turns t → IsWork t.op → P
 not_by_stop (Ok end.Finished) moment turns t is there ends =
     none_there t (subst (λ (ts : List RunTurn). Contains ts t) is there)
 not_by_stop came moment turns t is there ends =
     ⊎_elim (λ (none : Contains [] t). none_there t none)
-    (λ (same : is.0 ≡ t). absurd (subst EndsClaim (ap (λ (v : RunTurn). v.op) (sym same) ∙ is.2) ends))
+    (λ (same : is.0 ≡ t). absurd (subst IsWork (ap (λ (v : RunTurn). v.op) (sym same) ∙ is.2) ends))
     (Contains-push_cases [] is.0 t (subst (λ (ts : List RunTurn). Contains ts t) is.1 there))
 
--- a session ends no claim
-not_by_session : {P : Type 0} (session : ℕ) (op : Operation) → IsOfSession session op → EndsClaim op → P
+-- a session does no work
+not_by_session : {P : Type 0} (session : ℕ) (op : Operation) → IsOfSession session op → IsWork op → P
 not_by_session session (operation.Call number call now) is ends = absurd ends
 not_by_session session operation.Pulse is ends = absurd ends
 not_by_session session other is ends = absurd is
 
 not_by_door : {P : Type 0} (session : ℕ) (before : List RunTurn) (last t : RunTurn)
     → All (λ (u : RunTurn). IsOfSession session u.op) before → last.op ≡ operation.Leave
-    → Contains (before ++ last ∷ []) t → EndsClaim t.op → P
+    → Contains (before ++ last ∷ []) t → IsWork t.op → P
 not_by_door session before last t kinds leaves there ends = ⊎_elim
     (λ (is : Contains before t).
     not_by_session session t.op (All-contains (λ (u : RunTurn). IsOfSession session u.op) before t kinds is) ends)
-    (λ (same : last ≡ t). absurd (subst EndsClaim (ap (λ (v : RunTurn). v.op) (sym same) ∙ leaves) ends))
+    (λ (same : last ≡ t). absurd (subst IsWork (ap (λ (v : RunTurn). v.op) (sym same) ∙ leaves) ends))
     (Contains-push_cases before last t there)
 
 module _ {D L A K O : Type 0} {says : DiskSays D} {links : LinkSays L} {doors : DoorSays A} {sinks : SinkSays O}
@@ -163,21 +190,22 @@ module _ {D L A K O : Type 0} {says : DiskSays D} {links : LinkSays L} {doors : 
     links_same : news.links ≡ ran.goes_on.used.links
     links_same = ap (λ (e : Edges L A K). e.links) ran.goes_on.news_are
 
-    -- the worker that took a turn which ended a claim
-    record TookIt (t : RunTurn) : Type 0 where
-      place : ℕ
-      old : L × K
-      new : L × K
-      old_is : slice_get olds.links place ≡ Some old
-      new_is : slice_get news.links place ≡ Some new
-      own : WorkedAmong D links place all old.0 new.0
-      there : Contains own.its.worked t
+    -- the worker that took a turn of work
+    pub record TookIt (t : RunTurn) : Type 0 where
+      pub place : ℕ
+      pub old : L × K
+      pub new : L × K
+      pub old_is : slice_get olds.links place ≡ Some old
+      pub new_is : slice_get news.links place ≡ Some new
+      pub own : WorkedAmong D links place all old.0 new.0
+      pub there : Contains own.its.worked t
+      pub short : ends_short own.came ≡ true → (ran.begun.is_short || ran.goes_on.goes.work_short) ≡ true
 
     abbrev Together : Type 0
     Together = WorkedTogether D links doors ran.begun.console ran.begun.desk.own (used_edges on olds) ran.goes_on.used
         transcripts turns ran.goes_on.goes.works.work_short
 
-    took_by : (worked : Together) (t : RunTurn) → Contains turns t → EndsClaim t.op → t.pass < length worked.uses
+    took_by : (worked : Together) (t : RunTurn) → Contains turns t → IsWork t.op → t.pass < length worked.uses
         → TookIt t
     took_by worked t there ends low =
         let its = get_at worked.uses t.pass low in
@@ -212,10 +240,16 @@ module _ {D L A K O : Type 0} {says : DiskSays D} {links : LinkSays L} {doors : 
               (Contains-append_cases used.its.worked used.its.stop t mine))
               (Contains-append_cases (own_before t.pass ran.begun.desk.own) (used.its.worked ++ used.its.stop) t
               own_there);
+          short = λ is. ap (λ (b : Bool). ran.begun.is_short || b) ran.goes_on.goes.works.short_is
+              ∙ or_middle ran.begun.is_short ran.goes_on.goes.works.work_short
+              (is_no_memory ran.goes_on.goes.works.last.answer.said)
+              (worked.short_is ∙ some_short worked.shorts t.pass
+              (ap (λ (bs : List Bool). slice_get bs t.pass) worked.used.came_are
+              ∙ (map_get (λ (x : Use L K Bool). x.came) worked.uses t.pass u its.1 ∙ ap Some (used.short_is ∙ is))));
         }
 
     -- a turn of a door's session
-    by_door : {P : Type 0} (worked : Together) (t : RunTurn) → Contains turns t → EndsClaim t.op
+    by_door : {P : Type 0} (worked : Together) (t : RunTurn) → Contains turns t → IsWork t.op
         → length worked.uses ≤ t.pass → P
     by_door worked t there ends high =
         let c = cut_at turns t there in
@@ -228,20 +262,22 @@ module _ {D L A K O : Type 0} {says : DiskSays D} {links : LinkSays L} {doors : 
         (subst (λ (ts : List RunTurn). Contains ts t) used.own (by_pass (length worked.uses + door) turns t there (sym pass)))
         ends
 
-    took_so : (worked : Together) (t : RunTurn) → Contains turns t → EndsClaim t.op → TookIt t
+    took_so : (worked : Together) (t : RunTurn) → Contains turns t → IsWork t.op → TookIt t
     took_so worked t there ends = by (ltb t.pass (length worked.uses)) refl
       where
         by : (low : Bool) → ltb t.pass (length worked.uses) ≡ low → TookIt t
         by true is = took_by worked t there ends (ltb-true t.pass (length worked.uses) is)
         by false is = by_door worked t there ends (ltb-false t.pass (length worked.uses) is)
 
-    took_it : (e : Event) → (came : ComesOfClaimEnd (framed ran).stops.middle e) → TookIt came.turn
-    took_it e came = ⊎_elim
-        (λ (worked : Together). took_so worked came.turn (to_turns came.turn came.among) came.ends)
+    pub took_at : (t : RunTurn) → Contains (framed ran).stops.middle t → IsWork t.op → TookIt t
+    took_at t there works = ⊎_elim (λ (worked : Together). took_so worked t (to_turns t there) works)
         (λ (nobody : NobodyWorked ran.begun.desk.own (used_edges on olds) ran.goes_on.used transcripts turns ran.goes_on.goes.works.work_short).
-        not_by_call ran.begins.call ran.begun.desk.own ran.begun.is_short came.turn ran.begins.own
-        (subst (λ (ts : List RunTurn). Contains ts came.turn) nobody.none (to_turns came.turn came.among)) came.ends)
+        not_by_call ran.begins.call ran.begun.desk.own ran.begun.is_short t ran.begins.own
+        (subst (λ (ts : List RunTurn). Contains ts t) nobody.none (to_turns t there)) works)
         ran.goes_on.goes.works.worked
+
+    took_it : (e : Event) → (came : ComesOfClaimEnd (framed ran).stops.middle e) → TookIt came.turn
+    took_it e came = took_at came.turn came.among (ends_work came.turn.op came.ends)
 
     lost_at : LossesComeOfWorkers says sinks → WorkersShowLosses says sinks links
         → (gid : Gid) (id mirror piece : ℕ) (mark : Mark)

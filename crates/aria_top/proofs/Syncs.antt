@@ -1,5 +1,6 @@
--- What a console goes by may be shared, and what a session leaves may go to another thread.
+-- What a console goes by may be shared, and whether a run is over, and what a session leaves may go to another thread.
 use denote.Param.Send.{IsSend, IsSync, sendable}
+use Rattle.std.specs.contracts.sync.atomic.AtomicBool as flag
 use Rattle.std.proofs.Crossing.{crosses}
 use Rattle.std.proofs.MapsCrossing.{crosses as maps}
 use Rattle.console_session.specs.contracts.serving.Transcript as transcript
@@ -11,6 +12,9 @@ text_sync = search (maps, crosses, sendable) depth 20
 
 pub console_sync : IsSync console.the_row
 console_sync = search (text_sync, sendable) depth 20
+
+pub over_sync : IsSync flag.the_row
+over_sync = search (crosses, sendable) depth 20
 
 pub transcript_send : IsSend transcript.the_row
 transcript_send = search (crosses, sendable) depth 20

@@ -3,5 +3,7 @@ pub mod Together
 pub mod RunsTogether
 pub mod LinksCauses
 pub mod LinksLeft
+pub mod Served
+pub mod Completes
 pub mod DoorsCauses
 pub mod Needs

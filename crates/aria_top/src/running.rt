@@ -9,11 +9,16 @@ ghost use Rattle.aria_top.specs.declared.limits.TheConstants.{CONSOLE_DOORS, MAX
 ghost use Rattle.aria_top.specs.DoorsCauses.{ShowsDoors};
 ghost use Rattle.aria_top.specs.LinksCauses.{ShowsLinks};
 ghost use Rattle.aria_top.specs.LinksLeft.{LeavesLinks};
+ghost use Rattle.aria_top.specs.Completes.{CompletesServed};
+ghost use Rattle.aria_top.specs.Served.{SparesServing};
 ghost use Rattle.aria_top.specs.RunsTogether.{GoesOnBegun, GoesTogether, RunsTogether, edges, edges_left, ended_run};
 ghost use Rattle.aria_top.specs.Together.{ComesFirst};
 
 use crate::finished::FinishedRun;
 use crate::work::{Work, work_through};
+use blameless_mirrors::{faithful_mirrors_are_blameless, lone_downloads_end_well};
+use brought_runs::{brought_runs_end_well, finished_runs_are_done, one_call_adds_one_download};
+use command_line::lines_are_one;
 use conn_worker::turns_bring_what_came;
 use console_session::{Transcript, replies_are_of_the_history};
 use dl_clock::Clock;
@@ -22,14 +27,16 @@ use dl_kinds::Sink;
 use door_source::Doors;
 use engine_turns::turns_tell_runs;
 use link_source::Links;
-use machine_core::Journal;
+use machine_core::{Journal, downloads_stay};
 use run_frame::{
     Begun, Ended, Unbegun, begin, begun_runs_are_stopped, finish, losses_come_of_workers, refuse,
     runs_end_as_shown, runs_have_whole_histories, runs_leave_other_files, runs_print_one_text,
     runs_show_their_disk, runs_survive_crashes, unbegun_runs_only_read, workers_show_their_link,
 };
+use served_claims::runs_are_faithful;
 use std::alloc::Global;
 use std::sync::Wait;
+use std::sync::atomic::AtomicBool;
 use std::thread::Threads;
 
 /// What is left of a run that came to its end, its links and its doors, and what was done at these.
@@ -58,6 +65,7 @@ fn go_through<
     rt: &R,
     alloc: Global,
     begun: Begun<D>,
+    over: &AtomicBool,
     links: Vec<(L, K)>,
     doors: Vec<(A, K)>,
     out: &mut O,
@@ -80,7 +88,7 @@ fn go_through<
         doors,
         transcripts,
         is_short: is_work_short,
-    } = work_through(rt, alloc, desk, &console, links, doors);
+    } = work_through(rt, alloc, desk, &console, over, links, doors);
     Left {
         ended: finish(alloc, engine, either(is_short, is_work_short), out),
         links,
@@ -101,6 +109,7 @@ fn go_on<
     rt: &R,
     alloc: Global,
     begun: Begun<D>,
+    over: &AtomicBool,
     links: Vec<(L, K)>,
     doors: Vec<(A, K)>,
     out: &mut O,
@@ -113,7 +122,7 @@ fn go_on<
         result.transcripts.items out.new }
 {
     if begun.console.is_on {
-        return go_through(rt, alloc, begun, links, doors, out);
+        return go_through(rt, alloc, begun, over, links, doors, out);
     }
     let no_doors = Vec::<(A, K)>::new(alloc);
     let Left {
@@ -121,7 +130,7 @@ fn go_on<
         links,
         doors: none,
         transcripts,
-    } = go_through(rt, alloc, begun, links, no_doors, out);
+    } = go_through(rt, alloc, begun, over, links, no_doors, out);
     none.destroy_empty();
     Left {
         ended,
@@ -144,6 +153,7 @@ fn run_through<
     alloc: Global,
     words: &[String],
     disk: D,
+    over: &AtomicBool,
     links: Vec<(L, K)>,
     doors: Vec<(A, K)>,
     gids: u64,
@@ -156,7 +166,7 @@ fn run_through<
         (edges result.links.items result.doors.items) result.transcripts.items out.new }
 {
     match begin(alloc, words, disk, gids, doors.len() as u16) {
-        Ok(begun) => go_on(rt, alloc, begun, links, doors, out),
+        Ok(begun) => go_on(rt, alloc, begun, over, links, doors, out),
         Err(Unbegun { ending, disk }) => Left {
             ended: Ended {
                 ending: refuse(alloc, ending, out),
@@ -172,7 +182,9 @@ fn run_through<
 
 /// The run of these words, which stand behind the program's name, over all links: one worker for each, in a thread of its own
 /// where one can be started. Where the words turn the console on, each door is served beside them by a session, numbered
-/// from 1 on, in a thread of its own; otherwise doors aren't used. `gids` is what the ids of downloads are made from.
+/// from 1 on, in a thread of its own; otherwise doors aren't used. `gids` is what the ids of downloads are made from. `over` is
+/// set once a worker's work ended, or a door found the run finished: from then on nothing is waited for, so an edge may fail
+/// a call that would still wait.
 pub fn run<
     R: Threads + Wait + Sync,
     D: Disk + Send,
@@ -185,6 +197,7 @@ pub fn run<
     alloc: Global,
     words: &[String],
     disk: D,
+    over: &AtomicBool,
     links: Vec<(L, K)>,
     doors: Vec<(A, K)>,
     gids: u64,
@@ -213,6 +226,13 @@ pub fn run<
     // What it tells of a claim's loss or length came over the link of the claim's worker.
     ensures links { ShowsLinks L.Links (map string_bytes words.now) gids (length doors.items)
         result.journal.events.items links.items result.links.items }
+    // A mirror that serves a payload is held to account for faults of links alone.
+    ensures marks { IsTrue L.tells → SparesServing D.Disk L.Links (map string_bytes words.now) gids
+        (length doors.items) links.items result.links.items (ended_run result) }
+    // What is served comes: a run whose links lead to all of a metainfo file's payload is done, unless it was cut short.
+    ensures completes { IsTrue D.tells → IsTrue L.tells → CompletesServed D.Disk L.Links O.Sink
+        (map string_bytes words.now) disk (edges links.items doors.items) out.old (ended_run result)
+        (edges_left result) out.new }
     // What is complete has its digests, and nothing that was promised is lost by a crash.
     ensures survives { IsTrue D.tells → SurvivesRun D.Disk (map string_bytes words.now) gids
         (length doors.items) disk (ended_run result) }
@@ -232,6 +252,14 @@ pub fn run<
     runs_leave_other_files::<D, O>();
     losses_come_of_workers::<D, O>();
     workers_show_their_link::<D, L, O>();
+    runs_are_faithful::<D, L, O>();
+    brought_runs_end_well::<D, O>();
+    faithful_mirrors_are_blameless::<D>();
+    finished_runs_are_done::<D, O>();
+    one_call_adds_one_download();
+    lone_downloads_end_well();
+    lines_are_one();
+    downloads_stay();
     runs_survive_crashes::<D, O>();
     unbegun_runs_only_read::<D, O>();
     turns_bring_what_came();
@@ -242,7 +270,7 @@ pub fn run<
         links,
         doors,
         transcripts,
-    } = run_through(rt, alloc, words, disk, links, doors, gids, out);
+    } = run_through(rt, alloc, words, disk, over, links, doors, gids, out);
     let Ended {
         ending,
         disk,

@@ -6,6 +6,7 @@ ghost use Rattle.aria_top.specs.Participants.{ServesAt, WorksAt, session_of};
 ghost use Rattle.desk_seats.specs.Uses.{MayTakePart, TookPart};
 
 use conn_worker::{Spent, WorkEnd, work};
+use console_http::DoorEnd;
 use console_session::{Transcript, serve_door};
 use desk_seats::Participant;
 use dl_clock::Clock;
@@ -16,6 +17,7 @@ use link_source::Links;
 use run_frame::ConsoleTerms;
 use std::alloc::Global;
 use std::sync::Wait;
+use std::sync::atomic::{AtomicBool, Ordering};
 use turn_desk::{Desk, Pass, TurnDesk};
 
 // Memory was wanting for a worker.
@@ -25,11 +27,12 @@ fn ends_short(came: Result<WorkEnd, Spent>) -> bool
     came == Ok(WorkEnd::NoMemory)
 }
 
-/// One worker works over its link, until its work ends.
+/// One worker works over its link, until its work ends. Then the run is over: it is finished, or the worker stopped it.
 pub(crate) fn work_at<R: Wait, D: Disk, L: Links, K: Clock>(
     rt: &R,
     alloc: Global,
     desk: &TurnDesk<Engine<D>>,
+    over: &AtomicBool,
     worker: &mut Participant<Pass<Engine<D>>, L, K, bool>,
 )
     requires { MayTakePart desk.now worker.old }
@@ -46,6 +49,7 @@ pub(crate) fn work_at<R: Wait, D: Disk, L: Links, K: Clock>(
         &mut worker.edge,
         &mut worker.clock,
     );
+    over.store(true, Ordering::SeqCst);
     worker.came = Some(ends_short(came));
     worker.pass = Some(chair.leave());
 }
@@ -92,6 +96,7 @@ pub(crate) fn serve_at<R: Wait, D: Disk, A: Doors, K: Clock>(
     rt: &R,
     alloc: Global,
     desk: &TurnDesk<Engine<D>>,
+    over: &AtomicBool,
     console: &ConsoleTerms,
     keeper: &mut Participant<Pass<Engine<D>>, A, K, Transcript>,
 )
@@ -111,6 +116,9 @@ pub(crate) fn serve_at<R: Wait, D: Disk, A: Doors, K: Clock>(
         &mut keeper.edge,
         &mut keeper.clock,
     );
+    if transcript.end == DoorEnd::Finished {
+        over.store(true, Ordering::SeqCst);
+    }
     keeper.came = Some(transcript);
     keeper.pass = Some(chair.leave());
 }

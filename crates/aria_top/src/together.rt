@@ -14,6 +14,7 @@ use link_source::Links;
 use run_frame::ConsoleTerms;
 use std::alloc::Global;
 use std::sync::Wait;
+use std::sync::atomic::AtomicBool;
 use std::thread::Threads;
 use turn_desk::{Pass, TurnDesk};
 
@@ -29,6 +30,7 @@ fn spread<
     alloc: Global,
     desk: &TurnDesk<Engine<D>>,
     console: &ConsoleTerms,
+    over: &AtomicBool,
     workers: &mut [Participant<Pass<Engine<D>>, L, K, bool>],
     keepers: &mut [Participant<Pass<Engine<D>>, A, K, Transcript>],
 )
@@ -45,12 +47,12 @@ fn spread<
             requires { MayTakePart desk.now keeper.now }
             ensures { TookPart desk.entry.now (ServesAt A.Doors console.entry.now)
                 keeper.entry.now keeper.exit.now }
-        { serve_at(rt, alloc, desk, console, keeper) },
+        { serve_at(rt, alloc, desk, over, console, keeper) },
         &|_: usize, worker: &mut Participant<Pass<Engine<D>>, L, K, bool>|
             requires { MayTakePart desk.now worker.now }
             ensures { TookPart desk.entry.now (WorksAt L.Links)
                 worker.entry.now worker.exit.now }
-        { work_at(rt, alloc, desk, worker) },
+        { work_at(rt, alloc, desk, over, worker) },
     );
 }
 
@@ -67,6 +69,7 @@ pub(crate) fn take_part<
     alloc: Global,
     desk: &TurnDesk<Engine<D>>,
     console: &ConsoleTerms,
+    over: &AtomicBool,
     workers: &mut Vec<Participant<Pass<Engine<D>>, L, K, bool>>,
     keepers: &mut Vec<Participant<Pass<Engine<D>>, A, K, Transcript>>,
 )
@@ -81,6 +84,7 @@ pub(crate) fn take_part<
         alloc,
         desk,
         console,
+        over,
         workers.as_mut_slice(),
         keepers.as_mut_slice(),
     );

@@ -18,6 +18,7 @@ use link_source::Links;
 use run_frame::ConsoleTerms;
 use std::alloc::Global;
 use std::sync::Wait;
+use std::sync::atomic::AtomicBool;
 use std::thread::Threads;
 use turn_desk::{Closed, Pass, SoloDesk, TurnDesk, own_turns_keep_their_order};
 
@@ -93,6 +94,7 @@ fn work_shared<
     alloc: Global,
     shared: Shared<D, L, A, K>,
     console: &ConsoleTerms,
+    over: &AtomicBool,
     links: Vec<(L, K)>,
     doors: Vec<(A, K)>,
 ) -> Work<D, L, A, K>
@@ -127,7 +129,7 @@ fn work_shared<
     let (mut shorts, mut transcripts) = (shorts, transcripts);
     seat_all(&mut passes, &mut doors, &mut keepers);
     seat_all(&mut passes, &mut links, &mut workers);
-    take_part(rt, alloc, &desk, console, &mut workers, &mut keepers);
+    take_part(rt, alloc, &desk, console, over, &mut workers, &mut keepers);
     unseat_all(workers, &mut passes, &mut links, &mut shorts);
     unseat_all(keepers, &mut passes, &mut doors, &mut transcripts);
     match desk.close(passes) {
@@ -154,6 +156,7 @@ fn work_edges<
     alloc: Global,
     solo: SoloDesk<Engine<D>>,
     console: &ConsoleTerms,
+    over: &AtomicBool,
     links: Vec<(L, K)>,
     doors: Vec<(A, K)>,
 ) -> Work<D, L, A, K>
@@ -165,7 +168,7 @@ fn work_edges<
         result.engine result.is_short }
 {
     match share(alloc, solo, links.len() as u32, doors.len() as u32) {
-        Ok(shared) => work_shared(rt, alloc, shared, console, links, doors),
+        Ok(shared) => work_shared(rt, alloc, shared, console, over, links, doors),
         Err(solo) => Work {
             engine: solo.into_served(),
             links,
@@ -194,6 +197,7 @@ pub(crate) fn work_through<
     alloc: Global,
     solo: SoloDesk<Engine<D>>,
     console: &ConsoleTerms,
+    over: &AtomicBool,
     links: Vec<(L, K)>,
     doors: Vec<(A, K)>,
 ) -> Work<D, L, A, K>
@@ -210,7 +214,7 @@ pub(crate) fn work_through<
         doors,
         transcripts,
         is_short,
-    } = work_edges(rt, alloc, solo, console, links, doors);
+    } = work_edges(rt, alloc, solo, console, over, links, doors);
     let mut engine = engine;
     let is_stop_short = stop(&mut engine);
     Work {

@@ -3,18 +3,19 @@ ghost use Rattle.door_source.specs.Doors.{no_door};
 ghost use Rattle.std.specs.Prelude.{false};
 
 use crate::faults::Faults;
-use crate::links::{PATIENCE_SECONDS, not_connected, read_some};
+use crate::links::{LOOK_MS, PATIENCE_SECONDS, not_connected, read_some};
 use dl_kinds::IoErr;
 use door_source::{Came, Doors};
 use std::io::{ErrorKind, Read, Write};
 use std::net::{Net, OpenListener, Shutdown, SocketAddr, TcpListener, TcpStream};
+use std::sync::atomic::AtomicBool;
 use std::time::Duration;
 use std::{io, thread, time};
 
 // For so long a door waits for a connection before it answers that nobody came.
 const ACCEPT_LOOKS: u32 = 20;
 
-const LOOK_MS: u64 = 5;
+const ACCEPT_LOOK_MS: u64 = 5;
 
 // A peer whose connection ends is heard for so long, each time, and for so many bytes at once, so often.
 const LAST_MS: u64 = 100;
@@ -34,20 +35,23 @@ pub fn listen_on<R: Net>(rt: &R, address: SocketAddr) -> io::Result<R::Listener>
 /// listener each `accept` fails.
 ///
 /// Nobody comes where no client has connected for 100 milliseconds. A connection that neither gives nor takes a byte for 60 seconds
-/// fails.
+/// fails. Once the run is over nothing is waited for: what doesn't come at once fails.
 #[derive(Drop)]
 pub struct TcpDoors<'a, R: Net<Stream = TcpStream, Listener = TcpListener> + time::Clock> {
     rt: &'a R,
     listener: Option<&'a TcpListener>,
+    over: &'a AtomicBool,
     stream: Option<TcpStream>,
     faults: Faults,
 }
 
 impl<'a, R: Net<Stream = TcpStream, Listener = TcpListener> + time::Clock> TcpDoors<'a, R> {
-    pub fn new(rt: &'a R, listener: Option<&'a TcpListener>) -> Self {
+    /// `over` is set once the run is over.
+    pub fn new(rt: &'a R, listener: Option<&'a TcpListener>, over: &'a AtomicBool) -> Self {
         TcpDoors {
             rt,
             listener,
+            over,
             stream: None,
             faults: Faults::new(),
         }
@@ -62,7 +66,7 @@ impl<'a, R: Net<Stream = TcpStream, Listener = TcpListener> + time::Clock> TcpDo
             match listener.accept() {
                 Ok((stream, _)) => return Ok(Some(patient(stream)?)),
                 Err(e) if is_passing(e.kind()) => {
-                    thread::sleep(self.rt, Duration::from_millis(LOOK_MS));
+                    thread::sleep(self.rt, Duration::from_millis(ACCEPT_LOOK_MS));
                 }
                 Err(e) => return Err(e),
             }
@@ -100,7 +104,7 @@ fn patient(stream: TcpStream) -> io::Result<TcpStream> {
     let patience = Duration::from_secs(PATIENCE_SECONDS);
     stream.set_nonblocking(false)?;
     stream.set_nodelay(true)?;
-    stream.set_read_timeout(Some(patience))?;
+    stream.set_read_timeout(Some(Duration::from_millis(LOOK_MS)))?;
     stream.set_write_timeout(Some(patience))?;
     Ok(stream)
 }
@@ -129,7 +133,7 @@ impl<'a, R: Net<Stream = TcpStream, Listener = TcpListener> + time::Clock> Doors
 
     fn recv(&mut self, into: &mut [u8]) -> Result<usize, IoErr> {
         let outcome = match &mut self.stream {
-            Some(stream) => read_some(stream, into),
+            Some(stream) => read_some(stream, into, self.over),
             None => Err(not_connected()),
         };
         self.faults.note(outcome)

@@ -7,20 +7,23 @@ use std::io::ErrorKind;
 use std::process::ExitCode;
 use std::random::RandomSource;
 use std::rt::Env;
+use std::sync::atomic::AtomicBool;
 use std::{env, io};
 
 // The status where the run can't begin, for want of memory or of a random number.
 const NOT_BEGUN: u8 = 40;
 
 fn main(rt: HostRuntime) -> ExitCode {
-    ExitCode::from(download(&rt).unwrap_or(NOT_BEGUN))
+    // Nobody else ends the run, so this is never set.
+    let over = AtomicBool::new(false);
+    ExitCode::from(download(&rt, &over).unwrap_or(NOT_BEGUN))
 }
 
-fn download(rt: &HostRuntime) -> io::Result<u8> {
+fn download<'a>(rt: &'a HostRuntime, over: &'a AtomicBool) -> io::Result<u8> {
     let alloc = rt.alloc();
     let words = words(rt)?;
     let mut links = Vec::new(alloc);
-    links.push((TcpLinks::new(rt), StdClock::new(rt)?))?;
+    links.push((TcpLinks::new(rt, over), StdClock::new(rt)?))?;
     let mut gids = [0; 8];
     rt.fill_bytes(&mut gids)?;
     let gids = u64::from_ne_bytes(gids);

@@ -1,6 +1,8 @@
+use Rattle.aria_top.proofs.Completed.{completes_served}
 use Rattle.aria_top.proofs.Doors.{shows_doors}
 use Rattle.aria_top.proofs.Framed.{whole}
 use Rattle.aria_top.proofs.Linked.{shows_links}
+use Rattle.aria_top.proofs.Spared.{spares_serving}
 use Rattle.aria_top.proofs.Untouched.{leaves_links}
 use Rattle.aria_top.proofs.running.run.Goals as goal
 
@@ -35,3 +37,24 @@ returns-clause-untouched g c =
 pub returns-clause-doors : goal.returns-clause-doors
 returns-clause-doors g c =
     shows_doors c.turns_tell_runs.ensures.appended c.replies_are_of_the_history.ensures c.run_through-ended.ensures
+
+pub returns-clause-marks : goal.returns-clause-marks
+returns-clause-marks g c =
+    spares_serving c.runs_are_faithful.ensures c.brought_runs_end_well.ensures.told
+    c.faithful_mirrors_are_blameless.ensures.findings c.run_through-ended.ensures
+
+pub returns-clause-completes : goal.returns-clause-completes
+returns-clause-completes g c =
+    completes_served (record {
+      append = c.turns_tell_runs.ensures.appended;
+      stay = c.downloads_stay.ensures.downloads;
+      lines = c.lines_are_one.ensures;
+      faithful = c.runs_are_faithful.ensures;
+      well = c.brought_runs_end_well.ensures.ends;
+      done = c.finished_runs_are_done.ensures;
+      one = c.one_call_adds_one_download.ensures;
+      alone = c.lone_downloads_end_well.ensures.alone;
+      shown = c.runs_end_as_shown.ensures;
+    }) c.requires.links.0 c.run_through-ended.ensures
+    (shows_links c.losses_come_of_workers.ensures.lost c.losses_come_of_workers.ensures.sized
+    c.workers_show_their_link.ensures.lost c.workers_show_their_link.ensures.sized c.run_through-ended.ensures)

@@ -1,0 +1,299 @@
+-- What stands in the files of blocks that a mirror gave.
+use Rattle.std.proofs.Common.{◌≡◌, ⊎_elim, ℕ, ◌+◌, ◌-◌, ◌<◌, ◌≤◌, true, Some, List, [], ◌∷◌, slice_get, sym, ap, ◌∙◌, subst, arith}
+use Rattle.std.specs.Prelude.{Contains, nat_le, nat_lt}
+use Rattle.std.proofs.lemmas.Bool.Decides.{nat_tests}
+use Rattle.control_file.specs.declared.want.Want.{Want}
+use Rattle.dl_disk.specs.Files.{Files}
+use Rattle.dl_disk.specs.State.{DiskState}
+use Rattle.dl_history.proofs.Bools.{and_both, and_left, true_not_false}
+use Rattle.dl_history.proofs.Early.{below_end, early, not_false}
+use Rattle.dl_history.proofs.Facts.{facts}
+use Rattle.dl_history.proofs.Members.{has_filter, has_from}
+use Rattle.dl_history.proofs.Sole.{some_of}
+use Rattle.dl_history.specs.OwnEvents.{OwnEvent}
+use Rattle.dl_history.specs.OwnLegal.{LegalOwn}
+use Rattle.dl_history.specs.PayloadParts.{is_alive, is_landed_in, is_opened, source_in}
+use Rattle.dl_history.specs.StandingClaims.{granted_claims, is_standing, standing_claims}
+use Rattle.dl_kinds.specs.Plan.{blocks_of, piece_of}
+use Rattle.dl_kinds.specs.PlanLaws.{BlocksFollow}
+use Rattle.dl_kinds.specs.declared.gid.Gid.{Gid}
+use Rattle.dl_kinds.specs.declared.runs.Moment.{Moment}
+use Rattle.dl_kinds.specs.declared.runs.Run.{Run}
+use Rattle.engine_core.proofs.Promising.{alone_before, download_on, legal_front, want_later}
+use Rattle.engine_core.specs.Askings.{IsWrittenAlone}
+use Rattle.engine_core.specs.TurnReads.{FitsFiles, TurnsFitDisk}
+use Rattle.engine_core.specs.Writings.{CutsByte, LandsByte, WritesAsTold}
+use Rattle.engine_turns.specs.RunTurns.{MayComeAfter}
+use Rattle.engine_turns.specs.Told.{AllTurns, RunTurn, history_of}
+use Rattle.engine_turns.specs.declared.operations.Operation.{Operation}
+use Rattle.engine_turns.specs.declared.operations.Operation.TheVariants as operation
+use Rattle.machine_core.proofs.Parts.{opened_added}
+use Rattle.machine_core.specs.DownloadWants.{HasWant, IsWantOf}
+use Rattle.machine_core.specs.Openings.{lengths_of_plan}
+use Rattle.machine_core.specs.OwnParts.{PayloadLengths, lengths_by, own_of}
+use Rattle.machine_core.specs.RunLegal.{IsLegal, download_in, known_lengths}
+use Rattle.machine_core.specs.Starts.{Download, Listed, RunStart, Subject}
+use Rattle.machine_core.specs.declared.events.Event.{Event}
+use Rattle.machine_core.specs.declared.events.Event.TheVariants.{Landed}
+use Rattle.metainfo.specs.declared.meta.Meta.{Meta}
+use Rattle.mirror_payloads.specs.Faithful.{IsFaithful, run_bytes}
+use Rattle.payload_files.specs.Payload.{HasFiles}
+use Rattle.piece_table.specs.Changes.{Absent, From, is_in, is_present}
+use Rattle.resume_core.proofs.RunBytes.{block_in_run, one_block}
+use Rattle.resume_core.specs.Runs.{run_len}
+use Rattle.run_promises.proofs.Completed.{known_listed, lengths_told}
+use Rattle.span_map.specs.Jobs.{IsRun, run_end, run_start}
+use Rattle.std.specs.Option.{option_and_then}
+use Rattle.stored_run.proofs.PartBytes.{ends_rise, starts_rise}
+use Rattle.stored_run.specs.RunFollows.{RunFollows}
+use Rattle.stored_run.specs.Settlings.{payload_of}
+use Rattle.stored_run.specs.Writings.{HoldsPart, IsByteOfBlock}
+use Rattle.blameless_mirrors.specs.Blameless.{FollowsMark, HasBlockOf}
+use Rattle.blameless_mirrors.proofs.EventSources.{LandsAmong, NoneLands, WasUntouched, source_among}
+use Rattle.blameless_mirrors.proofs.Parts.{IsDeliveredPart, delivered_part, landed_by}
+use Rattle.blameless_mirrors.proofs.PayloadBytes.{part_byte}
+
+-- ---- blocks of runs
+
+in_bounds : (b : ℕ) (run : Run) → is_in b run ≡ true → (run.first ≤ b) × (b < run.first + run.count)
+in_bounds b run is =
+    let from = and_left (nat_le run.first b) (nat_lt b (run.first + run.count)) is in
+    let low : run.first ≤ b = grind (arith, nat_tests) in
+    (low, below_end b run is)
+
+is_within : (b : ℕ) (run : Run) → run.first ≤ b → b < run.first + run.count → is_in b run ≡ true
+is_within b run low high =
+    let p : nat_le run.first b ≡ true = grind (arith, nat_tests) in
+    let q : nat_lt b (run.first + run.count) ≡ true = grind (arith, nat_tests) in
+    and_both (nat_le run.first b) (nat_lt b (run.first + run.count)) p q
+
+-- a block that a mirror gave is one of a download that is opened
+pub given_opened : (total len : ℕ) (own : List OwnEvent) → LegalOwn total len own → (size b m : ℕ)
+    → source_in size own b ≡ From m → is_opened own ≡ true
+given_opened total len own legal size b m is =
+    not_false (is_opened own)
+    (λ un. absurd (let e : Absent ≡ From m = sym ((early total len own legal un).absent (is_alive own) (piece_of size b) b) ∙ is in cc))
+
+module _ (laws : RunFollows) (follow : BlocksFollow) (start : RunStart) (disk : DiskState) (gid : Gid) (mirror : ℕ)
+    (meta : Meta) (want : Want) (payload : List ℕ) (download : Download) (uris : List (List ℕ))
+    (subject : download.subject ≡ Listed meta uris) (is_want : IsWantOf download (lengths_told meta) want) where
+  abbrev total : ℕ
+  total = want.plan.total
+
+  abbrev len : ℕ
+  len = want.plan.piece_len
+
+  -- what holds after these turns
+  pub record Stands (told : List RunTurn) : Type 0 where
+    pub legal : IsLegal start (history_of told)
+    pub ties : AllTurns (MayComeAfter start) told
+    pub marks : AllTurns FollowsMark told
+    pub fits : TurnsFitDisk start told disk
+    pub faithful : IsFaithful start gid mirror payload told
+    pub alone : IsWrittenAlone start told want
+    pub only : (other : Gid) → HasWant start (history_of told) other want → other ≡ gid
+    pub same : (d : Download) → download_in start (history_of told) gid ≡ Some d → d ≡ download
+
+  pub stood : (t : RunTurn) (before : List RunTurn) → Stands (t ∷ before) → Stands before
+  stood t before st = record {
+    legal = legal_front start (history_of before) t.events st.legal;
+    ties = st.ties.1;
+    marks = st.marks.1;
+    fits = st.fits.1;
+    faithful = st.faithful.1;
+    alone = alone_before laws start before t st.legal want st.alone;
+    only = λ other has. st.only other (want_later laws start before t st.legal other want has);
+    same = λ d added. st.same d (download_on laws start (history_of before) t.events gid d added);
+  }
+
+  -- ---- the download
+
+  module _ (past : List Event) (added : download_in start past gid ≡ Some download) where
+    pub lengths_at : known_lengths start past gid ≡ lengths_of_plan want.plan
+    lengths_at = known_listed start past gid download meta uris added subject ∙ sym is_want.plan
+
+    pub legal_own : IsLegal start past → LegalOwn total len (own_of start past gid)
+    legal_own legal =
+        subst (λ (l : PayloadLengths). LegalOwn l.total l.piece_len (own_of start past gid)) lengths_at
+        (laws.legal start past gid legal)
+
+    pub has_at : HasWant start past gid want
+    has_at = record {
+      download = download;
+      added = added;
+      lengths = lengths_told meta;
+      known =
+          ap (option_and_then (λ (d : Download). lengths_by d d.subject (own_of start past gid))) added
+          ∙ ap (λ (s : Subject). lengths_by download s (own_of start past gid)) subject;
+      is = is_want;
+    }
+
+  abbrev pub GivenIn : List RunTurn → ℕ → Type 0
+  GivenIn told b = source_in len (own_of start (history_of told) gid) b ≡ From mirror
+
+  module _ (told : List RunTurn) (st : Stands told) where
+    pub opened_at : (b : ℕ) → GivenIn told b → is_opened (own_of start (history_of told) gid) ≡ true
+    opened_at b given =
+        given_opened (known_lengths start (history_of told) gid).total (known_lengths start (history_of told) gid).piece_len
+        (own_of start (history_of told) gid) (laws.legal start (history_of told) gid st.legal) len b mirror given
+
+    pub added_at : is_opened (own_of start (history_of told) gid) ≡ true → download_in start (history_of told) gid ≡ Some download
+    added_at opened =
+        let some = some_of (download_in start (history_of told) gid) (opened_added start (history_of told) gid st.legal opened) in
+        some.1 ∙ ap (λ (d : Download). Some d) (st.same some.0 some.1)
+
+  -- behind a turn the files have their lengths
+  pub whole : (t : RunTurn) (before : List RunTurn) → Stands (t ∷ before)
+      → is_opened (own_of start (history_of (t ∷ before)) gid) ≡ true
+      → HasFiles want.dir want.layout (disk.seen_at t.after.time)
+  whole t before st opened =
+      st.fits.0.fits.lengths want gid st.alone
+      (record { opened = opened; has = has_at (history_of (t ∷ before)) (added_at (t ∷ before) st opened) })
+
+  -- ---- a turn
+
+  module _ (t : RunTurn) (before : List RunTurn) (st : Stands (t ∷ before)) where
+    abbrev past : List Event
+    past = history_of before
+
+    abbrev old : Files
+    old = disk.seen_at t.before.time
+
+    abbrev new : Files
+    new = disk.seen_at t.after.time
+
+    abbrev fit : FitsFiles start before t old new
+    fit = st.fits.0.fits
+
+    -- the run of a part that lands is within the payload
+    part_within : (claim : ℕ) (run : Run) (id : ℕ) (part : Run) → (d : IsDeliveredPart start past claim run gid id part)
+        → (download_in start past gid ≡ Some download) × (run.first + run.count ≤ blocks_of total len)
+    part_within claim run id part d =
+        let added = d.added ∙ ap (λ (x : Download). Some x) ((stood t before st).same d.download d.added) in
+        let own = own_of start past gid in
+        let there = has_filter (is_standing own) (granted_claims own) d.claimed
+        (has_from (standing_claims own) d.claimed d.stands.0 d.stands.1 d.stands.2) in
+        let most = (facts total len own (legal_own past added (stood t before st).legal)).within d.claimed there.0 in
+        (added, omega (arith, d.within, most))
+
+    landed_byte : (claim : ℕ) (run : Run) (bytes : List ℕ) (now : Moment) → t.op ≡ operation.Deliver claim run bytes now
+        → (id : ℕ) (part : Run) (when : Moment) → Contains t.events (Landed gid id mirror part when)
+        → (b : ℕ) → is_in b part ≡ true → HasBlockOf want payload b new
+    landed_byte claim run bytes now op id part when there b inside at is =
+        let d = delivered_part start before t st.ties.0 claim run bytes now op gid id mirror part when there in
+        let so = part_within claim run id part d in
+        let here : Contains t.events (Landed gid claim mirror part when) =
+        subst (λ (i : ℕ). Contains t.events (Landed gid i mirror part when)) d.same there in
+        let holds : HoldsPart want run part bytes new =
+        subst (λ (op : Operation). WritesAsTold start past t op new) op fit.written gid mirror part when here want
+        (has_at past so.0) in
+        let right = st.faithful.0.landed claim run part bytes now when op here
+        ∙ ap (λ (l : PayloadLengths). run_bytes l payload run) (lengths_at past so.0) in
+        let bounds = in_bounds b part inside in
+        let some = d.some in
+        let last_part : ℕ = part.first + part.count - 1 in
+        let last_run : ℕ = run.first + run.count - 1 in
+        let from_part = starts_rise follow total len want.plan.is_plan part.first b bounds.0 (omega (arith, bounds.1, d.last, so.1)) in
+        let to_part = ends_rise follow total len want.plan.is_plan b last_part (omega (arith, bounds.1)) (omega (arith, some, d.last, so.1)) in
+        let from_run = starts_rise follow total len want.plan.is_plan run.first part.first d.first (omega (arith, some, d.last, so.1)) in
+        let to_run = ends_rise follow total len want.plan.is_plan last_part last_run (omega (arith, some, d.last)) (omega (arith, some, d.first, d.last, so.1)) in
+        let low : ℕ = run_start want.plan part in
+        let base : ℕ = run_start want.plan run in
+        let k : ℕ = at - low in
+        let less : k < run_len want.plan part = omega (arith, from_part, to_part, is.from, is.before) in
+        let room : low - base + k < run_end want.plan run - base =
+        omega (arith, from_part, to_part, from_run, to_run, is.from, is.before) in
+        let place : low + k ≡ at = omega (arith, from_part, is.from) in
+        let place_run : base + (low - base + k) ≡ at = omega (arith, from_part, from_run, is.from) in
+        ap (λ (i : ℕ). slice_get (payload_of want new) i) (sym place)
+        ∙ sym (part_byte (payload_of want new) low (run_len want.plan part) k less)
+        ∙ ap (λ (l : List ℕ). slice_get l k) holds
+        ∙ part_byte bytes (low - base) (run_len want.plan part) k less
+        ∙ ap (λ (l : List ℕ). slice_get l (low - base + k)) right
+        ∙ part_byte payload base (run_end want.plan run - base) (low - base + k) room
+        ∙ ap (λ (i : ℕ). slice_get payload i) place_run
+
+    -- a block that a turn lands, by the mirror
+    delivered_block : (b : ℕ) → LandsAmong gid b mirror t.events → HasBlockOf want payload b new
+    delivered_block b lands =
+        landed_by start past t new t.op fit.written
+        (λ claim run bytes now op. landed_byte claim run bytes now op lands.id lands.run lands.now lands.there b lands.inside)
+        gid lands.id mirror lands.run lands.now lands.there
+
+    -- a byte of a block that none of its parts holds is written by none
+    unlanded_byte : (b : ℕ) → NoneLands gid b t.events → (at : ℕ) → IsByteOfBlock want.plan b at
+        → ¬ LandsByte start past t want at
+    unlanded_byte b none at is lands =
+        let its : lands.gid ≡ gid = (stood t before st).only lands.gid lands.has in
+        let there = subst (λ (g : Gid). Contains t.events (Landed g lands.claim lands.mirror lands.part lands.now)) its lands.landed in
+        landed_by start past t new t.op fit.written
+        (λ claim run bytes now op.
+        let d = delivered_part start before t st.ties.0 claim run bytes now op gid lands.claim lands.mirror lands.part lands.now there in
+        let so = part_within claim run lands.claim lands.part d in
+        let is_run : IsRun want.plan lands.part = record { some = d.some; within = omega (arith, d.last, so.1) } in
+        let found = block_in_run follow want lands.part want.plan.is_plan is_run at lands.inside.from lands.inside.before in
+        let same : found.0 ≡ b = one_block total len found.0 b at found.2 (record { from = is.from; before = is.before }) in
+        let inside = is_within found.0 lands.part found.1.from found.1.before in
+        true_not_false (is_in b lands.part) (ap (λ (c : ℕ). is_in c lands.part) (sym same) ∙ inside)
+        (none lands.claim lands.mirror lands.part lands.now there))
+        gid lands.claim lands.mirror lands.part lands.now there
+
+    -- nor is a block that is landed open in a claim
+    uncut_byte : (b : ℕ) → GivenIn before b → (at : ℕ) → IsByteOfBlock want.plan b at → ¬ CutsByte start past t want at
+    uncut_byte b given at is cuts =
+        let added = added_at before (stood t before st) (opened_at before (stood t before st) b given) in
+        let its : cuts.gid ≡ gid = (stood t before st).only cuts.gid cuts.has in
+        let o = subst (λ (g : Gid). Rattle.stored_run.specs.Writings.IsOpenByte (own_of start past g) cuts.claim cuts.run want.plan at)
+        its cuts.open_in in
+        let same : o.block ≡ b =
+        one_block total len o.block b at (record { from = o.inside.from; before = o.inside.before })
+        (record { from = is.from; before = is.before }) in
+        let un = laws.sound.open_blocks total len (own_of start past gid) o.claimed o.block
+        (legal_own past added (stood t before st).legal) o.stands o.open_in in
+        true_not_false (is_landed_in len (own_of start past gid) b) (ap is_present given)
+        (ap (is_landed_in len (own_of start past gid)) (sym same) ∙ un.unlanded)
+
+    -- a block of the mirror that stood before stands behind the turn
+    abbrev pub StoodBefore : Type 0
+    StoodBefore = (b : ℕ) → GivenIn before b → HasBlockOf want payload b old × HasFiles want.dir want.layout old
+
+    kept_block : StoodBefore → (b : ℕ) → WasUntouched start gid total len b mirror past t.events → HasBlockOf want payload b new
+    kept_block prior b was at is =
+        let so = prior b was.0 in
+        fit.payload want st.alone so.1 at
+        (λ written. ⊎_elim (unlanded_byte b was.1 at is) (uncut_byte b was.0 at is) written)
+        ∙ so.0 at is
+
+    pub block_behind : StoodBefore → (b : ℕ) → GivenIn (t ∷ before) b → HasBlockOf want payload b new
+    block_behind prior b given =
+        let added = added_at (t ∷ before) st (opened_at (t ∷ before) st b given) in
+        ⊎_elim
+        (delivered_block b)
+        (kept_block prior b)
+        (source_among start gid total len b mirror t.events past (legal_own (history_of (t ∷ before)) added st.legal) given)
+
+  -- ---- all turns
+
+  stood_none : (t : RunTurn) (st : Stands (t ∷ [])) → StoodBefore t [] st
+  stood_none t st b given = absurd cc
+
+  -- what stood behind a turn stands before the next one
+  stood_on : (t u : RunTurn) (older : List RunTurn) (st : Stands (t ∷ u ∷ older))
+      → ((b : ℕ) → GivenIn (u ∷ older) b → HasBlockOf want payload b (disk.seen_at u.after.time))
+      → StoodBefore t (u ∷ older) st
+  stood_on t u older st was b given =
+      let time : u.after.time ≡ t.before.time = ap (λ s. s.time) (sym st.marks.0) in
+      let st_u = stood t (u ∷ older) st in
+      subst (λ (k : ℕ). HasBlockOf want payload b (disk.seen_at k) × HasFiles want.dir want.layout (disk.seen_at k)) time
+      (was b given, whole u older st_u (opened_at (u ∷ older) st_u b given))
+
+  -- each block that the mirror gave reads as the payload's
+  pub blocks_read : (t : RunTurn) (before : List RunTurn) → Stands (t ∷ before) → (b : ℕ) → GivenIn (t ∷ before) b
+      → HasBlockOf want payload b (disk.seen_at t.after.time)
+  blocks_read t [] st b given = block_behind t [] st (stood_none t st) b given
+  blocks_read t (u ∷ older) st b given =
+      block_behind t (u ∷ older) st (stood_on t u older st (blocks_read u older (stood t (u ∷ older) st))) b given
+
+  pub blocks_stood : (t : RunTurn) (before : List RunTurn) (st : Stands (t ∷ before)) → StoodBefore t before st
+  blocks_stood t [] st = stood_none t st
+  blocks_stood t (u ∷ older) st = stood_on t u older st (blocks_read u older (stood t (u ∷ older) st))

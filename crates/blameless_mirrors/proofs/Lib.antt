@@ -1,0 +1,14 @@
+pub mod Sources
+pub mod Givers
+pub mod PayloadBytes
+pub mod EventSources
+pub mod Rows
+pub mod Marks
+pub mod Parts
+pub mod Delivered
+pub mod Findings
+pub mod Blame
+pub mod LoneEnds
+pub mod Refusals
+pub mod OneWant
+pub mod LoneLaws

@@ -1,0 +1,2 @@
+pub mod Blameless
+pub mod Lone

@@ -1,0 +1,51 @@
+// What follows in runs in which a mirror brings a payload's own bytes.
+ghost use Rattle.blameless_mirrors.specs.Blameless.{DeliveredAreRead, MarksAreOfLinks, NeverEndDead, StayEligible, WrongFindingsArentTheirs};
+ghost use Rattle.blameless_mirrors.specs.Lone.{BroughtOnlyComplete, FreshAreNeverRefused, LoneAreAlone, LoneDownloadsEndWell};
+
+use dl_disk::Disk;
+use dl_kinds::plan_laws;
+use machine_core::known_downloads_are_idle;
+use stored_run::runs_follow;
+
+/// Each block that is there and came from the mirror reads as the payload's bytes, behind each turn. It does nothing when it
+/// runs.
+pub fn delivered_blocks_are_read<D: Disk>()
+    ensures { DeliveredAreRead D.state }
+{
+    plan_laws();
+    runs_follow();
+}
+
+/// Where each piece of the payload has its listed digest, no piece that the mirror alone gave is found wrong, so a mark that
+/// is held against it is that of a link that failed; and where none did, it is eligible for each piece, and the download
+/// never ends as dead. It does nothing when it runs.
+pub fn faithful_mirrors_are_blameless<D: Disk>()
+    ensures findings { WrongFindingsArentTheirs D.state }
+    ensures marks { MarksAreOfLinks D.state }
+    ensures eligible { StayEligible D.state }
+    ensures dead { NeverEndDead D.state }
+{
+    plan_laws();
+    runs_follow();
+}
+
+/// The only download of a run, where it has a metainfo file, ends as complete or dead, by a fault of the disk, or since its store
+/// refuses what stands of it; and it alone has its want. It does nothing when it runs.
+pub fn lone_downloads_end_well()
+    ensures ends { LoneDownloadsEndWell }
+    ensures alone { LoneAreAlone }
+{
+    known_downloads_are_idle();
+    runs_follow();
+}
+
+/// Where no control file of it stood as the run began, and memory sufficed, it isn't refused; and where a mirror brings the
+/// payload, and neither its links nor the disk fail, it ends by being complete alone. It does nothing when it runs.
+pub fn brought_downloads_only_complete<D: Disk>()
+    ensures refused { FreshAreNeverRefused D.state }
+    ensures complete { BroughtOnlyComplete D.state }
+{
+    plan_laws();
+    known_downloads_are_idle();
+    runs_follow();
+}

@@ -1,0 +1,9 @@
+//! What is held against a mirror that brings a payload's own bytes: nothing but what its links failed. Laws alone.
+#![tactic(auto)]
+
+mod laws;
+
+pub use laws::{
+    brought_downloads_only_complete, delivered_blocks_are_read, faithful_mirrors_are_blameless,
+    lone_downloads_end_well,
+};

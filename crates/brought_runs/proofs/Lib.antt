@@ -1,0 +1,5 @@
+pub mod ToldRuns
+pub mod Endings
+pub mod Finishing
+pub mod Done
+pub mod OneCall

@@ -1,0 +1,71 @@
+-- A run whose only call adds a download has that one alone.
+use Rattle.std.proofs.Common.{◌≡◌, ℕ, Bool, true, false, cond, Some, None, List, [], ◌∷◌, ◌++◌, refl, sym, ap, ◌∙◌, arith}
+use Rattle.std.specs.Prelude.{box_value, reverse}
+use Rattle.std.proofs.lemmas.Bool.{eq-eqb}
+use Rattle.std.proofs.lemmas.List.{reverse-append}
+use Rattle.dl_kinds.specs.declared.gid.Gid.{Gid}
+use Rattle.dl_kinds.specs.declared.runs.Moment.{Moment}
+use Rattle.machine_core.proofs.Parts.{gid_is}
+use Rattle.machine_core.specs.Replays.{download_of, is_same_gid, next_gid, replay_of, with_settings}
+use Rattle.machine_core.specs.Starts.{Download, Listed, RunStart}
+use Rattle.machine_core.specs.declared.calls.Call.{Call}
+use Rattle.machine_core.specs.declared.calls.Call.TheVariants as call
+use Rattle.machine_core.specs.declared.events.Event.{Event}
+use Rattle.machine_core.specs.declared.events.Event.TheVariants.{Called, Checked, Claimed, Cleared, Ended, Landed, Left, Lost, Opened, Saved, Settled, Sized, Stopped}
+use Rattle.metainfo.specs.declared.meta.Meta.{Meta}
+use Rattle.blameless_mirrors.specs.Lone.{IsLoneListed}
+use Rattle.brought_runs.specs.Ends.{HasNoCall, OneCallAddsOne}
+use Rattle.brought_runs.proofs.Done.{no_call_reversed}
+use Rattle.brought_runs.proofs.Finishing.{no_call_behind}
+
+-- the downloads stay where no call comes
+downloads_on : (start : RunStart) (base newer : List Event) → HasNoCall newer
+    → (replay_of start (newer ++ base)).downloads ≡ (replay_of start base).downloads
+downloads_on start base [] none = refl
+downloads_on start base (Called session asked now ∷ newer) none = absurd (none session asked now (0, omega arith, refl))
+downloads_on start base (Ended g how ∷ newer) none = downloads_on start base newer (no_call_behind (Ended g how) newer none)
+downloads_on start base (Opened g v b n ∷ newer) none = downloads_on start base newer (no_call_behind (Opened g v b n) newer none)
+downloads_on start base (Sized g i n ∷ newer) none = downloads_on start base newer (no_call_behind (Sized g i n) newer none)
+downloads_on start base (Claimed g c ∷ newer) none = downloads_on start base newer (no_call_behind (Claimed g c) newer none)
+downloads_on start base (Landed g i m r n ∷ newer) none = downloads_on start base newer (no_call_behind (Landed g i m r n) newer none)
+downloads_on start base (Settled g p r v ∷ newer) none = downloads_on start base newer (no_call_behind (Settled g p r v) newer none)
+downloads_on start base (Cleared g p ∷ newer) none = downloads_on start base newer (no_call_behind (Cleared g p) newer none)
+downloads_on start base (Lost g i m p k ∷ newer) none = downloads_on start base newer (no_call_behind (Lost g i m p k) newer none)
+downloads_on start base (Checked g r ∷ newer) none = downloads_on start base newer (no_call_behind (Checked g r) newer none)
+downloads_on start base (Saved g n ∷ newer) none = downloads_on start base newer (no_call_behind (Saved g n) newer none)
+downloads_on start base (Left ∷ newer) none = downloads_on start base newer (no_call_behind Left newer none)
+downloads_on start base (Stopped ∷ newer) none = downloads_on start base newer (no_call_behind Stopped newer none)
+
+lone_found : (d e : Download) (gid : Gid) (t : Bool) → is_same_gid gid d.gid ≡ t → cond t (Some d) None ≡ Some e → gid ≡ d.gid
+lone_found d e gid true same is = sym (gid_is gid d.gid same)
+lone_found d e gid false same is = absurd cc
+
+module _ (start : RunStart) (session : ℕ) (now : Moment) (rest : List Event) (none : HasNoCall rest) where
+  lone_after : (asked : Call) (meta : Meta) (d : Download) (uris : List (List ℕ))
+      → (replay_of start (Called session asked now ∷ [])).downloads ≡ d ∷ [] → d.subject ≡ Listed meta uris
+      → (gid : Gid) × IsLoneListed start (reverse (Called session asked now ∷ rest)) gid meta
+  lone_after asked meta d uris first subject =
+      let past = reverse (Called session asked now ∷ rest) in
+      let whole : (replay_of start past).downloads ≡ d ∷ [] =
+      ap (λ (p : List Event). (replay_of start p).downloads) (reverse-append (Called session asked now ∷ []) rest)
+      ∙ downloads_on start (Called session asked now ∷ []) (reverse rest) (no_call_reversed rest none) ∙ first in (
+        d.gid,
+        record {
+          download = d;
+          added = ap (λ (ds : List Download). download_of ds d.gid) whole
+              ∙ ap (λ (t : Bool). cond t (Some d) None) (eq-eqb d.gid.0 d.gid.0 refl);
+          uris = uris;
+          subject = subject;
+          only = λ other e added.
+              lone_found d e other (is_same_gid other d.gid) refl
+              (sym (ap (λ (ds : List Download). download_of ds other) whole) ∙ added);
+        },
+      )
+
+pub adds_one : OneCallAddsOne
+adds_one start session (call.AddTorrent m uris options position) now rest meta is none =
+    let chosen = with_settings start.global options in
+    let d : Download = record { gid = next_gid start [] chosen; subject = Listed (box_value m) uris; options = chosen } in
+    lone_after start session now rest none (call.AddTorrent m uris options position) meta d uris refl
+    (ap (λ (x : Meta). Listed x uris) is)
+adds_one start session asked now rest meta is none = absurd is

@@ -1,0 +1,10 @@
+pub mod Answered
+pub mod Faithful
+pub mod Fronts
+pub mod Histories
+pub mod Lengths
+pub mod Owned
+pub mod Rightly
+pub mod Runs
+pub mod Slices
+pub mod Working
