@@ -7,12 +7,14 @@ ghost use Rattle.aria_top.specs.declared.limits.TheConstants.{CONSOLE_DOORS, MAX
 use aria_top::{CONSOLE_DOORS, FinishedRun, Needs, needs_of, run};
 use real_edge::{FileDisk, StdClock, StdOut, TcpDoors, TcpLinks, listen_on};
 use run_readout::{Progress, Terminal, WatchedDisk, WatchedLinks, WatchedSink};
+use self_load::{load_of, run_load};
 use std::io::{ErrorKind, IsTerminal, Stderr};
 use std::net::{Ipv4Addr, SocketAddr, SocketAddrV4, TcpListener};
 use std::process::ExitCode;
 use std::random::RandomSource;
 use std::rt::Env;
 use std::sync::Wait;
+use std::sync::atomic::AtomicBool;
 use std::thread::Threads;
 use std::{env, io};
 
@@ -28,17 +30,31 @@ type Link<'a> = WatchedLinks<'a, TcpLinks<'a, HostRuntime>, RealClock<'a>, Stder
 
 type Door<'a> = TcpDoors<'a, HostRuntime>;
 
+// What the run shares with its edges: how far it has come, and whether it is over.
+#[derive(Drop)]
+struct Shared {
+    progress: Progress,
+    over: AtomicBool,
+}
+
 fn main(rt: HostRuntime) -> ExitCode {
-    let progress = Progress::new();
-    ExitCode::from(download(&rt, &rt, &progress).unwrap_or(NOT_BEGUN))
+    let shared = Shared {
+        progress: Progress::new(),
+        over: AtomicBool::new(false),
+    };
+    ExitCode::from(download(&rt, &rt, &shared).unwrap_or(NOT_BEGUN))
 }
 
 fn download<R: Threads + Wait + Sync>(
     threads: &R,
     rt: &HostRuntime,
-    progress: &Progress,
+    shared: &Shared,
 ) -> io::Result<u8> {
     let words = words(rt)?;
+    if let Some(n) = load_of(&words) {
+        let mut out = StdOut::new(rt.stdout());
+        return Ok(run_load(threads, rt.alloc(), n, &mut out).code());
+    }
     // Words without a meaning need one link, which isn't used.
     let needs = needs_of(rt.alloc(), &words)?.unwrap_or(Needs {
         links: 1,
@@ -46,8 +62,8 @@ fn download<R: Threads + Wait + Sync>(
         port: 0,
     });
     match listener(rt, needs) {
-        Ok(Some(listener)) => run_at(threads, rt, progress, &words, needs, Some(&listener)),
-        Ok(None) => run_at(threads, rt, progress, &words, needs, None),
+        Ok(Some(listener)) => run_at(threads, rt, shared, &words, needs, Some(&listener)),
+        Ok(None) => run_at(threads, rt, shared, &words, needs, None),
         Err(error) => {
             let port = needs.port;
             eprintln!(rt; "aria_cli: can't listen at port {port} of 127.0.0.1: {error}")?;
@@ -59,7 +75,7 @@ fn download<R: Threads + Wait + Sync>(
 fn run_at<'a, R: Threads + Wait + Sync>(
     threads: &R,
     rt: &'a HostRuntime,
-    progress: &'a Progress,
+    shared: &'a Shared,
     words: &[String],
     needs: Needs,
     listener: Option<&'a TcpListener>,
@@ -67,8 +83,9 @@ fn run_at<'a, R: Threads + Wait + Sync>(
     requires { (1 ≤ needs.links) × (needs.links ≤ MAX_LINKS) }
 {
     let alloc = rt.alloc();
-    let links = links(rt, progress, needs.links)?;
-    let doors = doors(rt, listener, needs.doors.min(CONSOLE_DOORS))?;
+    let Shared { progress, over } = shared;
+    let links = links(rt, shared, needs.links)?;
+    let doors = doors(rt, listener, over, needs.doors.min(CONSOLE_DOORS))?;
     let gids = random_number(rt)?;
     let mut out = WatchedSink::new(StdOut::new(rt.stdout()), progress, rt.stderr());
     let disk = WatchedDisk::new(alloc, FileDisk::new(rt), progress);
@@ -79,7 +96,9 @@ fn run_at<'a, R: Threads + Wait + Sync>(
         doors: _doors,
         transcripts: _transcripts,
         journal: _journal,
-    } = run(threads, alloc, words, disk, links, doors, gids, &mut out);
+    } = run(
+        threads, alloc, words, disk, over, links, doors, gids, &mut out,
+    );
     Ok(ending.code())
 }
 
@@ -95,6 +114,7 @@ fn listener(rt: &HostRuntime, needs: Needs) -> io::Result<Option<TcpListener>> {
 fn doors<'a>(
     rt: &'a HostRuntime,
     listener: Option<&'a TcpListener>,
+    over: &'a AtomicBool,
     count: u16,
 ) -> io::Result<Vec<(Door<'a>, RealClock<'a>)>>
     requires { count ≤ CONSOLE_DOORS }
@@ -102,7 +122,7 @@ fn doors<'a>(
 {
     let mut doors = Vec::new(rt.alloc());
     for _ in 0..count {
-        doors.push((TcpDoors::new(rt, listener), StdClock::new(rt)?))?;
+        doors.push((TcpDoors::new(rt, listener, over), StdClock::new(rt)?))?;
     }
     Ok(doors)
 }
@@ -116,7 +136,7 @@ fn random_number(rt: &HostRuntime) -> io::Result<u64> {
 // A line of progress is drawn at each of them, where standard error is a terminal.
 fn links<'a>(
     rt: &'a HostRuntime,
-    progress: &'a Progress,
+    shared: &'a Shared,
     count: u16,
 ) -> io::Result<Vec<(Link<'a>, RealClock<'a>)>>
     requires { (1 ≤ count) × (count ≤ MAX_LINKS) }
@@ -125,7 +145,8 @@ fn links<'a>(
     let alloc = rt.alloc();
     let mut links = Vec::new(alloc);
     for _ in 0..count {
-        let link = WatchedLinks::new(TcpLinks::new(rt), progress, terminal(rt)?);
+        let link = TcpLinks::new(rt, &shared.over);
+        let link = WatchedLinks::new(link, &shared.progress, terminal(rt)?);
         links.push((link, StdClock::new(rt)?))?;
     }
     Ok(links)

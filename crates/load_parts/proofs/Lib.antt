@@ -1,0 +1,4 @@
+pub mod Groups
+pub mod Lines
+pub mod Numbers
+pub mod Texts

@@ -1,0 +1,6 @@
+pub mod Disk
+pub mod Line
+pub mod Links
+pub mod Metainfo
+pub mod Payload
+pub mod Words

@@ -1,0 +1,43 @@
+-- The links of a load, over which its mirrors answer.
+use Rattle.std.specs.Prelude.{◌≡◌, ℕ, ◌+◌, ◌*◌, ◌%◌, false, List, [], ◌∷◌, None, codes}
+use Rattle.link_source.specs.Files.{Bytes}
+use Rattle.link_source.specs.Link.{LinkState}
+use Rattle.link_source.specs.Load.{load_bytes}
+use Rattle.link_source.specs.MemLinks.{failing_numbers, link_faults, link_state}
+use Rattle.link_source.specs.Mirrors.{Content, Mirror}
+use Rattle.link_source.specs.declared.bad_answers.Bad.{Bad}
+use Rattle.link_source.specs.declared.bad_answers.BadKind.TheVariants.{Flip}
+use Rattle.link_source.specs.declared.memory.MemLinks.{MemLinks}
+use Rattle.link_source.specs.declared.mirrors.Manner.TheVariants.{Ranges}
+use Rattle.load_parts.specs.declared.payload.TheConstants.{PIECE, TOTAL}
+
+-- the mirror at this host has the payload
+unfoldable pub load_mirror : ℕ → List ℕ → Mirror
+load_mirror n host = record {
+  host = host;
+  port = 80;
+  files = (codes "/load.bin", Bytes (load_bytes n TOTAL)) ∷ [];
+  manner = Ranges;
+}
+
+unfoldable pub load_mirrors : ℕ → List Mirror
+load_mirrors n = load_mirror n (codes "m0.test") ∷ load_mirror n (codes "m1.test") ∷ load_mirror n (codes "m2.test") ∷ []
+
+-- The one bad answer of a link turns the first byte of a piece, at one of the first two mirrors.
+abbrev pub bad_answer : ℕ → ℕ → Bad
+bad_answer n link = record { mirror = link % 2; kind = Flip ((n + link) % 64 * PIECE) }
+
+-- the mirrors of the load, which have still to give the link's bad answer
+abbrev pub load_content : ℕ → ℕ → Content
+load_content n link = record { mirrors = load_mirrors n; bad = bad_answer n link ∷ []; used = [] }
+
+-- a link that wasn't used yet
+abbrev pub load_state : ℕ → ℕ → LinkState
+load_state n link =
+    record { content = load_content n link; exchanges = []; due = []; peer = None; listens = false }
+
+-- it is the link of this number, and none of its calls will fail
+pub record IsLoadLink (n link : ℕ) (links : MemLinks) : Type 0 where
+  pub state : link_state links ≡ load_state n link
+  pub faults : link_faults links ≡ 0
+  pub sound : failing_numbers links ≡ []

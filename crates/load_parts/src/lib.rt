@@ -1,0 +1,19 @@
+//! What a large load is made of: the word that asks for it, its payload, the mirrors and the disk that it runs over, and
+//! its line.
+#![tactic(auto)]
+
+mod counting;
+mod disk;
+mod line;
+mod links;
+mod metainfo;
+mod payload;
+mod words;
+
+pub use counting::count_right;
+pub use disk::{PAYLOAD, load_disk, payload_on};
+pub use line::{failed_line, whole_line};
+pub use links::{LOAD_LINKS, load_link};
+pub use metainfo::{TORRENT, load_metainfo};
+pub use payload::{PIECE, PIECES, TOTAL, load_digests};
+pub use words::{load_of, load_words};

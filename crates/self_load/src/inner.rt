@@ -1,0 +1,62 @@
+// The run of a load.
+ghost use Rattle.std.specs.Prelude.{◌≡◌, IfOk};
+ghost use Rattle.load_parts.specs.Payload.{digests_of};
+ghost use Rattle.self_load.specs.Inner.{AreLoadLinks, IsInnerRun};
+
+use aria_top::{FinishedRun, run};
+use dl_clock::MemClock;
+use dl_disk::{Disk, MemDisk};
+use dl_kinds::{Digests, MemSink, NoMemory, Sink};
+use door_source::{Doors, MemDoors};
+use link_source::{Links, MemLinks};
+use load_parts::{LOAD_LINKS, load_disk, load_link, load_words};
+use std::alloc::Global;
+use std::sync::Wait;
+use std::sync::atomic::AtomicBool;
+use std::thread::Threads;
+
+/// What is left of it.
+pub(crate) type Inner = FinishedRun<MemDisk, MemLinks, MemClock, MemDoors>;
+
+/// What the ids of its downloads are made from.
+pub(crate) const GIDS: u64 = 1;
+
+fn links(alloc: Global, n: u64) -> Result<Vec<(MemLinks, MemClock)>, NoMemory>
+    ensures { IfOk result (λ links. AreLoadLinks n links.items) }
+{
+    let mut links = Vec::with_capacity(alloc, LOAD_LINKS as usize)?;
+    for link in 0..LOAD_LINKS {
+        links.push((load_link(alloc, n, link)?, MemClock::new(0, 0)))?;
+    }
+    Ok(links)
+}
+
+/// Runs the load of this number, whose pieces have these digests. Its summary isn't shown.
+pub(crate) fn run_inner<R: Threads + Wait + Sync>(
+    rt: &R,
+    alloc: Global,
+    n: u64,
+    digests: &Digests,
+) -> Result<Inner, NoMemory>
+    requires { digests.now ≡ digests_of n }
+    ensures { IfOk result (IsInnerRun ⟦<MemDisk as Disk>⟧ ⟦<MemLinks as Links>⟧ ⟦<MemDoors as Doors>⟧
+        ⟦<MemSink as Sink>⟧ n) }
+{
+    let words = load_words(alloc)?;
+    let disk = load_disk(alloc, digests)?;
+    let links = links(alloc, n)?;
+    let over = AtomicBool::new(false);
+    let mut summary = MemSink::new(alloc, Vec::new(alloc));
+    let doors = Vec::new(alloc);
+    Ok(run(
+        rt,
+        alloc,
+        &words,
+        disk,
+        &over,
+        links,
+        doors,
+        GIDS,
+        &mut summary,
+    ))
+}

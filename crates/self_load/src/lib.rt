@@ -1,0 +1,10 @@
+//! A large load over mirrors, a disk and clocks in memory, which checks itself.
+#![tactic(auto)]
+
+mod inner;
+mod outcome;
+mod running;
+
+pub use load_parts::load_of;
+pub use outcome::Outcome;
+pub use running::run_load;
