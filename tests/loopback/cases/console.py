@@ -6,6 +6,7 @@ import re
 import threading
 import time
 
+from lib.aria2 import Stalling
 from lib.consoles import (
     DOORS,
     TOKEN,
@@ -242,15 +243,32 @@ def _(room):
                 time.sleep(0.1)
             begun = time.monotonic()
             want(console.call("aria2.shutdown") == "OK", "it wasn't shut down")
-            # a client that stays connected is waited for
-            other.close()
         want(time.monotonic() - begun < 10, "it took long")
+        other.close()
         status, wrote = ended
         line = paths(wrote)["a.bin"]
         want((status, line[1]) == (7, "INPR") and int(line[2]) > 0, f"status {status}, {wrote!r}")
         want(room.get("a.bin.aria2") is not None, "nothing was saved")
         room.ends(0, len(LONG), "a.bin", words=[site.url().decode()])
         room.has(LONG, "a.bin")
+
+
+@case("a shutdown ends the run soon, while mirrors are silent and a client waits", slow=True)
+def _(room):
+    with Stalling({"/a.bin": LONG}, 99) as site:
+        with steered(room, "--split=3", "--max-connection-per-server=3", "--min-split-size=1M") as (console, ended):
+            room.torrent(site.url(), LONG, piece_length=MIB // 4)
+            metainfo = base64.b64encode(room.get("t.torrent")).decode()
+            gid = console.call("aria2.addTorrent", metainfo)
+            console.until(gid, {"status": "active", "connections": "3"})
+            idle = Console(console.port)
+            idle.status(gid)
+            begun = time.monotonic()
+            want(console.call("aria2.shutdown") == "OK", "it wasn't shut down")
+        want(time.monotonic() - begun < 5, "it took long")
+        idle.close()
+        status, wrote = ended
+        want(status == 7 and paths(wrote)["a"][1] == "INPR", f"status {status}, {wrote!r}")
 
 
 CALL = b'{"jsonrpc":"2.0","id":1,"method":"aria2.pauseAll"}'

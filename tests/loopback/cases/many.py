@@ -5,8 +5,10 @@ import threading
 import time
 
 from lib.acting import turned
+from lib.aria2 import Stalling
+from lib.consoles import SECRET, bothered
 from lib.killing import Slow, killed, listed_of
-from lib.mirrors import Ending, Site, head
+from lib.mirrors import Ending, Site, free_port, head
 from lib.payloads import LONG, MIB
 from lib.recording import asked_by
 from lib.rooms import PLAIN, case
@@ -135,8 +137,8 @@ def _(room):
         want(wrote.split(b"|")[-4:-2] == [b"0", b"%d" % len(payload)], f"it wrote {wrote!r}")
 
 
-@case("runs over many connections that are killed at random moments, and resumed", slow=True)
-def _(room):
+def want_killed_and_resumed(room, kill):
+    """A run over four connections is killed at random moments, and takes up what is listed each time."""
     chance, payload = random.Random(20), os.urandom(12 * MIB)
     with Slow({"/a.bin": payload}, 4 * MIB) as first, Slow({"/a.bin": payload}, 3 * MIB) as second:
         room.torrent([first.url(), second.url()], payload, piece_length=MIB // 4)
@@ -147,11 +149,49 @@ def _(room):
                 break
             for it in (first, second):
                 it.requests.clear()
-            killed(room, *words, after=chance.uniform(0.05, 0.6))
+            kill(words, chance.uniform(0.05, 0.6))
             again = (first.blocks() | second.blocks()) & listed
             want(not again, f"blocks {sorted(again)[:9]} were listed, and asked for again")
         first.rate = second.rate = None
         room.fetches(payload, anew=False, words=words)
+
+
+@case("runs over many connections that are killed at random moments, and resumed", slow=True)
+def _(room):
+    want_killed_and_resumed(room, lambda words, after: killed(room, *words, after=after))
+
+
+@case("runs over many connections that are killed beside a busy console, and resumed", slow=True)
+def _(room):
+    asked = []
+
+    def kill(words, after):
+        port = free_port("127.0.0.1")
+        console = ["--enable-rpc", f"--rpc-listen-port={port}", f"--rpc-secret={SECRET}"]
+        with bothered(port) as counts:
+            killed(room, *console, *words, after=0.1 + after)
+        asked.extend(counts)
+
+    want_killed_and_resumed(room, kill)
+    want(sum(asked) > 100, f"the console was asked {asked}")
+
+
+@case("a mirror that falls silent in the midst of its claim", slow=True)
+def _(room):
+    payload = LONG * 4
+    with Stalling({"/a.bin": payload}, MIB + 99) as first, Slow({"/a.bin": payload}, 4 * MIB) as second:
+        room.torrent([first.url(), second.url()], payload, piece_length=MIB // 4)
+        room.clear()
+        begun = time.monotonic()
+        status, wrote = room.run("--split=2", *PARTS, "t.torrent", limit=90, leaves=False)
+        seconds = time.monotonic() - begun
+        want(status == 0, f"it ended with {status}, and wrote {wrote!r}")
+        # its last block can't be stolen: it is asked for elsewhere once the silence counts as a loss
+        want(seconds < 75, f"it took {seconds:.1f} seconds")
+        last = max(asked_by(it)[2] for it in first.requests)
+        stolen = [it for it in map(asked_by, second.requests) if it[1] <= last]
+        want(len(stolen) > 2, f"of the silent mirror's claim only {stolen} was asked for elsewhere")
+        room.has(payload)
 
 
 @case("a limit of the speed over many connections", slow=True)

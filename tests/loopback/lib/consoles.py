@@ -2,8 +2,10 @@
 import contextlib
 import http.client
 import json
+import random
 import socket
 import subprocess
+import threading
 import time
 
 from lib.killing import Slow
@@ -170,6 +172,49 @@ def steered(room, *words, secret=SECRET):
         if started.poll() is None:
             started.kill()
             started.communicate()
+
+
+def bother(port, seed, counts):
+    """Asks and steers by chance, one call behind another, until the run is gone. How often is counted."""
+    chance, console = random.Random(seed), Console(port)
+    with contextlib.suppress(OSError, http.client.HTTPException):
+        while not listens(port):
+            time.sleep(0.01)
+        while True:
+            active = [it["gid"] for it in console.call("aria2.tellActive", ["gid"])]
+            asked = chance.choice(("tellActive", "getGlobalStat", "tellStopped", "pauseAll", "changeGlobalOption", "addUri"))
+            if asked == "pauseAll":
+                console.call("aria2.pauseAll")
+                console.call("aria2.unpauseAll")
+            elif asked == "changeGlobalOption":
+                console.call("aria2.changeGlobalOption", {"max-overall-download-limit": chance.choice(("0", "2M"))})
+            elif asked == "addUri":
+                gid = console.call("aria2.addUri", ["http://127.0.0.1:1/x"], {"pause": "true", "out": f"x{seed}"})
+                # another client may have let it go on, and then nobody is at that port
+                with contextlib.suppress(Fault):
+                    console.call("aria2.remove", gid)
+            elif asked == "tellStopped":
+                console.call("aria2.tellStopped", 0, 10)
+            elif asked == "getGlobalStat":
+                console.call("aria2.getGlobalStat")
+            else:
+                for gid in active:
+                    console.call("aria2.tellStatus", gid)
+            counts[seed] += 1
+
+
+@contextlib.contextmanager
+def bothered(port, clients=2):
+    """So many clients ask and steer a run at this port, which is to end within. Told is how often each did."""
+    counts = [0] * clients
+    threads = [threading.Thread(target=bother, args=(port, it, counts)) for it in range(clients)]
+    for it in threads:
+        it.start()
+    try:
+        yield counts
+    finally:
+        for it in threads:
+            it.join(LIMIT)
 
 
 @contextlib.contextmanager
