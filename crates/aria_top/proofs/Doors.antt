@@ -1,10 +1,11 @@
 -- What was done at the doors of a run, and what its history shows of that.
 use Rattle.std.proofs.Common.{◌≡◌, ◌⊎◌, inl, inr, ⊎_elim, ℕ, Bool, true, false, List, [], ◌∷◌, ◌++◌, Some, length, map, refl, sym, ap, ◌∙◌, subst, arith, slice_get}
 use Rattle.std.specs.Prelude.{◌||◌, ◌+◌, if◌then◌else◌, All, Contains}
-use Rattle.std.proofs.lemmas.Bool.{false≢true}
 use Rattle.std.proofs.lemmas.List.Elements.{All-head, All-tail, Contains-append_cases, Contains-append_left, Contains-push_cases}
+use Rattle.brought_runs.proofs.TurnLists.{behind, here}
+use Rattle.brought_runs.proofs.Workers.{ends_so}
 use Rattle.console_session.specs.CallTurns.{IsOfSession, call_turns, is_call, places_by, reply_places}
-use Rattle.console_session.specs.SessionLaws.{RepliesAreOfTheHistory}
+use Rattle.console_session.specs.SessionLaws.{CallsStandWhereReplied, RepliesAreOfTheHistory, call_places}
 use Rattle.console_session.specs.declared.serving.Transcript.{Transcript}
 use Rattle.desk_seats.specs.Uses.{Use}
 use Rattle.desk_seats.proofs.Uses.{map_length}
@@ -12,7 +13,6 @@ use Rattle.dl_disk.specs.declared.disk.Disk.{Ghosts as DiskSays}
 use Rattle.dl_kinds.specs.declared.outside.Sink.{Ghosts as SinkSays}
 use Rattle.dl_kinds.specs.declared.runs.Moment.{Moment}
 use Rattle.door_source.specs.declared.Doors.{Ghosts as DoorSays}
-use Rattle.engine_core.specs.EngineViews.{EngineView}
 use Rattle.engine_turns.specs.Told.{RunTurn}
 use Rattle.engine_turns.specs.TurnLaws.{TurnsAppend}
 use Rattle.engine_turns.specs.declared.operations.Operation.{Operation}
@@ -21,24 +21,26 @@ use Rattle.engine_turns.specs.declared.operations.Said.{Said}
 use Rattle.engine_turns.specs.declared.operations.Said.TheVariants as said
 use Rattle.link_source.specs.declared.Links.{Ghosts as LinkSays}
 use Rattle.machine_core.specs.declared.calls.Call.{Call}
+use Rattle.machine_core.specs.declared.events.Event.{Event}
+use Rattle.machine_core.specs.declared.events.Event.TheVariants.{Called}
 use Rattle.run_replies.specs.declared.kinds.Reply.{Reply}
-use Rattle.run_report.specs.declared.endings.RunEnding.{RunEnding}
 use Rattle.run_report.specs.declared.endings.RunEnding.TheVariants.{NoMemory}
 use Rattle.turn_desk.specs.Turns.{events_of}
 use Rattle.run_frame.specs.Begins.{is_no_memory}
 use Rattle.run_frame.specs.Consoles.{console_of, is_console_on}
-use Rattle.run_frame.specs.Finishes.{EndsBy}
 use Rattle.run_frame.specs.Stops.{all_turns}
 use Rattle.run_frame.specs.declared.console.ConsoleTerms.{ConsoleTerms}
 use Rattle.run_frame.specs.declared.ended.Ended.{Ended}
 use Rattle.run_frame.proofs.Ran as ran_facts
-use Rattle.aria_top.specs.DoorsCauses.{DoorsServed, IsServedDoor, NoneServed, ShowsDoors}
+use Rattle.aria_top.specs.DoorsCauses.{DoorsServed, IsPlaceOfCall, IsServedDoor, NoneServed, ShowsDoors}
 use Rattle.aria_top.specs.Participants.{session_of}
 use Rattle.aria_top.specs.RunsTogether.{RanTogether, RunsTogether, used_edges}
 use Rattle.aria_top.specs.Together.{Edges, NobodyWorked, UsesDoor, WorkedTogether}
 use Rattle.aria_top.proofs.Called.{place_of_call, stands_where_told}
+use Rattle.aria_top.proofs.Calling.{all_named, names_all, nobody_named, none_named}
 use Rattle.aria_top.proofs.Framed.{cut, framed}
-use Rattle.aria_top.proofs.Linked.{behind, here, of_pass}
+use Rattle.aria_top.proofs.Over.{none_mapped, or_middle}
+use Rattle.aria_top.proofs.Passes.{of_pass}
 
 -- ---- calls that were replied to
 
@@ -52,6 +54,9 @@ record RepliedAt (session : ℕ) (turns : List RunTurn) (place : ℕ) : Type 0 w
   reply : Reply
   starved : Bool
   said_is : t.answer.said ≡ said.Replied place reply starved
+
+none_at : {P : Type 0} (place : ℕ) (e : Event) → slice_get [] place ≡ Some e → P
+none_at place e is = absurd cc
 
 no_place : {P : Type 0} (place : ℕ) → Contains [] place → P
 no_place place there = absurd (let within = there.1 in omega (arith, within))
@@ -108,26 +113,10 @@ reply_at session (t ∷ ts) kinds place there =
     by operation.Pulse op_is is within rest = later_reply session t ts place (rest within)
     by other op_is is within rest = absurd is
 
--- ---- ends
-
-or_first : (a b c : Bool) → b ≡ true → (a || (b || c)) ≡ true
-or_first true b c is = refl
-or_first false true c is = refl
-or_first false false c is = absurd (false≢true is)
-
-pub ends_so : {D O : Type 0} (sinks : SinkSays O) (v : EngineView D) (out out' : O) (ending : RunEnding) (short : Bool)
-    → short ≡ true → EndsBy sinks short v out out' ending → ending ≡ NoMemory
-ends_so sinks v out out' ending true is ends = ends.0
-ends_so sinks v out out' ending false is ends = absurd (false≢true is)
-
-none_mapped : {X Y : Type 0} (f : X → Y) (xs : List X) → [] ≡ map f xs → xs ≡ []
-none_mapped f [] is = refl
-none_mapped f (x ∷ xs) is = absurd (let many = ap length is in omega (arith, many))
-
 module _ {D L A K O : Type 0} {says : DiskSays D} {links : LinkSays L} {doors : DoorSays A} {sinks : SinkSays O}
     {words : List (List ℕ)} {gids : ℕ} {disk : D} {olds : Edges L A K} {out : O} {ended : Ended D} {news : Edges L A K}
     {transcripts : List Transcript} {out' : O} where
-  module _ (append : TurnsAppend) (replies : RepliesAreOfTheHistory)
+  module _ (append : TurnsAppend) (replies : RepliesAreOfTheHistory) (stand : CallsStandWhereReplied)
       (ran : RanTogether says links doors sinks words gids disk olds out ended news transcripts out') where
     abbrev on : Bool
     on = ran.begun.console.is_on
@@ -168,22 +157,26 @@ module _ {D L A K O : Type 0} {says : DiskSays D} {links : LinkSays L} {doors : 
     abbrev NoDoor : Type 0
     NoDoor = NoneServed doors words gids olds ended news transcripts
 
-    none_served : (ended.ending ≡ NoMemory) ⊎ (on ≡ false) → news.doors ≡ olds.doors → transcripts ≡ [] → NoDoor
-    none_served why same untold = record {
+    abbrev OwnAlone : Type 0
+    OwnAlone = (session place : ℕ) → IsPlaceOfCall ended.journal.events.items session place → session ≡ 0
+
+    none_served : (ended.ending ≡ NoMemory) ⊎ (on ≡ false) → news.doors ≡ olds.doors → transcripts ≡ [] → OwnAlone → NoDoor
+    none_served why same untold alone = record {
       same = same;
       untold = untold;
       why = ⊎_elim (λ (short : ended.ending ≡ NoMemory). inr (inr short))
           (λ (off : on ≡ false). inr (inl (ran.begins.line, ran.begins.means, sym on_is ∙ off))) why;
+      calls = alone;
     }
 
     by_nobody : (is : Bool) → on ≡ is → Nobody → NoDoor
     by_nobody is same nobody =
         let goes = ran.goes_on.goes in
         let short : (ran.begun.is_short || goes.work_short) ≡ true = ap (λ (b : Bool). ran.begun.is_short || b) goes.works.short_is
-        ∙ or_first ran.begun.is_short goes.works.work_short (is_no_memory goes.works.last.answer.said) nobody.short_is in
+        ∙ or_middle ran.begun.is_short goes.works.work_short (is_no_memory goes.works.last.answer.said) nobody.short_is in
         let kept : (if is then ran.goes_on.used.doors else olds.doors) ≡ olds.doors = by is same in
         none_served (inl (ends_so sinks goes.engine out out' ended.ending (ran.begun.is_short || goes.work_short) short
-        goes.finishes.ends)) (doors_are is same ∙ kept) nobody.untold
+        goes.finishes.ends)) (doors_are is same ∙ kept) nobody.untold (nobody_named stand ran nobody)
       where
         by : (b : Bool) → on ≡ b → (if b then ran.goes_on.used.doors else olds.doors) ≡ olds.doors
         by true is_on = ap (λ (e : Edges L A K). e.doors) nobody.same ∙ were true is_on
@@ -195,6 +188,7 @@ module _ {D L A K O : Type 0} {says : DiskSays D} {links : LinkSays L} {doors : 
         (sym (were false off) ∙ worked.doors_used.olds_are) in
         none_served (inr off) (doors_are false off)
         (worked.doors_used.came_are ∙ ap (map (λ (u : Use A K Transcript). u.came)) none)
+        (none_named stand ran worked none)
 
     -- ---- doors were served
 
@@ -203,8 +197,8 @@ module _ {D L A K O : Type 0} {says : DiskSays D} {links : LinkSays L} {doors : 
 
     served_by : (door : ℕ) (one : Use A K Transcript)
         → UsesDoor D doors (console_of ran.begins.line.globals) turns (length olds.links + door) door one
-        → Served door one
-    served_by door one its =
+        → one.came.places.items ≡ call_places (session_of door) ended.journal.events.items → Served door one
+    served_by door one its whole =
         let session = session_of door in
         let calls = (λ (t : RunTurn) (call : Call) (asked : Moment) (place : ℕ) (reply : Reply) (starved : Bool)
         (there : Contains its.its.before t) (op_is : t.op ≡ operation.Call session call asked)
@@ -220,6 +214,7 @@ module _ {D L A K O : Type 0} {says : DiskSays D} {links : LinkSays L} {doors : 
               (subst (λ (ps : List ℕ). Contains ps place) its.its.serves.places_are there) in
               place_of_call (framed ran) session at.call at.asked place at.reply
               (calls at.t at.call at.asked place at.reply at.starved at.there at.op_is at.said_is);
+          all = whole;
         }
 
     served_door : (worked : Together) (door : ℕ) (one : Use A K Transcript) → slice_get worked.door_uses door ≡ Some one
@@ -231,6 +226,7 @@ module _ {D L A K O : Type 0} {says : DiskSays D} {links : LinkSays L} {doors : 
         (subst (λ (n : ℕ). UsesDoor D doors (console_of ran.begins.line.globals) turns (n + door) door one) many
         (subst (λ (c : ConsoleTerms). UsesDoor D doors c turns (length worked.uses + door) door one)
         ran.begins.console_is (worked.each_door door one there)))
+        (names_all stand ran worked door one there)
 
     by_on : on ≡ true → (worked : Together) → DoorsServed doors words gids olds ended news transcripts
     by_on is_on worked = record {
@@ -248,20 +244,23 @@ module _ {D L A K O : Type 0} {says : DiskSays D} {links : LinkSays L} {doors : 
         came_are = worked.doors_used.came_are;
       };
       each = served_door worked;
+      calls = all_named stand ran worked;
     }
 
     by_work : (is : Bool) → on ≡ is → (worked : Together) → ShowsDoors doors words gids olds ended news transcripts
     by_work true is worked = inr (by_on is worked)
     by_work false off worked = inl (by_off off worked)
 
-  pub shows_doors : TurnsAppend → RepliesAreOfTheHistory
+  pub shows_doors : TurnsAppend → RepliesAreOfTheHistory → CallsStandWhereReplied
       → RunsTogether says links doors sinks words gids disk olds out ended news transcripts out'
       → ShowsDoors doors words gids olds ended news transcripts
-  shows_doors append replies (inl never) = inl (record {
+  shows_doors append replies stand (inl never) = inl (record {
     same = ap (λ (e : Edges L A K). e.doors) never.1;
     untold = never.2;
     why = inl never.0.journal;
+    calls = λ session place is.
+        none_at place (Called session is.0 is.1) (ap (λ (es : List Event). slice_get es place) (sym never.0.journal) ∙ is.2);
   })
-  shows_doors append replies (inr ran) = ⊎_elim
-      (λ worked. by_work append replies ran ran.begun.console.is_on refl worked)
-      (λ nobody. inl (by_nobody append replies ran ran.begun.console.is_on refl nobody)) ran.goes_on.goes.works.worked
+  shows_doors append replies stand (inr ran) = ⊎_elim
+      (λ worked. by_work append replies stand ran ran.begun.console.is_on refl worked)
+      (λ nobody. inl (by_nobody append replies stand ran ran.begun.console.is_on refl nobody)) ran.goes_on.goes.works.worked

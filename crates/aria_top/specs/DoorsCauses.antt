@@ -2,6 +2,7 @@
 use Rattle.std.specs.Prelude.{◌≡◌, ◌⊎◌, ◌≤◌, ◌+◌, ◌++◌, ℕ, Bool, true, false, Contains, List, [], ◌∷◌, Some, length, reverse, slice_get}
 use Rattle.command_line.specs.Lines.{IsLine}
 use Rattle.command_line.specs.declared.line.CommandLine.{CommandLine}
+use Rattle.console_session.specs.SessionLaws.{call_places}
 use Rattle.console_session.specs.declared.serving.Transcript.{Transcript}
 use Rattle.desk_seats.specs.Uses.{AreUsed, Use}
 use Rattle.dl_kinds.specs.declared.runs.Moment.{Moment}
@@ -41,6 +42,14 @@ abbrev pub IsPlaceOfCall : List Event → ℕ → ℕ → Type 0
 IsPlaceOfCall events session place =
     (call : Call) × (now : Moment) × (slice_get events place ≡ Some (Called session call now))
 
+-- the transcript of the session's door names this place
+pub record IsNamedPlace {A K : Type 0} (uses : List (Use A K Transcript)) (session place : ℕ) : Type 0 where
+  pub door : ℕ
+  pub one : Use A K Transcript
+  pub is : slice_get uses door ≡ Some one
+  pub by : session ≡ session_of door
+  pub named : Contains one.came.places.items place
+
 -- ---- doors
 
 -- the words mean a line that doesn't turn the console on
@@ -49,15 +58,18 @@ LacksConsole words = (line : CommandLine) × IsLine words line × (is_console_on
 
 module _ {D L A K : Type 0} (doors : DoorSays A) (words : List (List ℕ)) (gids : ℕ) (olds : Edges L A K)
     (ended : Ended D) (news : Edges L A K) (transcripts : List Transcript) where
-  -- No door was served, and each is as it was: the run ended before it began, its console is off, or memory was wanting.
+  -- No door was served, and each is as it was: the run ended before it began, its console is off, or memory was wanting. No
+  -- call is in the history but the line's own, of session 0.
   pub record NoneServed : Type 0 where
     pub same : news.doors ≡ olds.doors
     pub untold : transcripts ≡ []
     pub why : (ended.journal.events.items ≡ []) ⊎ LacksConsole words ⊎ (ended.ending ≡ NoMemory)
+    pub calls : (session place : ℕ) → IsPlaceOfCall ended.journal.events.items session place → session ≡ 0
 
   module _ (line : CommandLine) (turns : List RunTurn) where
     -- The session served the door by its own turns. Each of its calls that was replied to stands in the history where the
-    -- reply says, and the reply is that of the history before it; in the transcript are the places of calls of the session.
+    -- reply says, and the reply is that of the history before it. In the transcript are the places of calls of the session,
+    -- and all of them, in order.
     pub record IsServedDoor (door : ℕ) (used : Use A K Transcript) : Type 0 where
       pub its : UsesDoor D doors (console_of line.globals) turns (length olds.links + door) door used
       pub calls : (t : RunTurn) (call : Call) (asked : Moment) (place : ℕ) (reply : Reply) (starved : Bool)
@@ -67,9 +79,10 @@ module _ {D L A K : Type 0} (doors : DoorSays A) (words : List (List ℕ)) (gids
           (session_of door) call asked place reply
       pub places : (place : ℕ) → Contains used.came.places.items place
           → IsPlaceOfCall ended.journal.events.items (session_of door) place
+      pub all : used.came.places.items ≡ call_places (session_of door) ended.journal.events.items
 
   -- The console is on. Turns came, and a last one that stops the run; their events are the history, and among them are those
-  -- that serve the doors.
+  -- that serve the doors. Each call in the history is the line's own, of session 0, or in the transcript of its session's door.
   pub record DoorsServed : Type 0 where
     pub line : CommandLine
     pub means : IsLine words line
@@ -82,6 +95,8 @@ module _ {D L A K : Type 0} (doors : DoorSays A) (words : List (List ℕ)) (gids
     pub used : AreUsed olds.doors news.doors transcripts uses
     pub each : (door : ℕ) (one : Use A K Transcript) → slice_get uses door ≡ Some one
         → IsServedDoor line turns door one
+    pub calls : (session place : ℕ) → IsPlaceOfCall ended.journal.events.items session place
+        → (session ≡ 0) ⊎ IsNamedPlace uses session place
 
   abbrev pub ShowsDoors : Type 0
   ShowsDoors = NoneServed ⊎ DoorsServed

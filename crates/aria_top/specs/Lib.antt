@@ -1,9 +1,6 @@
 pub mod Participants
 pub mod Together
 pub mod RunsTogether
-pub mod LinksCauses
 pub mod LinksLeft
-pub mod Served
-pub mod Completes
 pub mod DoorsCauses
 pub mod Needs

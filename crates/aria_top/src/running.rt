@@ -1,5 +1,8 @@
 // A run over all links and doors.
 ghost use Rattle.std.specs.Prelude.{◌≡◌, ◌≤◌, ◌||◌, IsTrue, length, map, string_bytes};
+ghost use Rattle.brought_runs.specs.Completes.{CompletesServed};
+ghost use Rattle.brought_runs.specs.LinksCauses.{ShowsLinks};
+ghost use Rattle.brought_runs.specs.Served.{SparesServing};
 ghost use Rattle.run_frame.specs.DiskCauses.{LeavesOtherFiles, ShowsDisk};
 ghost use Rattle.run_frame.specs.Endings.{EndsAsShown};
 ghost use Rattle.run_frame.specs.Histories.{IsHistory};
@@ -7,33 +10,29 @@ ghost use Rattle.run_frame.specs.Printing.{PrintsText};
 ghost use Rattle.run_frame.specs.Survivals.{SurvivesRun};
 ghost use Rattle.aria_top.specs.declared.limits.TheConstants.{CONSOLE_DOORS, MAX_LINKS};
 ghost use Rattle.aria_top.specs.DoorsCauses.{ShowsDoors};
-ghost use Rattle.aria_top.specs.LinksCauses.{ShowsLinks};
 ghost use Rattle.aria_top.specs.LinksLeft.{LeavesLinks};
-ghost use Rattle.aria_top.specs.Completes.{CompletesServed};
-ghost use Rattle.aria_top.specs.Served.{SparesServing};
 ghost use Rattle.aria_top.specs.RunsTogether.{GoesOnBegun, GoesTogether, RunsTogether, edges, edges_left, ended_run};
 ghost use Rattle.aria_top.specs.Together.{ComesFirst};
 
 use crate::finished::FinishedRun;
 use crate::work::{Work, work_through};
-use blameless_mirrors::{faithful_mirrors_are_blameless, lone_downloads_end_well};
-use brought_runs::{brought_runs_end_well, finished_runs_are_done, one_call_adds_one_download};
-use command_line::lines_are_one;
+use brought_runs::{
+    runs_complete_what_is_served, runs_show_their_links, runs_spare_serving_mirrors,
+};
 use conn_worker::turns_bring_what_came;
-use console_session::{Transcript, replies_are_of_the_history};
+use console_session::{Transcript, calls_stand_where_replied, replies_are_of_the_history};
 use dl_clock::Clock;
 use dl_disk::Disk;
 use dl_kinds::Sink;
 use door_source::Doors;
 use engine_turns::turns_tell_runs;
 use link_source::Links;
-use machine_core::{Journal, downloads_stay};
+use machine_core::Journal;
 use run_frame::{
-    Begun, Ended, Unbegun, begin, begun_runs_are_stopped, finish, losses_come_of_workers, refuse,
-    runs_end_as_shown, runs_have_whole_histories, runs_leave_other_files, runs_print_one_text,
-    runs_show_their_disk, runs_survive_crashes, unbegun_runs_only_read, workers_show_their_link,
+    Begun, Ended, Unbegun, begin, begun_runs_are_stopped, finish, refuse, runs_end_as_shown,
+    runs_have_whole_histories, runs_leave_other_files, runs_print_one_text, runs_show_their_disk,
+    runs_survive_crashes, unbegun_runs_only_read,
 };
-use served_claims::runs_are_faithful;
 use std::alloc::Global;
 use std::sync::Wait;
 use std::sync::atomic::AtomicBool;
@@ -231,15 +230,16 @@ pub fn run<
         (length doors.items) links.items result.links.items (ended_run result) }
     // What is served comes: a run whose links lead to all of a metainfo file's payload is done, unless it was cut short.
     ensures completes { IsTrue D.tells → IsTrue L.tells → CompletesServed D.Disk L.Links O.Sink
-        (map string_bytes words.now) disk (edges links.items doors.items) out.old (ended_run result)
-        (edges_left result) out.new }
+        (map string_bytes words.now) disk links.items out.old (ended_run result) result.links.items
+        out.new }
     // What is complete has its digests, and nothing that was promised is lost by a crash.
     ensures survives { IsTrue D.tells → SurvivesRun D.Disk (map string_bytes words.now) gids
         (length doors.items) disk (ended_run result) }
     // Nothing else is touched, and each link keeps its place.
     ensures untouched { LeavesLinks D.Disk L.Links disk links.items (ended_run result)
         result.links.items }
-    // Each door was served by the session of its number, and what its clients were told is of the one history; or none was.
+    // Each door was served by the session of its number, and what its clients were told is of the one history, all calls of
+    // which are theirs or the line's own; or none was.
     ensures doors { ShowsDoors A.Doors (map string_bytes words.now) gids
         (edges links.items doors.items) (ended_run result) (edges_left result)
         result.transcripts.items }
@@ -250,21 +250,15 @@ pub fn run<
     runs_have_whole_histories::<D, O>();
     runs_show_their_disk::<D, O>();
     runs_leave_other_files::<D, O>();
-    losses_come_of_workers::<D, O>();
-    workers_show_their_link::<D, L, O>();
-    runs_are_faithful::<D, L, O>();
-    brought_runs_end_well::<D, O>();
-    faithful_mirrors_are_blameless::<D>();
-    finished_runs_are_done::<D, O>();
-    one_call_adds_one_download();
-    lone_downloads_end_well();
-    lines_are_one();
-    downloads_stay();
+    runs_show_their_links::<D, L, K, O>();
+    runs_spare_serving_mirrors::<D, L, K, O>();
+    runs_complete_what_is_served::<D, L, K, O>();
     runs_survive_crashes::<D, O>();
     unbegun_runs_only_read::<D, O>();
     turns_bring_what_came();
     turns_tell_runs();
     replies_are_of_the_history();
+    calls_stand_where_replied();
     let Left {
         ended,
         links,

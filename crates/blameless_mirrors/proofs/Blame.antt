@@ -15,7 +15,7 @@ use Rattle.machine_core.specs.declared.events.Event.TheVariants.{Lost, Settled}
 use Rattle.metainfo.specs.declared.meta.Meta.{Meta}
 use Rattle.mirror_payloads.specs.Faithful.{IsFaithful}
 use Rattle.piece_table.specs.declared.giver.Giver.TheVariants.{One}
-use Rattle.run_promises.proofs.Completed.{lengths_told}
+use Rattle.blameless_mirrors.proofs.ListedLengths.{lengths_told}
 use Rattle.std.specs.Option.{option_and_then}
 use Rattle.stored_run.specs.RunFollows.{RunFollows}
 use Rattle.blameless_mirrors.specs.Blameless.{DeliveredAreRead, HasFailedLink, IsBroughtBy, IsListedAlone, IsPayloadOf, MarksAreOfLinks, NeverEndDead, StayEligible, WrongFindingsArentTheirs}

@@ -41,7 +41,7 @@ use Rattle.payload_files.specs.Payload.{HasFiles}
 use Rattle.piece_table.specs.Changes.{Absent, From, is_in, is_present}
 use Rattle.resume_core.proofs.RunBytes.{block_in_run, one_block}
 use Rattle.resume_core.specs.Runs.{run_len}
-use Rattle.run_promises.proofs.Completed.{known_listed, lengths_told}
+use Rattle.blameless_mirrors.proofs.ListedLengths.{known_listed, lengths_told}
 use Rattle.span_map.specs.Jobs.{IsRun, run_end, run_start}
 use Rattle.std.specs.Option.{option_and_then}
 use Rattle.stored_run.proofs.PartBytes.{ends_rise, starts_rise}

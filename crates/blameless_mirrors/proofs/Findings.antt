@@ -30,7 +30,7 @@ use Rattle.payload_files.specs.Payload.{HasFiles}
 use Rattle.piece_table.specs.declared.giver.Giver.TheVariants.{One}
 use Rattle.resume_core.specs.Resume.{HasDigest, piece_payload}
 use Rattle.resume_core.specs.Wants.{files_in}
-use Rattle.run_promises.proofs.Completed.{lengths_told}
+use Rattle.blameless_mirrors.proofs.ListedLengths.{lengths_told}
 use Rattle.sha1.specs.Sha1.{sha1}
 use Rattle.stored_run.proofs.Doing.{history_on}
 use Rattle.stored_run.proofs.Left.{one_of}

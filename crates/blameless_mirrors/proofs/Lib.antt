@@ -1,3 +1,4 @@
+pub mod ListedLengths
 pub mod Sources
 pub mod Givers
 pub mod PayloadBytes

@@ -18,7 +18,7 @@ use Rattle.machine_core.specs.declared.ends.End.TheVariants as end
 use Rattle.machine_core.specs.declared.events.Event.{Event}
 use Rattle.machine_core.specs.declared.events.Event.TheVariants.{Called, Opened, Sized, Claimed, Landed, Settled, Cleared, Lost, Checked, Saved, Ended, Left, Stopped}
 use Rattle.metainfo.specs.declared.meta.Meta.{Meta}
-use Rattle.run_promises.proofs.Completed.{lengths_told}
+use Rattle.blameless_mirrors.proofs.ListedLengths.{lengths_told}
 use Rattle.std.specs.Option.{option_and_then}
 use Rattle.stored_run.proofs.Left.{one_of}
 use Rattle.stored_run.proofs.PlainEvents.{gid_added}

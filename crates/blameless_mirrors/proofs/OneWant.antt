@@ -29,7 +29,7 @@ plan_prop total len a b = λ i. record {
 }
 
 -- a plan is known by its lengths
-plans_same : (a b : Plan) → a.total ≡ b.total → a.piece_len ≡ b.piece_len → a ≡ b
+pub plans_same : (a b : Plan) → a.total ≡ b.total → a.piece_len ≡ b.piece_len → a ≡ b
 plans_same a b total len =
     let pieces : a.pieces ≡ b.pieces = a.pieces_are ∙ ((λ i. pieces_of (total i) (len i)) ∙ sym b.pieces_are) in
     let Made = λ (t l p : ℕ) (are : p ≡ pieces_of t l) (is : IsPlan t l) (fits : t ≤ MAX_PAYLOAD_LEN).

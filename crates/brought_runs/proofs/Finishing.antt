@@ -24,7 +24,7 @@ use Rattle.engine_turns.specs.Phases.{TurnStart}
 use Rattle.engine_turns.specs.RunTurns.{MayComeAfter, OperationRow, asks_for_work, is_nearly_full, needs_entries, takes_memory, turn_start}
 use Rattle.engine_turns.specs.SealRows.{IsSettled, SealRow}
 use Rattle.engine_turns.specs.Standings.{AnswersOnly, AnswersUnlessStarved, IsHomeOf, OfClaim, RunStanding, standing_after}
-use Rattle.engine_turns.specs.Told.{RunTurn, history_of}
+use Rattle.engine_turns.specs.Told.{RunTurn, history_after, history_of}
 use Rattle.engine_turns.specs.declared.operations.Operation.{Operation}
 use Rattle.engine_turns.specs.declared.operations.Operation.TheVariants as operation
 use Rattle.engine_turns.specs.declared.operations.Said.{Said}
@@ -41,7 +41,6 @@ use Rattle.machine_core.specs.declared.events.Event.{Event}
 use Rattle.machine_core.specs.declared.events.Event.TheVariants.{Called, Checked, Claimed, Cleared, Ended, Landed, Left, Lost, Opened, Saved, Settled, Sized, Stopped}
 use Rattle.machine_core.specs.declared.offers.Offer.{Offer}
 use Rattle.machine_core.specs.declared.offers.Offer.TheVariants as offer
-use Rattle.stored_run.proofs.Between.{after_front}
 use Rattle.verify_piece.specs.Seals.{PieceBytes}
 use Rattle.brought_runs.specs.Ends.{HasNoCall}
 
@@ -293,6 +292,12 @@ shut_on start base (Left ∷ newer) none is = shut_on start base newer (no_call_
 shut_on start base (Stopped ∷ newer) none is = shut_on start base newer (no_call_behind Stopped newer none) is
 
 -- ---- turns behind others
+
+after_front : (base events : List Event) → (front : List Event) × (history_after base events ≡ front ++ base)
+after_front base [] = ([], refl)
+after_front base (e ∷ events) =
+    let rest = after_front (e ∷ base) events in
+    (rest.0 ++ e ∷ [], rest.1 ∙ sym (append_assoc rest.0 (e ∷ []) base))
 
 pub events_behind : (newer before : List RunTurn) → (events : List Event) × (history_of (newer ++ before) ≡ events ++ history_of before)
 events_behind [] before = ([], refl)

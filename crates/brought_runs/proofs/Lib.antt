@@ -3,3 +3,16 @@ pub mod Endings
 pub mod Finishing
 pub mod Done
 pub mod OneCall
+pub mod TurnLists
+pub mod TurnCalls
+pub mod WorkEnds
+pub mod Workers
+pub mod Linked
+pub mod Spared
+pub mod FirstAdded
+pub mod Metas
+pub mod LineOptions
+pub mod Histories
+pub mod FileCalls
+pub mod Unbegun
+pub mod Completed

@@ -1,1 +1,6 @@
 pub mod Ends
+pub mod Over
+pub mod LinksCauses
+pub mod Served
+pub mod Completes
+pub mod OverLaws

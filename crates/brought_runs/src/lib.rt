@@ -1,6 +1,8 @@
-//! Runs to which a mirror brings all that a metainfo file lists: how they end. Laws alone.
+//! Runs to which mirrors bring what they serve: what is held against these mirrors, and how such runs end. Laws alone.
 #![tactic(auto)]
 
 mod laws;
+mod over;
 
 pub use laws::{brought_runs_end_well, finished_runs_are_done, one_call_adds_one_download};
+pub use over::{runs_complete_what_is_served, runs_show_their_links, runs_spare_serving_mirrors};

@@ -1,3 +1,3 @@
 pub mod Framed
-pub mod Linked
+pub mod OneLink
 pub mod Used

@@ -1,5 +1,7 @@
 // A run over one link.
-ghost use Rattle.std.specs.Prelude.{◌≡◌, ◌≤◌, IsTrue, length, map, string_bytes};
+ghost use Rattle.std.specs.Prelude.{◌≡◌, ◌≤◌, IsTrue, length, map, string_bytes, take};
+ghost use Rattle.brought_runs.specs.Completes.{CompletesServed};
+ghost use Rattle.brought_runs.specs.Served.{SparesServing};
 ghost use Rattle.run_frame.specs.DiskCauses.{LeavesOtherFiles, ShowsDisk};
 ghost use Rattle.run_frame.specs.Endings.{EndsAsShown};
 ghost use Rattle.run_frame.specs.Histories.{IsHistory};
@@ -11,14 +13,17 @@ ghost use Rattle.solo_run.specs.LinkCauses.{ShowsFirstLink};
 ghost use Rattle.solo_run.specs.Untouched.{LeavesUnused};
 
 use crate::over::run_over;
+use brought_runs::{
+    runs_complete_what_is_served, runs_show_their_links, runs_spare_serving_mirrors,
+};
 use dl_clock::Clock;
 use dl_disk::Disk;
 use dl_kinds::Sink;
 use link_source::Links;
 use run_frame::{
-    Ended, Finished, begun_runs_are_stopped, losses_come_of_workers, runs_end_as_shown,
-    runs_have_whole_histories, runs_leave_other_files, runs_print_one_text, runs_show_their_disk,
-    runs_survive_crashes, unbegun_runs_only_read, workers_show_their_link,
+    Ended, Finished, begun_runs_are_stopped, runs_end_as_shown, runs_have_whole_histories,
+    runs_leave_other_files, runs_print_one_text, runs_show_their_disk, runs_survive_crashes,
+    unbegun_runs_only_read,
 };
 use std::alloc::Global;
 
@@ -52,6 +57,13 @@ pub fn run_alone<D: Disk, L: Links, K: Clock, A, O: Sink>(
     // What it tells of the link came over it.
     ensures link { ShowsFirstLink L.Links (map string_bytes words.now) gids
         result.journal.events.items links.items result.links.items }
+    // A mirror that serves a payload over the first link is held to account for faults of the link alone.
+    ensures marks { IsTrue L.tells → SparesServing D.Disk L.Links (map string_bytes words.now) gids
+        0 (take 1 links.items) (take 1 result.links.items) (ended_of result) }
+    // What is served comes: a run whose link leads to all of a metainfo file's payload is done, unless it was cut short.
+    ensures completes { IsTrue D.tells → IsTrue L.tells → CompletesServed D.Disk L.Links O.Sink
+        (map string_bytes words.now) disk (take 1 links.items) out.old (ended_of result)
+        (take 1 result.links.items) out.new }
     // What is complete has its digests, and nothing that was promised is lost by a crash.
     ensures survives { IsTrue D.tells
         → SurvivesRun D.Disk (map string_bytes words.now) gids 0 disk (ended_of result) }
@@ -65,8 +77,9 @@ pub fn run_alone<D: Disk, L: Links, K: Clock, A, O: Sink>(
     runs_have_whole_histories::<D, O>();
     runs_show_their_disk::<D, O>();
     runs_leave_other_files::<D, O>();
-    losses_come_of_workers::<D, O>();
-    workers_show_their_link::<D, L, O>();
+    runs_show_their_links::<D, L, K, O>();
+    runs_spare_serving_mirrors::<D, L, K, O>();
+    runs_complete_what_is_served::<D, L, K, O>();
     runs_survive_crashes::<D, O>();
     unbegun_runs_only_read::<D, O>();
     let mut links = links;

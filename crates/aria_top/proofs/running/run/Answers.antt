@@ -1,8 +1,6 @@
-use Rattle.aria_top.proofs.Completed.{completes_served}
 use Rattle.aria_top.proofs.Doors.{shows_doors}
 use Rattle.aria_top.proofs.Framed.{whole}
-use Rattle.aria_top.proofs.Linked.{shows_links}
-use Rattle.aria_top.proofs.Spared.{spares_serving}
+use Rattle.aria_top.proofs.Over.{over}
 use Rattle.aria_top.proofs.Untouched.{leaves_links}
 use Rattle.aria_top.proofs.running.run.Goals as goal
 
@@ -26,8 +24,7 @@ returns-clause-survives g c = c.runs_survive_crashes.ensures _ _ _ _ _ _ _ (whol
 
 pub returns-clause-links : goal.returns-clause-links
 returns-clause-links g c =
-    shows_links c.losses_come_of_workers.ensures.lost c.losses_come_of_workers.ensures.sized
-    c.workers_show_their_link.ensures.lost c.workers_show_their_link.ensures.sized c.run_through-ended.ensures
+    c.runs_show_their_links.ensures _ _ _ _ _ _ _ _ _ (over c.requires.links.0 c.run_through-ended.ensures)
 
 pub returns-clause-untouched : goal.returns-clause-untouched
 returns-clause-untouched g c =
@@ -36,25 +33,14 @@ returns-clause-untouched g c =
 
 pub returns-clause-doors : goal.returns-clause-doors
 returns-clause-doors g c =
-    shows_doors c.turns_tell_runs.ensures.appended c.replies_are_of_the_history.ensures c.run_through-ended.ensures
+    shows_doors c.turns_tell_runs.ensures.appended c.replies_are_of_the_history.ensures c.calls_stand_where_replied.ensures
+    c.run_through-ended.ensures
 
 pub returns-clause-marks : goal.returns-clause-marks
 returns-clause-marks g c =
-    spares_serving c.runs_are_faithful.ensures c.brought_runs_end_well.ensures.told
-    c.faithful_mirrors_are_blameless.ensures.findings c.run_through-ended.ensures
+    c.runs_spare_serving_mirrors.ensures _ _ _ _ _ _ _ _ _ (over c.requires.links.0 c.run_through-ended.ensures)
 
 pub returns-clause-completes : goal.returns-clause-completes
 returns-clause-completes g c =
-    completes_served (record {
-      append = c.turns_tell_runs.ensures.appended;
-      stay = c.downloads_stay.ensures.downloads;
-      lines = c.lines_are_one.ensures;
-      faithful = c.runs_are_faithful.ensures;
-      well = c.brought_runs_end_well.ensures.ends;
-      done = c.finished_runs_are_done.ensures;
-      one = c.one_call_adds_one_download.ensures;
-      alone = c.lone_downloads_end_well.ensures.alone;
-      shown = c.runs_end_as_shown.ensures;
-    }) c.requires.links.0 c.run_through-ended.ensures
-    (shows_links c.losses_come_of_workers.ensures.lost c.losses_come_of_workers.ensures.sized
-    c.workers_show_their_link.ensures.lost c.workers_show_their_link.ensures.sized c.run_through-ended.ensures)
+    c.runs_complete_what_is_served.ensures _ _ _ _ _ _ _ _ _ (over c.requires.links.0 c.run_through-ended.ensures)
+    c.requires.links.0

@@ -1,8 +1,10 @@
-use Rattle.std.proofs.Common.{◌≡◌, ap, ◌∙◌, slice_index_or, slice_set, subst}
-use Rattle.std.specs.Prelude.{map, string_bytes}
+use Rattle.std.proofs.Common.{◌≡◌, ap, ◌∙◌, slice_index_or, slice_set, subst, arith}
+use Rattle.std.specs.Prelude.{IsTrue, map, string_bytes}
+use Rattle.brought_runs.specs.Completes.{CompletesServed}
+use Rattle.brought_runs.specs.Served.{SparesServing}
 use Rattle.solo_run.specs.Runs.{RunsOver}
 use Rattle.solo_run.proofs.Framed.{whole}
-use Rattle.solo_run.proofs.Linked.{shows_link}
+use Rattle.solo_run.proofs.OneLink.{of_first_alone, over, shows_one}
 use Rattle.solo_run.proofs.Used.{leaves_unused, of_first, unused_pair}
 use Rattle.solo_run.proofs.run.run_alone.Goals as goal
 
@@ -46,10 +48,33 @@ returns-clause-survives g c = c.runs_survive_crashes.ensures _ _ _ _ _ _ _ (whol
 
 pub returns-clause-link : goal.returns-clause-link
 returns-clause-link g c =
-    of_first _ _ c.index_mut.result.now
-    (c.run_over-ending.new.link, c.run_over-ending.new.clock) c.index_mut.ensures.value
-    (shows_link c.losses_come_of_workers.ensures.lost c.losses_come_of_workers.ensures.sized
-    c.workers_show_their_link.ensures.lost c.workers_show_their_link.ensures.sized c.run_over-ending.ensures.runs)
+    let pair = c.index_mut.result.now in
+    of_first _ _ pair (c.run_over-ending.new.link, c.run_over-ending.new.clock) c.index_mut.ensures.value
+    (shows_one _ pair (c.run_over-ending.new.link, c.run_over-ending.new.clock)
+    (c.runs_show_their_links.ensures _ _ _ _ _ _ _ _ _
+    (over pair (c.run_over-ending.new.link, c.run_over-ending.new.clock) c.run_over-ending.ensures.runs)))
+
+pub returns-clause-marks : goal.returns-clause-marks
+returns-clause-marks g c =
+    let pair = c.index_mut.result.now in
+    of_first_alone
+    (λ olds news. IsTrue g.L.Links.tells → SparesServing g.D.Disk g.L.Links (map string_bytes c.args.words.now)
+    c.args.gids 0 olds news c.run_over-ending.result)
+    _ pair (c.run_over-ending.new.link, c.run_over-ending.new.clock) c.requires c.index_mut.ensures.value
+    (c.runs_spare_serving_mirrors.ensures _ _ _ _ _ _ _ _ _
+    (over pair (c.run_over-ending.new.link, c.run_over-ending.new.clock) c.run_over-ending.ensures.runs))
+
+pub returns-clause-completes : goal.returns-clause-completes
+returns-clause-completes g c =
+    let pair = c.index_mut.result.now in
+    of_first_alone
+    (λ olds news. IsTrue g.D.Disk.tells → IsTrue g.L.Links.tells → CompletesServed g.D.Disk g.L.Links g.O.Sink
+    (map string_bytes c.args.words.now) c.args.disk olds c.args.out.now c.run_over-ending.result news
+    c.run_over-ending.new.out)
+    _ pair (c.run_over-ending.new.link, c.run_over-ending.new.clock) c.requires c.index_mut.ensures.value
+    (c.runs_complete_what_is_served.ensures _ _ _ _ _ _ _ _ _
+    (over pair (c.run_over-ending.new.link, c.run_over-ending.new.clock) c.run_over-ending.ensures.runs)
+    (omega arith))
 
 pub returns-clause-untouched : goal.returns-clause-untouched
 returns-clause-untouched g c =

@@ -34,7 +34,7 @@ use Rattle.machine_core.specs.declared.offers.Offer.TheVariants as offer
 use Rattle.verify_piece.specs.Seals.{PieceBytes}
 use Rattle.run_frame.specs.Begins.{is_no_memory}
 use Rattle.brought_runs.specs.Ends.{HasNoCall}
-use Rattle.aria_top.proofs.Linked.{IsWork}
+use Rattle.brought_runs.specs.Over.{IsWork}
 
 -- the event is of a download
 abbrev pub IsOfOne : Event → Type 0

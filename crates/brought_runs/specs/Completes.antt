@@ -22,8 +22,7 @@ use Rattle.metainfo.specs.Info.{info_of}
 use Rattle.metainfo.specs.declared.meta.Meta.{Meta}
 use Rattle.run_frame.specs.declared.ended.Ended.{Ended}
 use Rattle.run_report.specs.declared.endings.RunEnding.TheVariants.{Done, NoMemory}
-use Rattle.aria_top.specs.Served.{AllServe}
-use Rattle.aria_top.specs.Together.{Edges}
+use Rattle.brought_runs.specs.Served.{AllServe}
 
 -- ---- what is given
 
@@ -41,14 +40,14 @@ pub record NamesPayload (words : List (List ℕ)) (seen : Files) (line : Command
   pub says : Says (seen file) (info_of meta)
   pub few : length meta.seeds + length uris ≤ MAX_MIRRORS
 
-module _ {D L A K O : Type 0} (says : DiskSays D) (links : LinkSays L) (sinks : SinkSays O) (words : List (List ℕ)) (disk : D)
-    (olds : Edges L A K) (out : O) (ended : Ended D) (news : Edges L A K) (out' : O) where
+module _ {D L K O : Type 0} (says : DiskSays D) (links : LinkSays L) (sinks : SinkSays O) (words : List (List ℕ)) (disk : D)
+    (olds : List (L × K)) (out : O) (ended : Ended D) (news : List (L × K)) (out' : O) where
   -- no call of the disk, of a link or of the output failed
   pub record HadNoFaults : Type 0 where
     pub of_disk : HadNoFault (says.faults disk) (says.faults ended.disk)
     pub of_output : HadNoFault (sinks.faults out) (sinks.faults out')
-    pub of_links : (place : ℕ) (old new : L × K) → slice_get olds.links place ≡ Some old
-        → slice_get news.links place ≡ Some new → HadNoFault (links.faults old.0) (links.faults new.0)
+    pub of_links : (place : ℕ) (old new : L × K) → slice_get olds place ≡ Some old
+        → slice_get news place ≡ Some new → HadNoFault (links.faults old.0) (links.faults new.0)
 
   -- The line names a metainfo file, of which this is the payload. One of its mirrors serves all of it rightly over each link,
   -- as it was given. No control file stands, and nothing fails.
@@ -57,36 +56,39 @@ module _ {D L A K O : Type 0} (says : DiskSays D) (links : LinkSays L) (sinks : 
     pub names : NamesPayload words (says.state disk).seen line meta uris
     pub of : IsPayloadOf meta payload
     pub known : mirror < length meta.seeds + length uris
-    pub serve : AllServe links olds.links (Listed meta uris) mirror payload
+    pub serve : AllServe links olds (Listed meta uris) mirror payload
     pub fresh : (name : List ℕ) → (says.state disk).seen (name ++ codes ".aria2") ≡ None
     pub well : HadNoFaults
 
-  -- ---- what comes
+-- ---- what comes
 
-  -- it ended by a full journal, or after as many turns as a worker takes
-  abbrev pub IsCutShort : Result WorkEnd Spent → Type 0
-  IsCutShort (Ok JournalFull) = Unit {0}
-  IsCutShort (Err spent) = Unit {0}
-  IsCutShort other = ⊥
+-- it ended by a full journal, or after as many turns as a worker takes
+abbrev pub IsCutShort : Result WorkEnd Spent → Type 0
+IsCutShort (Ok JournalFull) = Unit {0}
+IsCutShort (Err spent) = Unit {0}
+IsCutShort other = ⊥
 
-  -- the work over a link did
-  pub record WasCutShort : Type 0 where
-    pub place : ℕ
-    pub old : L × K
-    pub new : L × K
-    pub old_is : slice_get olds.links place ≡ Some old
-    pub new_is : slice_get news.links place ≡ Some new
-    pub from : RunSight D
-    pub to : RunSight D
-    pub came : Result WorkEnd Spent
-    pub its : Worked links place from old.0 to new.0 came
-    pub why : IsCutShort came
+-- the work over a link did
+pub record WasCutShort {L K : Type 0} (D : Type 0) (links : LinkSays L) (olds news : List (L × K)) : Type 0 where
+  pub place : ℕ
+  pub old : L × K
+  pub new : L × K
+  pub old_is : slice_get olds place ≡ Some old
+  pub new_is : slice_get news place ≡ Some new
+  pub from : RunSight D
+  pub to : RunSight D
+  pub came : Result WorkEnd Spent
+  pub its : Worked links place from old.0 to new.0 came
+  pub why : IsCutShort came
 
-  -- the run is done, and its download complete
-  abbrev pub IsDone : Type 0
-  IsDone = (ended.ending ≡ Done) × (gid : Gid) × Contains ended.journal.events.items (event.Ended gid Complete)
+-- the run is done, and its download complete
+abbrev pub IsDone : {D : Type 0} → Ended D → Type 0
+IsDone {D} ended = (ended.ending ≡ Done) × (gid : Gid) × Contains ended.journal.events.items (event.Ended gid Complete)
 
+module _ {D L K O : Type 0} (says : DiskSays D) (links : LinkSays L) (sinks : SinkSays O) (words : List (List ℕ)) (disk : D)
+    (olds : List (L × K)) (out : O) (ended : Ended D) (news : List (L × K)) (out' : O) where
   abbrev pub CompletesServed : Type 0
   CompletesServed =
       (line : CommandLine) (meta : Meta) (uris : List (List ℕ)) (mirror : ℕ) (payload : List ℕ)
-      → IsServedWhole line meta uris mirror payload → IsDone ⊎ (ended.ending ≡ NoMemory) ⊎ WasCutShort
+      → IsServedWhole says links sinks words disk olds out ended news out' line meta uris mirror payload
+      → IsDone ended ⊎ (ended.ending ≡ NoMemory) ⊎ WasCutShort D links olds news

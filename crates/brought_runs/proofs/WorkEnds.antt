@@ -16,7 +16,8 @@ use Rattle.engine_turns.specs.Told.{RunTurn}
 use Rattle.engine_turns.specs.declared.operations.Said.{Said}
 use Rattle.engine_turns.specs.declared.operations.Said.TheVariants as said
 use Rattle.link_source.specs.declared.Links.{Ghosts as LinkSays}
-use Rattle.aria_top.proofs.Linked.{IsWork, behind, first_or_later, here, none_there}
+use Rattle.brought_runs.specs.Over.{IsWork}
+use Rattle.brought_runs.proofs.TurnLists.{behind, first_or_later, here, none_there}
 
 -- ---- one turn
 
@@ -77,6 +78,23 @@ module _ (tells : Bool) (worker : ℕ) where
   its_work : (told : ℕ) (t : RunTurn) (a m : WorkerAt) → Does tells worker told t a m → IsWork t.op
   its_work told t a m does = subst IsWork (sym does.op) (due_work worker a.hand _)
 
+  -- each turn of the table is work
+  pub each_work : (ts : List RunTurn) (a b : WorkerAt) (how : Option WorkEnd) → Works tells worker ts a b how
+      → (t : RunTurn) → Contains ts t → IsWork t.op
+  each_work [] a b how works t there = none_there t there
+  each_work (u ∷ ts) a b how works t there = ⊎_elim
+      (λ (same : u ≡ t). subst (λ (v : RunTurn). IsWork v.op) same (its_work works.0 u a works.1 works.2))
+      (λ (later : Contains ts t). by (end_behind u.answer.said works.1.hand) works.3 later
+      (λ on. each_work ts works.1 b how on t later))
+      (first_or_later u ts t there)
+    where
+      by : (o : Option WorkEnd)
+          → EndsOrGoesOn o ((ts ≡ []) × (b ≡ works.1) × (how ≡ end_behind u.answer.said works.1.hand))
+          (Works tells worker ts works.1 b how)
+          → Contains ts t → (Works tells worker ts works.1 b how → IsWork t.op) → IsWork t.op
+      by (Some e) ended later rest = none_there t (subst (λ (l : List RunTurn). Contains l t) ended.0 later)
+      by None on later rest = rest on
+
   each_well : (ts : List RunTurn) (a b : WorkerAt) (how : Option WorkEnd) → Works tells worker ts a b how
       → how ≡ Some end.Finished → (t : RunTurn) → Contains ts t → WellWorked t
   each_well [] a b how works is t there = none_there t there
@@ -122,6 +140,16 @@ module _ (tells : Bool) (worker : ℕ) where
         said_is = said_finished u.answer.said works.1.hand (sym ended.2 ∙ is);
       }
       by None at on rest = let r = rest on in record { turn = r.turn; there = behind u ts r.turn r.there; said_is = r.said_is }
+
+-- each of a worker's own turns is work, but its stop
+pub worked_work : {D L : Type 0} (links : LinkSays L) (worker : ℕ) (from : RunSight D) (old : L) (to : RunSight D) (new : L)
+    (came : Result WorkEnd Spent) (its : Worked links worker from old to new came) (t : RunTurn) → Contains its.worked t
+    → IsWork t.op
+worked_work {D} {L} links worker from old to new came its t there = ⊎_elim
+    (λ (out_of : ComesOut links.tells worker its.worked (fresh (link_at links old)) its.b came).
+    each_work links.tells worker its.worked (fresh (link_at links old)) its.b out_of.end out_of.works t there)
+    (λ (none : HasNoRoom its.worked (fresh (link_at links old)) its.b came).
+    none_there t (subst (λ (l : List RunTurn). Contains l t) none.none there)) its.comes_out
 
 -- what a worker's own turns are whose work came out so
 pub record CameFinished (worked stop : List RunTurn) : Type 0 where

@@ -1,0 +1,33 @@
+-- What follows of runs over links.
+use Rattle.std.specs.Prelude.{◌≤◌, ℕ, IsTrue, List, length}
+use Rattle.dl_disk.specs.declared.disk.Disk.{Ghosts as DiskSays}
+use Rattle.dl_kinds.specs.declared.outside.Sink.{Ghosts as SinkSays}
+use Rattle.link_source.specs.declared.Links.{Ghosts as LinkSays}
+use Rattle.run_frame.specs.declared.ended.Ended.{Ended}
+use Rattle.brought_runs.specs.Completes.{CompletesServed}
+use Rattle.brought_runs.specs.LinksCauses.{ShowsLinks}
+use Rattle.brought_runs.specs.Over.{IsRunOver}
+use Rattle.brought_runs.specs.Served.{SparesServing}
+
+module _ {D O L : Type 0} (K : Type 0) (says : DiskSays D) (sinks : SinkSays O) (links : LinkSays L) where
+  -- what its history tells of losses and lengths came over the links
+  abbrev pub RunsShowLinks : Type 0
+  RunsShowLinks =
+      (words : List (List ℕ)) (gids doors : ℕ) (disk : D) (olds : List (L × K)) (out : O) (ended : Ended D)
+      (news : List (L × K)) (out' : O) → IsRunOver says sinks links words gids doors disk olds out ended news out'
+      → ShowsLinks links words gids doors ended.journal.events.items olds news
+
+  -- mirrors that serve a payload are held to account for faults of links alone
+  abbrev pub RunsSpareServing : Type 0
+  RunsSpareServing =
+      (words : List (List ℕ)) (gids doors : ℕ) (disk : D) (olds : List (L × K)) (out : O) (ended : Ended D)
+      (news : List (L × K)) (out' : O) → IsRunOver says sinks links words gids doors disk olds out ended news out'
+      → IsTrue links.tells → SparesServing says links words gids doors olds news ended
+
+  -- what is served comes
+  abbrev pub RunsCompleteServed : Type 0
+  RunsCompleteServed =
+      (words : List (List ℕ)) (gids doors : ℕ) (disk : D) (olds : List (L × K)) (out : O) (ended : Ended D)
+      (news : List (L × K)) (out' : O) → IsRunOver says sinks links words gids doors disk olds out ended news out'
+      → 1 ≤ length olds → IsTrue says.tells → IsTrue links.tells
+      → CompletesServed says links sinks words disk olds out ended news out'

@@ -1,0 +1,46 @@
+// What follows of runs over links. Laws do nothing when they run.
+ghost use Rattle.brought_runs.specs.OverLaws.{RunsCompleteServed, RunsShowLinks, RunsSpareServing};
+
+use crate::laws::{brought_runs_end_well, finished_runs_are_done, one_call_adds_one_download};
+use blameless_mirrors::{faithful_mirrors_are_blameless, lone_downloads_end_well};
+use command_line::lines_are_one;
+use dl_disk::Disk;
+use dl_kinds::Sink;
+use engine_turns::turns_tell_runs;
+use link_source::Links;
+use machine_core::downloads_stay;
+use run_frame::{losses_come_of_workers, runs_end_as_shown, workers_show_their_link};
+use served_claims::runs_are_faithful;
+
+/// What the history of a run over links tells of a claim's loss or length came over the link of the claim's worker.
+pub fn runs_show_their_links<D: Disk, L: Links, K, O: Sink>()
+    ensures { RunsShowLinks K D.Disk O.Sink L.Links }
+{
+    losses_come_of_workers::<D, O>();
+    workers_show_their_link::<D, L, O>();
+}
+
+/// A mirror that serves a payload over the links of a run is held to account for faults of links alone.
+pub fn runs_spare_serving_mirrors<D: Disk, L: Links, K, O: Sink>()
+    ensures { RunsSpareServing K D.Disk O.Sink L.Links }
+{
+    runs_are_faithful::<D, L, O>();
+    brought_runs_end_well::<D, O>();
+    faithful_mirrors_are_blameless::<D>();
+}
+
+/// What is served comes: a run whose links lead to all of a metainfo file's payload is done, unless it was cut short.
+pub fn runs_complete_what_is_served<D: Disk, L: Links, K, O: Sink>()
+    ensures { RunsCompleteServed K D.Disk O.Sink L.Links }
+{
+    runs_show_their_links::<D, L, K, O>();
+    runs_are_faithful::<D, L, O>();
+    brought_runs_end_well::<D, O>();
+    finished_runs_are_done::<D, O>();
+    one_call_adds_one_download();
+    lone_downloads_end_well();
+    lines_are_one();
+    downloads_stay();
+    runs_end_as_shown::<D, O>();
+    turns_tell_runs();
+}
