@@ -1,6 +1,7 @@
 // A run over all links and doors.
 ghost use Rattle.std.specs.Prelude.{◌≡◌, ◌≤◌, ◌||◌, IsTrue, length, map, string_bytes};
 ghost use Rattle.brought_runs.specs.Completes.{CompletesServed};
+ghost use Rattle.brought_runs.specs.CompletesUris.{CompletesUris};
 ghost use Rattle.brought_runs.specs.LinksCauses.{ShowsLinks};
 ghost use Rattle.brought_runs.specs.Served.{SparesServing};
 ghost use Rattle.run_frame.specs.DiskCauses.{LeavesOtherFiles, ShowsDisk};
@@ -17,7 +18,8 @@ ghost use Rattle.aria_top.specs.Together.{ComesFirst};
 use crate::finished::FinishedRun;
 use crate::work::{Work, work_through};
 use brought_runs::{
-    runs_complete_what_is_served, runs_show_their_links, runs_spare_serving_mirrors,
+    runs_complete_uris, runs_complete_what_is_served, runs_show_their_links,
+    runs_spare_serving_mirrors,
 };
 use conn_worker::turns_bring_what_came;
 use console_session::{Transcript, calls_stand_where_replied, replies_are_of_the_history};
@@ -232,6 +234,10 @@ pub fn run<
     ensures completes { IsTrue D.tells → IsTrue L.tells → CompletesServed D.Disk L.Links O.Sink
         (map string_bytes words.now) disk links.items out.old (ended_run result) result.links.items
         out.new }
+    // So it does without a metainfo file, where all mirrors lead alike to one resource and no file stands in its folder.
+    ensures completes_uris { IsTrue D.tells → IsTrue L.tells → CompletesUris D.Disk L.Links O.Sink
+        (map string_bytes words.now) disk links.items out.old (ended_run result) result.links.items
+        out.new }
     // What is complete has its digests, and nothing that was promised is lost by a crash.
     ensures survives { IsTrue D.tells → SurvivesRun D.Disk (map string_bytes words.now) gids
         (length doors.items) disk (ended_run result) }
@@ -253,6 +259,7 @@ pub fn run<
     runs_show_their_links::<D, L, K, O>();
     runs_spare_serving_mirrors::<D, L, K, O>();
     runs_complete_what_is_served::<D, L, K, O>();
+    runs_complete_uris::<D, L, K, O>();
     runs_survive_crashes::<D, O>();
     unbegun_runs_only_read::<D, O>();
     turns_bring_what_came();

@@ -15,7 +15,8 @@ use Rattle.machine_core.specs.declared.events.Event.TheVariants.{Lost, Settled}
 use Rattle.metainfo.specs.declared.meta.Meta.{Meta}
 use Rattle.mirror_payloads.specs.Faithful.{IsFaithful}
 use Rattle.piece_table.specs.declared.giver.Giver.TheVariants.{One}
-use Rattle.blameless_mirrors.proofs.ListedLengths.{lengths_told}
+use Rattle.machine_core.specs.RunSteps.{OpenedHavePlans}
+use Rattle.blameless_mirrors.proofs.ListedLengths.{lengths_told, listed_known}
 use Rattle.std.specs.Option.{option_and_then}
 use Rattle.stored_run.specs.RunFollows.{RunFollows}
 use Rattle.blameless_mirrors.specs.Blameless.{DeliveredAreRead, HasFailedLink, IsBroughtBy, IsListedAlone, IsPayloadOf, MarksAreOfLinks, NeverEndDead, StayEligible, WrongFindingsArentTheirs}
@@ -40,7 +41,7 @@ want_told start told gid meta want l =
     (subst (λ (n : PayloadLengths). IsWantOf l.has.download n want) lengths l.has.is)
 
 -- a loss of a claim at the mirror tells a count
-loss_counted : (start : RunStart) (gid : Gid) (mirror : ℕ) (payload : List ℕ) (told : List RunTurn)
+pub loss_counted : (start : RunStart) (gid : Gid) (mirror : ℕ) (payload : List ℕ) (told : List RunTurn)
     → IsFaithful start gid mirror payload told → (id piece : ℕ) (mark : Mark)
     → Contains (history_of told) (Lost gid id mirror piece mark) → 0 < mark.count
 loss_counted start gid mirror payload [] all id piece mark there = absurd (let within = there.1 in omega (arith, within))
@@ -50,13 +51,13 @@ loss_counted start gid mirror payload (t ∷ before) all id piece mark there = �
     loss_counted start gid mirror payload before all.1 id piece mark was)
     (come_of (history_of before) t.events (Lost gid id mirror piece mark) there)
 
-module _ (laws : RunFollows) (follow : BlocksFollow) (numbered : PlacesAreNumbered) where
+module _ (laws : RunFollows) (plans : OpenedHavePlans) (follow : BlocksFollow) (numbered : PlacesAreNumbered) where
   module _ (start : RunStart) (told : List RunTurn) (disk : DiskState) (gid : Gid) (mirror : ℕ) (meta : Meta) (want : Want)
       (payload : List ℕ) (is : IsBroughtBy start told disk gid mirror meta want payload) where
     abbrev its : IsListedAlone start told gid meta want
     its = is.listed
 
-    stands : Stands laws follow start disk gid mirror meta want payload its.download its.uris its.subject
+    stands : Stands laws plans follow start disk gid mirror (lengths_told meta) want payload its.download
         (want_told start told gid meta want its) told
     stands = record {
       legal = is.run.legal;
@@ -67,11 +68,12 @@ module _ (laws : RunFollows) (follow : BlocksFollow) (numbered : PlacesAreNumber
       alone = its.alone;
       only = its.only;
       same = λ d added. same_download start (history_of told) gid d its.download added its.added;
+      known = listed_known start (history_of told) gid its.download meta its.uris its.added its.subject;
     }
 
     never_wrong_here : IsPayloadOf meta payload → (piece : ℕ) → ¬ Contains (history_of told) (Settled gid piece false (One mirror))
     never_wrong_here of =
-        never_wrong laws follow numbered start disk gid mirror meta want payload its.download its.uris its.subject
+        never_wrong laws plans follow numbered start disk gid mirror meta want payload its.download its.uris its.subject
         (want_told start told gid meta want its) of told stands
 
     nothing_marks : IsPayloadOf meta payload → ¬ HasFailedLink (history_of told) gid mirror
@@ -88,7 +90,7 @@ module _ (laws : RunFollows) (follow : BlocksFollow) (numbered : PlacesAreNumber
     pub delivered_read : DeliveredAreRead state
     delivered_read start t before disk gid mirror meta want payload is =
         let l = is.listed in
-        blocks_read laws follow start (state disk) gid mirror meta want payload l.download l.uris l.subject
+        blocks_read laws plans follow start (state disk) gid mirror (lengths_told meta) want payload l.download
         (want_told start (t ∷ before) gid meta want l) t before
         (stands start (t ∷ before) (state disk) gid mirror meta want payload is)
 

@@ -1,5 +1,5 @@
 -- What stands in the files of blocks that a mirror gave.
-use Rattle.std.proofs.Common.{◌≡◌, ⊎_elim, ℕ, ◌+◌, ◌-◌, ◌<◌, ◌≤◌, true, Some, List, [], ◌∷◌, slice_get, sym, ap, ◌∙◌, subst, arith}
+use Rattle.std.proofs.Common.{◌≡◌, ⊎_elim, ℕ, ◌+◌, ◌-◌, ◌<◌, ◌≤◌, Bool, true, false, Option, None, Some, List, [], ◌∷◌, slice_get, refl, sym, ap, ◌∙◌, subst, arith}
 use Rattle.std.specs.Prelude.{Contains, nat_le, nat_lt}
 use Rattle.std.proofs.lemmas.Bool.Decides.{nat_tests}
 use Rattle.control_file.specs.declared.want.Want.{Want}
@@ -15,11 +15,12 @@ use Rattle.dl_history.specs.OwnLegal.{LegalOwn}
 use Rattle.dl_history.specs.PayloadParts.{is_alive, is_landed_in, is_opened, source_in}
 use Rattle.dl_history.specs.StandingClaims.{granted_claims, is_standing, standing_claims}
 use Rattle.dl_kinds.specs.Plan.{blocks_of, piece_of}
+use Rattle.dl_kinds.specs.declared.claims.Claim.{Claim}
 use Rattle.dl_kinds.specs.PlanLaws.{BlocksFollow}
 use Rattle.dl_kinds.specs.declared.gid.Gid.{Gid}
 use Rattle.dl_kinds.specs.declared.runs.Moment.{Moment}
 use Rattle.dl_kinds.specs.declared.runs.Run.{Run}
-use Rattle.engine_core.proofs.Promising.{alone_before, download_on, legal_front, want_later}
+use Rattle.engine_core.proofs.Promising.{alone_before, download_on, legal_front, lengths_on, want_later}
 use Rattle.engine_core.specs.Askings.{IsWrittenAlone}
 use Rattle.engine_core.specs.TurnReads.{FitsFiles, TurnsFitDisk}
 use Rattle.engine_core.specs.Writings.{CutsByte, LandsByte, WritesAsTold}
@@ -30,20 +31,21 @@ use Rattle.engine_turns.specs.declared.operations.Operation.TheVariants as opera
 use Rattle.machine_core.proofs.Parts.{opened_added}
 use Rattle.machine_core.specs.DownloadWants.{HasWant, IsWantOf}
 use Rattle.machine_core.specs.Openings.{lengths_of_plan}
-use Rattle.machine_core.specs.OwnParts.{PayloadLengths, lengths_by, own_of}
+use Rattle.machine_core.specs.OwnParts.{PayloadLengths, no_lengths, own_of, payload_lengths_of}
 use Rattle.machine_core.specs.RunLegal.{IsLegal, download_in, known_lengths}
-use Rattle.machine_core.specs.Starts.{Download, Listed, RunStart, Subject}
+use Rattle.machine_core.specs.Starts.{Download, RunStart}
 use Rattle.machine_core.specs.declared.events.Event.{Event}
 use Rattle.machine_core.specs.declared.events.Event.TheVariants.{Landed}
-use Rattle.metainfo.specs.declared.meta.Meta.{Meta}
 use Rattle.mirror_payloads.specs.Faithful.{IsFaithful, run_bytes}
 use Rattle.payload_files.specs.Payload.{HasFiles}
 use Rattle.piece_table.specs.Changes.{Absent, From, is_in, is_present}
 use Rattle.resume_core.proofs.RunBytes.{block_in_run, one_block}
 use Rattle.resume_core.specs.Runs.{run_len}
-use Rattle.blameless_mirrors.proofs.ListedLengths.{known_listed, lengths_told}
 use Rattle.span_map.specs.Jobs.{IsRun, run_end, run_start}
-use Rattle.std.specs.Option.{option_and_then}
+use Rattle.std.specs.Option.{unwrap_or}
+use Rattle.dl_kinds.specs.Plan.{IsPlan}
+use Rattle.machine_core.specs.RunSteps.{OpenedHavePlans}
+use Rattle.dl_history.specs.HistoryLaws.{UnopenedFitAnyLengths}
 use Rattle.stored_run.proofs.PartBytes.{ends_rise, starts_rise}
 use Rattle.stored_run.specs.RunFollows.{RunFollows}
 use Rattle.stored_run.specs.Settlings.{payload_of}
@@ -74,9 +76,31 @@ given_opened total len own legal size b m is =
     not_false (is_opened own)
     (λ un. absurd (let e : Absent ≡ From m = sym ((early total len own legal un).absent (is_alive own) (piece_of size b) b) ∙ is in cc))
 
-module _ (laws : RunFollows) (follow : BlocksFollow) (start : RunStart) (disk : DiskState) (gid : Gid) (mirror : ℕ)
-    (meta : Meta) (want : Want) (payload : List ℕ) (download : Download) (uris : List (List ℕ))
-    (subject : download.subject ≡ Listed meta uris) (is_want : IsWantOf download (lengths_told meta) want) where
+-- the lengths of a download that is opened are known
+opened_known : (o : Option PayloadLengths) (lengths : PayloadLengths)
+    → IsPlan (unwrap_or o no_lengths).total (unwrap_or o no_lengths).piece_len
+    → ((l : PayloadLengths) → o ≡ Some l → l ≡ lengths) → o ≡ Some lengths
+opened_known None lengths plan same = absurd (let some = plan.some in omega (arith, some))
+opened_known (Some l) lengths plan same = ap (λ (x : PayloadLengths). Some x) (same l refl)
+
+-- no block lands of a download that isn't opened
+lands_opened : {P : Type 0} (total len : ℕ) (own : List OwnEvent) → UnopenedFitAnyLengths → LegalOwn total len own
+    → is_opened own ≡ false → (claim : Claim) → Contains (standing_claims own) claim
+    → 1 ≤ claim.run.first + claim.run.count → P
+lands_opened total len own fit legal un claim stands some =
+    let there = has_filter (is_standing own) (granted_claims own) claim
+    (has_from (standing_claims own) claim stands.0 stands.1 stands.2) in
+    let most = (facts 0 1 own (fit total len 0 1 own legal un)).within claim there.0 in
+    let none : blocks_of 0 1 ≡ 0 = refl in
+    absurd (omega (arith, most, none, some))
+
+module _ (laws : RunFollows) (plans : OpenedHavePlans) (follow : BlocksFollow) (start : RunStart) (disk : DiskState) (gid : Gid)
+    (mirror : ℕ) (lengths : PayloadLengths) (want : Want) (payload : List ℕ) (download : Download)
+    (is_want : IsWantOf download lengths want) where
+  -- whatever lengths are told of it are these
+  abbrev pub AreTheirs : List Event → Type 0
+  AreTheirs past = (l : PayloadLengths) → payload_lengths_of start past gid ≡ Some l → l ≡ lengths
+
   abbrev total : ℕ
   total = want.plan.total
 
@@ -93,6 +117,7 @@ module _ (laws : RunFollows) (follow : BlocksFollow) (start : RunStart) (disk : 
     pub alone : IsWrittenAlone start told want
     pub only : (other : Gid) → HasWant start (history_of told) other want → other ≡ gid
     pub same : (d : Download) → download_in start (history_of told) gid ≡ Some d → d ≡ download
+    pub known : AreTheirs (history_of told)
 
   pub stood : (t : RunTurn) (before : List RunTurn) → Stands (t ∷ before) → Stands before
   stood t before st = record {
@@ -104,16 +129,21 @@ module _ (laws : RunFollows) (follow : BlocksFollow) (start : RunStart) (disk : 
     alone = alone_before laws start before t st.legal want st.alone;
     only = λ other has. st.only other (want_later laws start before t st.legal other want has);
     same = λ d added. st.same d (download_on laws start (history_of before) t.events gid d added);
+    known = λ l is. st.known l (lengths_on laws start (history_of before) t.events gid l st.legal is);
   }
 
   -- ---- the download
 
-  module _ (past : List Event) (added : download_in start past gid ≡ Some download) where
-    pub lengths_at : known_lengths start past gid ≡ lengths_of_plan want.plan
-    lengths_at = known_listed start past gid download meta uris added subject ∙ sym is_want.plan
+  module _ (past : List Event) (legal : IsLegal start past) (added : download_in start past gid ≡ Some download)
+      (opened : is_opened (own_of start past gid) ≡ true) (theirs : AreTheirs past) where
+    known_at : payload_lengths_of start past gid ≡ Some lengths
+    known_at = opened_known (payload_lengths_of start past gid) lengths (plans start past gid legal opened) theirs
 
-    pub legal_own : IsLegal start past → LegalOwn total len (own_of start past gid)
-    legal_own legal =
+    pub lengths_at : known_lengths start past gid ≡ lengths_of_plan want.plan
+    lengths_at = ap (λ (o : Option PayloadLengths). unwrap_or o no_lengths) known_at ∙ sym is_want.plan
+
+    pub legal_own : LegalOwn total len (own_of start past gid)
+    legal_own =
         subst (λ (l : PayloadLengths). LegalOwn l.total l.piece_len (own_of start past gid)) lengths_at
         (laws.legal start past gid legal)
 
@@ -121,10 +151,8 @@ module _ (laws : RunFollows) (follow : BlocksFollow) (start : RunStart) (disk : 
     has_at = record {
       download = download;
       added = added;
-      lengths = lengths_told meta;
-      known =
-          ap (option_and_then (λ (d : Download). lengths_by d d.subject (own_of start past gid))) added
-          ∙ ap (λ (s : Subject). lengths_by download s (own_of start past gid)) subject;
+      lengths = lengths;
+      known = known_at;
       is = is_want;
     }
 
@@ -148,7 +176,10 @@ module _ (laws : RunFollows) (follow : BlocksFollow) (start : RunStart) (disk : 
       → HasFiles want.dir want.layout (disk.seen_at t.after.time)
   whole t before st opened =
       st.fits.0.fits.lengths want gid st.alone
-      (record { opened = opened; has = has_at (history_of (t ∷ before)) (added_at (t ∷ before) st opened) })
+      (record {
+        opened = opened;
+        has = has_at (history_of (t ∷ before)) st.legal (added_at (t ∷ before) st opened) opened st.known;
+      })
 
   -- ---- a turn
 
@@ -165,6 +196,21 @@ module _ (laws : RunFollows) (follow : BlocksFollow) (start : RunStart) (disk : 
     abbrev fit : FitsFiles start before t old new
     fit = st.fits.0.fits
 
+    -- a part lands of a download that is opened
+    part_opened : (claim : ℕ) (run : Run) (id : ℕ) (part : Run) → IsDeliveredPart start past claim run gid id part
+        → is_opened (own_of start past gid) ≡ true
+    part_opened claim run id part d = by (is_opened (own_of start past gid)) refl
+      where
+        by : (b : Bool) → is_opened (own_of start past gid) ≡ b → is_opened (own_of start past gid) ≡ true
+        by true is = is
+        by false un =
+            let some = d.some in
+            let last = d.last in
+            let within = d.within in
+            lands_opened (known_lengths start past gid).total (known_lengths start past gid).piece_len (own_of start past gid)
+            laws.sound.unopened (laws.legal start past gid (stood t before st).legal) un d.claimed d.stands
+            (omega (arith, some, last, within))
+
     -- the run of a part that lands is within the payload
     part_within : (claim : ℕ) (run : Run) (id : ℕ) (part : Run) → (d : IsDeliveredPart start past claim run gid id part)
         → (download_in start past gid ≡ Some download) × (run.first + run.count ≤ blocks_of total len)
@@ -173,7 +219,9 @@ module _ (laws : RunFollows) (follow : BlocksFollow) (start : RunStart) (disk : 
         let own = own_of start past gid in
         let there = has_filter (is_standing own) (granted_claims own) d.claimed
         (has_from (standing_claims own) d.claimed d.stands.0 d.stands.1 d.stands.2) in
-        let most = (facts total len own (legal_own past added (stood t before st).legal)).within d.claimed there.0 in
+        let most = (facts total len own (legal_own past (stood t before st).legal added (part_opened claim run id part d)
+        (stood t before st).known)).within
+        d.claimed there.0 in
         (added, omega (arith, d.within, most))
 
     landed_byte : (claim : ℕ) (run : Run) (bytes : List ℕ) (now : Moment) → t.op ≡ operation.Deliver claim run bytes now
@@ -186,9 +234,10 @@ module _ (laws : RunFollows) (follow : BlocksFollow) (start : RunStart) (disk : 
         subst (λ (i : ℕ). Contains t.events (Landed gid i mirror part when)) d.same there in
         let holds : HoldsPart want run part bytes new =
         subst (λ (op : Operation). WritesAsTold start past t op new) op fit.written gid mirror part when here want
-        (has_at past so.0) in
+        (has_at past (stood t before st).legal so.0 (part_opened claim run id part d) (stood t before st).known) in
         let right = st.faithful.0.landed claim run part bytes now when op here
-        ∙ ap (λ (l : PayloadLengths). run_bytes l payload run) (lengths_at past so.0) in
+        ∙ ap (λ (l : PayloadLengths). run_bytes l payload run)
+        (lengths_at past (stood t before st).legal so.0 (part_opened claim run id part d) (stood t before st).known) in
         let bounds = in_bounds b part inside in
         let some = d.some in
         let last_part : ℕ = part.first + part.count - 1 in
@@ -241,7 +290,8 @@ module _ (laws : RunFollows) (follow : BlocksFollow) (start : RunStart) (disk : 
     -- nor is a block that is landed open in a claim
     uncut_byte : (b : ℕ) → GivenIn before b → (at : ℕ) → IsByteOfBlock want.plan b at → ¬ CutsByte start past t want at
     uncut_byte b given at is cuts =
-        let added = added_at before (stood t before st) (opened_at before (stood t before st) b given) in
+        let opened = opened_at before (stood t before st) b given in
+        let added = added_at before (stood t before st) opened in
         let its : cuts.gid ≡ gid = (stood t before st).only cuts.gid cuts.has in
         let o = subst (λ (g : Gid). Rattle.stored_run.specs.Writings.IsOpenByte (own_of start past g) cuts.claim cuts.run want.plan at)
         its cuts.open_in in
@@ -249,7 +299,7 @@ module _ (laws : RunFollows) (follow : BlocksFollow) (start : RunStart) (disk : 
         one_block total len o.block b at (record { from = o.inside.from; before = o.inside.before })
         (record { from = is.from; before = is.before }) in
         let un = laws.sound.open_blocks total len (own_of start past gid) o.claimed o.block
-        (legal_own past added (stood t before st).legal) o.stands o.open_in in
+        (legal_own past (stood t before st).legal added opened (stood t before st).known) o.stands o.open_in in
         true_not_false (is_landed_in len (own_of start past gid) b) (ap is_present given)
         (ap (is_landed_in len (own_of start past gid)) (sym same) ∙ un.unlanded)
 
@@ -266,11 +316,12 @@ module _ (laws : RunFollows) (follow : BlocksFollow) (start : RunStart) (disk : 
 
     pub block_behind : StoodBefore → (b : ℕ) → GivenIn (t ∷ before) b → HasBlockOf want payload b new
     block_behind prior b given =
-        let added = added_at (t ∷ before) st (opened_at (t ∷ before) st b given) in
+        let opened = opened_at (t ∷ before) st b given in
+        let added = added_at (t ∷ before) st opened in
         ⊎_elim
         (delivered_block b)
         (kept_block prior b)
-        (source_among start gid total len b mirror t.events past (legal_own (history_of (t ∷ before)) added st.legal) given)
+        (source_among start gid total len b mirror t.events past (legal_own (history_of (t ∷ before)) st.legal added opened st.known) given)
 
   -- ---- all turns
 

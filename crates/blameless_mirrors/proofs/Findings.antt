@@ -9,7 +9,7 @@ use Rattle.control_file.specs.declared.want.Want.{Want}
 use Rattle.dl_disk.specs.Files.{Files}
 use Rattle.dl_disk.specs.State.{DiskState}
 use Rattle.dl_history.specs.OwnEvents.{Settles}
-use Rattle.dl_history.specs.OwnLegal.{MaySettle}
+use Rattle.dl_history.specs.OwnLegal.{MaySettle, LegalOwn}
 use Rattle.dl_kinds.specs.Plan.{blocks_of, piece_end, piece_of, piece_start, pieces_of, IsPlan}
 use Rattle.dl_kinds.specs.PlanLaws.{BlocksFollow, PlacesAreNumbered}
 use Rattle.dl_kinds.specs.declared.gid.Gid.{Gid}
@@ -19,10 +19,10 @@ use Rattle.engine_core.specs.TurnReads.{SealsAsRead, TakesAsRead}
 use Rattle.engine_core.specs.Writings.{WritesAsTold}
 use Rattle.engine_turns.specs.Told.{RunTurn, history_after, history_of}
 use Rattle.engine_turns.specs.declared.operations.Operation.{Operation}
-use Rattle.machine_core.specs.DownloadWants.{IsWantOf, digests_of_subject}
-use Rattle.machine_core.specs.OwnParts.{PayloadLengths, own_of}
-use Rattle.machine_core.specs.RunLegal.{IsLegal, MayBeSettled, download_in, info_hash_by}
-use Rattle.machine_core.specs.Starts.{Download, Listed, RunStart}
+use Rattle.machine_core.specs.DownloadWants.{IsWantOf, digests_of_subject, HasWant}
+use Rattle.machine_core.specs.OwnParts.{PayloadLengths, own_of, lengths_by}
+use Rattle.machine_core.specs.RunLegal.{IsLegal, MayBeSettled, download_in, info_hash_by, known_lengths}
+use Rattle.machine_core.specs.Starts.{Download, Listed, RunStart, Subject}
 use Rattle.machine_core.specs.declared.events.Event.{Event}
 use Rattle.machine_core.specs.declared.events.Event.TheVariants.{Landed, Settled}
 use Rattle.metainfo.specs.declared.meta.Meta.{Meta}
@@ -30,17 +30,20 @@ use Rattle.payload_files.specs.Payload.{HasFiles}
 use Rattle.piece_table.specs.declared.giver.Giver.TheVariants.{One}
 use Rattle.resume_core.specs.Resume.{HasDigest, piece_payload}
 use Rattle.resume_core.specs.Wants.{files_in}
-use Rattle.blameless_mirrors.proofs.ListedLengths.{lengths_told}
+use Rattle.blameless_mirrors.proofs.ListedLengths.{known_listed, lengths_told}
+use Rattle.machine_core.specs.RunSteps.{OpenedHavePlans}
 use Rattle.sha1.specs.Sha1.{sha1}
 use Rattle.stored_run.proofs.Doing.{history_on}
 use Rattle.stored_run.proofs.Left.{one_of}
 use Rattle.stored_run.specs.RunFollows.{RunFollows}
 use Rattle.blameless_mirrors.specs.Blameless.{HasBlockOf, IsPayloadOf, piece_bytes}
-use Rattle.blameless_mirrors.proofs.Delivered.{GivenIn, Stands, blocks_stood, has_at, legal_own, lengths_at, opened_at, stood, added_at}
+use Rattle.blameless_mirrors.proofs.Delivered.{GivenIn, Stands, blocks_stood, opened_at, stood, added_at}
 use Rattle.blameless_mirrors.proofs.EventSources.{LandsAmong, WasUntouched, source_among}
 use Rattle.blameless_mirrors.proofs.Givers.{given_whole}
 use Rattle.blameless_mirrors.proofs.Parts.{IsSealOf, wrong_sealed}
 use Rattle.blameless_mirrors.proofs.PayloadBytes.{block_at, stretch_read}
+use Rattle.machine_core.specs.Openings.{lengths_of_plan}
+use Rattle.std.specs.Option.{option_and_then}
 
 -- ---- events of turns
 
@@ -79,18 +82,30 @@ pieces_begin total len piece plan known =
     let step : (piece + 1) * len ≤ pieces_of total len * len = mul-le-mul_right len (omega (arith, known)) in
     omega (arith, top, step, plan.some)
 
-module _ (laws : RunFollows) (follow : BlocksFollow) (numbered : PlacesAreNumbered) (start : RunStart) (disk : DiskState)
+module _ (laws : RunFollows) (plans : OpenedHavePlans) (follow : BlocksFollow) (numbered : PlacesAreNumbered) (start : RunStart) (disk : DiskState)
     (gid : Gid) (mirror : ℕ) (meta : Meta) (want : Want) (payload : List ℕ) (download : Download) (uris : List (List ℕ))
     (subject : download.subject ≡ Listed meta uris) (is_want : IsWantOf download (lengths_told meta) want)
     (its : IsPayloadOf meta payload) where
   abbrev Fine : List RunTurn → Type 0
-  Fine told = Stands laws follow start disk gid mirror meta want payload download uris subject is_want told
+  Fine told = Stands laws plans follow start disk gid mirror (lengths_told meta) want payload download is_want told
 
   abbrev total : ℕ
   total = want.plan.total
 
   abbrev len : ℕ
   len = want.plan.piece_len
+
+  -- ---- its lengths
+
+  lengths_of : (past : List Event) → download_in start past gid ≡ Some download
+      → known_lengths start past gid ≡ lengths_of_plan want.plan
+  lengths_of past added = known_listed start past gid download meta uris added subject ∙ sym is_want.plan
+
+  legal_of : (past : List Event) → download_in start past gid ≡ Some download → IsLegal start past
+      → LegalOwn total len (own_of start past gid)
+  legal_of past added legal =
+      subst (λ (l : PayloadLengths). LegalOwn l.total l.piece_len (own_of start past gid)) (lengths_of past added)
+      (laws.legal start past gid legal)
 
   -- ---- the digest
 
@@ -169,11 +184,11 @@ module _ (laws : RunFollows) (follow : BlocksFollow) (numbered : PlacesAreNumber
     settles : MaySettle total len (own_of start mid gid) piece (One mirror)
     settles =
         subst (λ (l : PayloadLengths). MaySettle l.total l.piece_len (own_of start mid gid) piece (One mirror))
-        (lengths_at laws follow start disk gid mirror meta want payload download uris subject is_want mid mid_added) may.own.may
+        (lengths_of mid mid_added) may.own.may
 
     -- each of its blocks was the mirror's before the turn
     given_before : (b : ℕ) → b < blocks_of total len → piece_of len b ≡ piece
-        → GivenIn laws follow start disk gid mirror meta want payload download uris subject is_want before b
+        → GivenIn laws plans follow start disk gid mirror (lengths_told meta) want payload download is_want before b
     given_before b within of =
         let some = want.plan.is_plan.some in
         let given = given_whole total len (own_of start mid gid) piece mirror b some settles within of in
@@ -184,7 +199,7 @@ module _ (laws : RunFollows) (follow : BlocksFollow) (numbered : PlacesAreNumber
         (Contains-append_left split.front (e ∷ split.rest) (Landed gid lands.id mirror lands.run lands.now) lands.there))))
         (λ (was : WasUntouched start gid total len b mirror past split.front). was.0)
         (source_among start gid total len b mirror split.front past
-        (legal_own laws follow start disk gid mirror meta want payload download uris subject is_want mid mid_added mid_legal.0) given)
+        (legal_of mid mid_added mid_legal.0) given)
 
     -- the piece has a block
     first_block : (b : ℕ) × IsBlockOfPiece piece b
@@ -195,26 +210,32 @@ module _ (laws : RunFollows) (follow : BlocksFollow) (numbered : PlacesAreNumber
 
     first : HasBlockOf want payload first_block.0 (disk.seen_at t.before.time)
         × HasFiles want.dir want.layout (disk.seen_at t.before.time)
-    first = blocks_stood laws follow start disk gid mirror meta want payload download uris subject is_want t before st first_block.0
+    first = blocks_stood laws plans follow start disk gid mirror (lengths_told meta) want payload download is_want t before st first_block.0
         (given_before first_block.0 first_block.1.0 first_block.1.1)
 
     past_added : download_in start past gid ≡ Some download
     past_added =
-        let st_past = stood laws follow start disk gid mirror meta want payload download uris subject is_want t before st in
-        added_at laws follow start disk gid mirror meta want payload download uris subject is_want before st_past
-        (opened_at laws follow start disk gid mirror meta want payload download uris subject is_want before st_past first_block.0
+        let st_past = stood laws plans follow start disk gid mirror (lengths_told meta) want payload download is_want t before st in
+        added_at laws plans follow start disk gid mirror (lengths_told meta) want payload download is_want before st_past
+        (opened_at laws plans follow start disk gid mirror (lengths_told meta) want payload download is_want before st_past first_block.0
         (given_before first_block.0 first_block.1.0 first_block.1.1))
 
     pub never_found : ⊥
     never_found =
-        let has = has_at laws follow start disk gid mirror meta want payload download uris
-        subject is_want past past_added in
+        let has : HasWant start past gid want = record {
+          download = download;
+          added = past_added;
+          lengths = lengths_told meta;
+          known = ap (option_and_then (λ (d : Download). lengths_by d d.subject (own_of start past gid))) past_added
+              ∙ ap (λ (s : Subject). lengths_by download s (own_of start past gid)) subject;
+          is = is_want;
+        } in
         let reads : SealsAsRead start before t gid seal.sealed (disk.seen_at t.before.time) =
         subst (λ (op : Operation). TakesAsRead start before t op (disk.seen_at t.before.time)) seal.op st.fits.0.fits.takes in
         let found = reads.right false (One mirror)
         (subst (λ (p : ℕ). Contains t.events (Settled gid p false (One mirror))) (sym seal.same) there) want has is_listed in
         let digest = piece_right (disk.seen_at t.before.time) first.1 piece settles.within
-        (λ b of. (blocks_stood laws follow start disk gid mirror meta want payload download uris subject is_want t before st b
+        (λ b of. (blocks_stood laws plans follow start disk gid mirror (lengths_told meta) want payload download is_want t before st b
         (given_before b of.0 of.1)).0) in
         absurd (let never : false ≡ true = found.1 (subst (HasDigest want (files_in want (disk.seen_at t.before.time))) (sym seal.same) digest) in cc)
 
@@ -226,5 +247,5 @@ module _ (laws : RunFollows) (follow : BlocksFollow) (numbered : PlacesAreNumber
   never_wrong (t ∷ before) st piece there = ⊎_elim
       (λ (here : Contains t.events (Settled gid piece false (One mirror))). never_found t before st piece here)
       (λ (was : Contains (history_of before) (Settled gid piece false (One mirror))).
-      never_wrong before (stood laws follow start disk gid mirror meta want payload download uris subject is_want t before st) piece was)
+      never_wrong before (stood laws plans follow start disk gid mirror (lengths_told meta) want payload download is_want t before st) piece was)
       (come_of (history_of before) t.events (Settled gid piece false (One mirror)) there)

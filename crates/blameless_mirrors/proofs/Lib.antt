@@ -13,3 +13,5 @@ pub mod LoneEnds
 pub mod Refusals
 pub mod OneWant
 pub mod LoneLaws
+pub mod LoneUris
+pub mod UriBlocks

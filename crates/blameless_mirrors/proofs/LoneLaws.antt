@@ -1,5 +1,5 @@
 -- How the only download of a run ends, where a mirror brings its payload.
-use Rattle.std.proofs.Common.{◌≡◌, ℕ, refl, ap, ◌∙◌, subst}
+use Rattle.std.proofs.Common.{◌≡◌, ℕ, Some, refl, ap, ◌∙◌, subst}
 use Rattle.std.specs.Prelude.{Contains}
 use Rattle.dl_disk.specs.State.{DiskState}
 use Rattle.dl_kinds.specs.PlanLaws.{BlocksFollow, PlacesAreNumbered}
@@ -8,17 +8,18 @@ use Rattle.dl_kinds.specs.declared.marks.Mark.{Mark}
 use Rattle.engine_core.proofs.Turned.{same_download}
 use Rattle.engine_turns.specs.Told.{history_of}
 use Rattle.machine_core.specs.FileNames.{IsPayloadName, folder_in}
-use Rattle.machine_core.specs.RunLegal.{KnownAreIdle}
+use Rattle.machine_core.specs.RunLegal.{KnownAreIdle, download_in}
 use Rattle.machine_core.specs.Starts.{Download, Listed, Subject}
 use Rattle.machine_core.specs.declared.ends.End.{End}
 use Rattle.machine_core.specs.declared.ends.End.TheVariants as end
 use Rattle.machine_core.specs.declared.events.Event.TheVariants.{Ended}
+use Rattle.machine_core.specs.RunSteps.{OpenedHavePlans}
 use Rattle.stored_run.specs.Refused.{IsRefusalEnd}
 use Rattle.stored_run.specs.RunFollows.{RunFollows}
-use Rattle.blameless_mirrors.specs.Lone.{BroughtOnlyComplete, FreshAreNeverRefused, IsLoneEnd, IsLoneListed}
+use Rattle.blameless_mirrors.specs.Lone.{BroughtOnlyComplete, FreshAreNeverRefused, IsLoneEnd, IsLoneListed, first_time}
 use Rattle.blameless_mirrors.proofs.Blame.{never_end_dead}
 use Rattle.blameless_mirrors.proofs.LoneEnds.{lone_ends}
-use Rattle.blameless_mirrors.proofs.Refusals.{never_refused}
+use Rattle.blameless_mirrors.proofs.Refusals.{listed_free, never_refused}
 
 module _ (laws : RunFollows) {D : Type 0} (state : D → DiskState) where
   pub fresh_unrefused : FreshAreNeverRefused state
@@ -28,15 +29,19 @@ module _ (laws : RunFollows) {D : Type 0} (state : D → DiskState) where
       let of : has.download.subject ≡ Listed meta lone.uris = ap (λ (x : Download). x.subject) same ∙ lone.subject in
       let base : want.base ≡ meta.name = subst (λ (s : Subject). IsPayloadName has.download s want.base) of has.is.base in
       let dir : want.dir ≡ folder_in d = has.is.dir ∙ ap folder_in same in
-      never_refused laws start (state disk) gid meta d lone.uris lone.subject want base dir told
+      let one = (λ (x : Download) (added : download_in start (history_of told) gid ≡ Some x).
+      same_download start (history_of told) gid x d added lone.added) in
+      never_refused laws start (state disk) gid d told
       (record {
         legal = run.legal;
         marks = run.marks;
         fits = run.fits;
         memory = memory;
         only = lone.only;
-        same = λ x added. same_download start (history_of told) gid x d added lone.added;
-      }) lacks.absent
+        same = one;
+      })
+      (listed_free start (history_of told) gid meta d lone.uris lone.subject want base dir one
+      ((state disk).seen_at (first_time told)) lacks.absent)
 
   only_complete : (how : End) → IsLoneEnd how → ((piece : ℕ) (mark : Mark) → how ≡ end.Dead piece mark → ⊥)
       → ((count : ℕ) → how ≡ end.Disk count → ⊥) → (IsRefusalEnd how → ⊥) → how ≡ end.Complete
@@ -53,8 +58,8 @@ module _ (laws : RunFollows) {D : Type 0} (state : D → DiskState) where
   only_complete (end.SameHash other) lone dead fault refused = absurd lone
   only_complete end.Checksum lone dead fault refused = absurd lone
 
-  pub brought_complete : BlocksFollow → PlacesAreNumbered → KnownAreIdle → BroughtOnlyComplete state
-  brought_complete follow numbered idle start told disk gid mirror meta want payload is of links known some only memory lacks
+  pub brought_complete : OpenedHavePlans → BlocksFollow → PlacesAreNumbered → KnownAreIdle → BroughtOnlyComplete state
+  brought_complete plans follow numbered idle start told disk gid mirror meta want payload is of links known some only memory lacks
       faultless other how there =
       let l = is.listed in
       let lone : IsLoneListed start (history_of told) gid meta =
@@ -63,7 +68,7 @@ module _ (laws : RunFollows) {D : Type 0} (state : D → DiskState) where
         so.0,
         only_complete how so.1
             (λ piece mark dead.
-            never_end_dead laws follow numbered state start told disk gid mirror meta want payload is of links known some piece mark
+            never_end_dead laws plans follow numbered state start told disk gid mirror meta want payload is of links known some piece mark
             (subst (λ (g : Gid). Contains (history_of told) (Ended g (end.Dead piece mark))) so.0
             (subst (λ (h : End). Contains (history_of told) (Ended other h)) dead there)))
             (λ count fault. faultless other count (subst (λ (h : End). Contains (history_of told) (Ended other h)) fault there))

@@ -10,7 +10,7 @@ use Rattle.dl_history.proofs.Sole.{some_of}
 use Rattle.dl_history.specs.OwnEvents.{OwnEvent}
 use Rattle.dl_history.specs.PayloadParts.{is_ended, is_opened}
 use Rattle.dl_kinds.specs.declared.gid.Gid.{Gid}
-use Rattle.engine_core.proofs.Promising.{download_on, legal_front, opened_on}
+use Rattle.engine_core.proofs.Promising.{download_on, legal_front, opened_on, want_on}
 use Rattle.engine_core.specs.Askings.{HasFailedIn, IsAsked, is_opened_in}
 use Rattle.engine_core.specs.TurnReads.{TurnsFitDisk}
 use Rattle.engine_turns.specs.Told.{AllTurns, RunTurn, history_after, history_of}
@@ -30,7 +30,8 @@ use Rattle.machine_core.specs.declared.events.Event.TheVariants.{Ended}
 use Rattle.metainfo.specs.declared.meta.Meta.{Meta}
 use Rattle.payload_files.specs.Names.{name_of}
 use Rattle.resume_core.specs.Refusals.{open_refusal, refused_over}
-use Rattle.resume_core.specs.Lens.{first_len, lens_in}
+use Rattle.resume_core.specs.Lens.{first_len, lens_in, lens_of}
+use Rattle.resume_core.specs.Steps.{SameFor}
 use Rattle.resume_core.specs.Wants.{control_name}
 use Rattle.resume_core.specs.declared.refusing.OpenErr.TheVariants.{Exists}
 use Rattle.stored_run.proofs.Doing.{history_on, own_grows_on}
@@ -84,9 +85,11 @@ added_of : (o : Option Download) (own : List OwnEvent) (l : PayloadLengths)
 added_of (Some d) own l is = (d, refl)
 added_of None own l is = absurd cc
 
-module _ (laws : RunFollows) (start : RunStart) (disk : DiskState) (gid : Gid) (meta : Meta) (download : Download)
-    (uris : List (List ℕ)) (subject : download.subject ≡ Listed meta uris) (want : Want)
-    (base : want.base ≡ meta.name) (dir : want.dir ≡ folder_in download) where
+-- where nothing of a want changes, the same is refused of it
+same_refused : (want : Want) (old new : Files) → SameFor want old new → open_refusal want new ≡ open_refusal want old
+same_refused want old new same i = refused_over want (same.control i) (first_len (lens_of (same.files i)))
+
+module _ (laws : RunFollows) (start : RunStart) (disk : DiskState) (gid : Gid) (download : Download) where
   -- what holds after these turns
   pub record Fresh (told : List RunTurn) : Type 0 where
     pub legal : IsLegal start (history_of told)
@@ -105,19 +108,6 @@ module _ (laws : RunFollows) (start : RunStart) (disk : DiskState) (gid : Gid) (
     only = λ other d added. f.only other d (download_on laws start (history_of before) t.events other d added);
     same = λ d added. f.same d (download_on laws start (history_of before) t.events gid d added);
   }
-
-  -- a control file of a want of the download is one of this want
-  control_same : (past : List Event) → ((d : Download) → download_in start past gid ≡ Some d → d ≡ download)
-      → (v : Want) → HasWant start past gid v → (control_name v ≡ control_name want) × IsSome v.info_hash
-  control_same past same v has =
-      let it = same has.download has.added in
-      let of : has.download.subject ≡ Listed meta uris = ap (λ (d : Download). d.subject) it ∙ subject in
-      let its_base : v.base ≡ meta.name = subst (λ (s : Subject). IsPayloadName has.download s v.base) of has.is.base in
-      let its_dir : v.dir ≡ want.dir = has.is.dir ∙ (ap folder_in it ∙ sym dir) in
-      let names : v.base ≡ want.base = its_base ∙ sym base in (
-        λ i. name_of (its_dir i) (names i ∷ []) ++ codes ".aria2",
-        subst (λ (o : Option (List ℕ)). IsSome o) (sym (has.is.info_hash ∙ ap info_hash_by of)) refl,
-      )
 
   -- ---- the store was asked once
 
@@ -155,46 +145,54 @@ module _ (laws : RunFollows) (start : RunStart) (disk : DiskState) (gid : Gid) (
         ∙ laws.going start mid gid mid_legal opening.active) in cc))
         (λ (starved : t.answer.said ≡ NoMemory). f.memory.0 starved) more) asks.came
 
-    -- so no control file came
-    lacks_still : (told : List RunTurn) (later : List Event) → mid ≡ history_after (history_of told) later → Fresh told
-        → (t : RunTurn) (before : List RunTurn) → told ≡ t ∷ before
-        → disk.seen_at (first_time told) (control_name want) ≡ None → disk.seen_at t.after.time (control_name want) ≡ None
-    lacks_still [] later mid_is f t before is none = absurd cc
-    lacks_still (u ∷ []) later mid_is f t before is none =
+    -- so nothing came that a want would be refused for
+    free_still : (want : Want) (told : List RunTurn) (later : List Event) → mid ≡ history_after (history_of told) later
+        → Fresh told → (t : RunTurn) (before : List RunTurn) → told ≡ t ∷ before
+        → open_refusal want (disk.seen_at (first_time told)) ≡ None → open_refusal want (disk.seen_at t.after.time) ≡ None
+    free_still want [] later mid_is f t before is none = absurd cc
+    free_still want (u ∷ []) later mid_is f t before is none =
         let same : u ≡ t = cc in
-        subst (λ (x : RunTurn). disk.seen_at x.after.time (control_name want) ≡ None) same
-        ((f.fits.0.fits.untouched want (λ g other asked has. absurd (unasked (u ∷ []) later mid_is f g asked))).control ∙ none)
-    lacks_still (u ∷ v ∷ older) later mid_is f t before is none =
+        subst (λ (x : RunTurn). open_refusal want (disk.seen_at x.after.time) ≡ None) same
+        (same_refused want (disk.seen_at u.before.time) (disk.seen_at u.after.time)
+        (f.fits.0.fits.untouched want (λ g other asked has. absurd (unasked (u ∷ []) later mid_is f g asked))) ∙ none)
+    free_still want (u ∷ v ∷ older) later mid_is f t before is none =
         let same : u ≡ t = cc in
         let f_v = fresh_before u (v ∷ older) f in
-        let was = lacks_still (v ∷ older) (u.events ++ later)
+        let was = free_still want (v ∷ older) (u.events ++ later)
         (mid_is ∙ sym (history_on (history_of (v ∷ older)) u.events later)) f_v v older refl none in
         let time : u.before.time ≡ v.after.time = ap (λ s. s.time) f.marks.0 in
-        let here : disk.seen_at u.before.time (control_name want) ≡ None =
-        ap (λ (k : ℕ). disk.seen_at k (control_name want)) time ∙ was in
-        subst (λ (x : RunTurn). disk.seen_at x.after.time (control_name want) ≡ None) same
-        ((f.fits.0.fits.untouched want (λ g other asked has. absurd (unasked (u ∷ v ∷ older) later mid_is f g asked))).control ∙ here)
+        let here : open_refusal want (disk.seen_at u.before.time) ≡ None =
+        ap (λ (k : ℕ). open_refusal want (disk.seen_at k)) time ∙ was in
+        subst (λ (x : RunTurn). open_refusal want (disk.seen_at x.after.time) ≡ None) same
+        (same_refused want (disk.seen_at u.before.time) (disk.seen_at u.after.time)
+        (f.fits.0.fits.untouched want (λ g other asked has. absurd (unasked (u ∷ v ∷ older) later mid_is f g asked)))
+        ∙ here)
 
   -- ---- a turn
 
-  -- as it began no control file stood
-  lacks_before : (t : RunTurn) (before : List RunTurn) → (mid : List Event) → IsLegal start mid → IsOpening start mid gid
-      → (front : List Event) → mid ≡ history_after (history_of before) front → Fresh (t ∷ before)
-      → disk.seen_at (first_time (t ∷ before)) (control_name want) ≡ None → disk.seen_at t.before.time (control_name want) ≡ None
-  lacks_before t [] mid legal opening front mid_is f none = none
-  lacks_before t (u ∷ older) mid legal opening front mid_is f none =
+  -- as it began nothing was refused of the want
+  free_before : (want : Want) (t : RunTurn) (before : List RunTurn) → (mid : List Event) → IsLegal start mid
+      → IsOpening start mid gid → (front : List Event) → mid ≡ history_after (history_of before) front → Fresh (t ∷ before)
+      → open_refusal want (disk.seen_at (first_time (t ∷ before))) ≡ None
+      → open_refusal want (disk.seen_at t.before.time) ≡ None
+  free_before want t [] mid legal opening front mid_is f none = none
+  free_before want t (u ∷ older) mid legal opening front mid_is f none =
       let time : t.before.time ≡ u.after.time = ap (λ s. s.time) f.marks.0 in
-      ap (λ (k : ℕ). disk.seen_at k (control_name want)) time
-      ∙ lacks_still mid legal opening (u ∷ older) front mid_is (fresh_before t (u ∷ older) f) u older refl none
+      ap (λ (k : ℕ). open_refusal want (disk.seen_at k)) time
+      ∙ free_still mid legal opening want (u ∷ older) front mid_is (fresh_before t (u ∷ older) f) u older refl none
+
+  -- no want of the download was refused as the first of the turns began
+  abbrev pub IsFreeFirst : List RunTurn → Type 0
+  IsFreeFirst told =
+      (want : Want) → HasWant start (history_of told) gid want → open_refusal want (disk.seen_at (first_time told)) ≡ None
 
   first_same : (t : RunTurn) (before : List RunTurn) → (before ≡ []) ⊎ (first_time (t ∷ before) ≡ first_time before)
   first_same t [] = inl refl
   first_same t (u ∷ older) = inr refl
 
-  refused_never : (t : RunTurn) (before : List RunTurn) → Fresh (t ∷ before)
-      → disk.seen_at (first_time (t ∷ before)) (control_name want) ≡ None → (other : Gid) (how : End)
+  refused_never : (t : RunTurn) (before : List RunTurn) → Fresh (t ∷ before) → IsFreeFirst (t ∷ before) → (other : Gid) (how : End)
       → Contains t.events (Ended other how) → IsRefusalEnd how → ⊥
-  refused_never t before f none other how there refuses =
+  refused_never t before f free other how there refuses =
       let past = history_of before in
       let e = Ended other how in
       let split = split_at t.events e there in
@@ -208,25 +206,45 @@ module _ (laws : RunFollows) (start : RunStart) (disk : DiskState) (gid : Gid) (
       let opening : IsOpening start mid gid =
       subst (λ (g : Gid). IsOpening start mid g) (gid_added start mid other d may.own.added ∙ its)
       (refusal_opens start mid d (wanted_pieces d (known_lengths start mid other)) how refuses may.cause) in
-      let lacks = lacks_before t before mid legal.0 opening split.front refl f none in
       let so = f.fits.0.fits.refused gid how (subst (λ (g : Gid). Contains t.events (Ended g how)) its there) refuses in
-      let control = control_same past (fresh_before t before f).same so.want so.has in
-      let never = unrefused so.want (disk.seen_at t.before.time) control.1
-      (ap (disk.seen_at t.before.time) control.0 ∙ lacks) in
+      let never = free_before so.want t before mid legal.0 opening split.front refl f
+      (free so.want (want_on laws start past t.events gid so.want f.legal so.has)) in
       absurd (let no : Some so.err ≡ None = sym so.found ∙ never in cc)
 
-  pub never_refused : (told : List RunTurn) → Fresh told → disk.seen_at (first_time told) (control_name want) ≡ None
+  free_earlier : (t : RunTurn) (before : List RunTurn) → Fresh (t ∷ before) → first_time (t ∷ before) ≡ first_time before
+      → IsFreeFirst (t ∷ before) → IsFreeFirst before
+  free_earlier t before f time free want has =
+      subst (λ (k : ℕ). open_refusal want (disk.seen_at k) ≡ None) time
+      (free want (want_on laws start (history_of before) t.events gid want f.legal has))
+
+  pub never_refused : (told : List RunTurn) → Fresh told → IsFreeFirst told
       → (other : Gid) (how : End) → Contains (history_of told) (Ended other how) → IsRefusalEnd how → ⊥
-  never_refused [] f none other how there refuses = absurd (let within = there.1 in omega (arith, within))
-  never_refused (t ∷ before) f none other how there refuses = ⊎_elim
-      (λ (here : Contains t.events (Ended other how)). refused_never t before f none other how here refuses)
+  never_refused [] f free other how there refuses = absurd (let within = there.1 in omega (arith, within))
+  never_refused (t ∷ before) f free other how there refuses = ⊎_elim
+      (λ (here : Contains t.events (Ended other how)). refused_never t before f free other how here refuses)
       (λ (was : Contains (history_of before) (Ended other how)). ⊎_elim
       (λ (empty : before ≡ []).
       let there_none : Contains [] (Ended other how) =
       subst (λ (l : List RunTurn). Contains (history_of l) (Ended other how)) empty was in
       absurd (let within = there_none.1 in omega (arith, within)))
       (λ (time : first_time (t ∷ before) ≡ first_time before).
-      never_refused before (fresh_before t before f)
-      (subst (λ (k : ℕ). disk.seen_at k (control_name want) ≡ None) time none) other how was refuses)
+      never_refused before (fresh_before t before f) (free_earlier t before f time free) other how was refuses)
       (first_same t before))
       (come_of (history_of before) t.events (Ended other how) there)
+
+-- ---- a metainfo file
+
+-- without a control file no want of its download is refused
+pub listed_free : (start : RunStart) (past : List Event) (gid : Gid) (meta : Meta) (download : Download) (uris : List (List ℕ))
+    → download.subject ≡ Listed meta uris → (want : Want) → want.base ≡ meta.name → want.dir ≡ folder_in download
+    → ((d : Download) → download_in start past gid ≡ Some d → d ≡ download) → (files : Files)
+    → files (control_name want) ≡ None → (v : Want) → HasWant start past gid v → open_refusal v files ≡ None
+listed_free start past gid meta download uris subject want base dir same files none v has =
+    let it = same has.download has.added in
+    let of : has.download.subject ≡ Listed meta uris = ap (λ (d : Download). d.subject) it ∙ subject in
+    let its_base : v.base ≡ meta.name = subst (λ (s : Subject). IsPayloadName has.download s v.base) of has.is.base in
+    let its_dir : v.dir ≡ want.dir = has.is.dir ∙ (ap folder_in it ∙ sym dir) in
+    let names : v.base ≡ want.base = its_base ∙ sym base in
+    unrefused v files
+    (subst (λ (o : Option (List ℕ)). IsSome o) (sym (has.is.info_hash ∙ ap info_hash_by of)) refl)
+    (ap files (λ i. name_of (its_dir i) (names i ∷ []) ++ codes ".aria2") ∙ none)

@@ -1,2 +1,3 @@
 pub mod Blameless
 pub mod Lone
+pub mod LoneUris

@@ -1,10 +1,11 @@
 // What follows in runs in which a mirror brings a payload's own bytes.
 ghost use Rattle.blameless_mirrors.specs.Blameless.{DeliveredAreRead, MarksAreOfLinks, NeverEndDead, StayEligible, WrongFindingsArentTheirs};
 ghost use Rattle.blameless_mirrors.specs.Lone.{BroughtOnlyComplete, FreshAreNeverRefused, LoneAreAlone, LoneDownloadsEndWell};
+ghost use Rattle.blameless_mirrors.specs.LoneUris.{UnlistedDeliveredAreRead, UnlistedOnlyComplete};
 
 use dl_disk::Disk;
 use dl_kinds::plan_laws;
-use machine_core::known_downloads_are_idle;
+use machine_core::{accounts_match_runs, known_downloads_are_idle};
 use stored_run::runs_follow;
 
 /// Each block that is there and came from the mirror reads as the payload's bytes, behind each turn. It does nothing when it
@@ -13,6 +14,7 @@ pub fn delivered_blocks_are_read<D: Disk>()
     ensures { DeliveredAreRead D.state }
 {
     plan_laws();
+    accounts_match_runs();
     runs_follow();
 }
 
@@ -26,6 +28,7 @@ pub fn faithful_mirrors_are_blameless<D: Disk>()
     ensures dead { NeverEndDead D.state }
 {
     plan_laws();
+    accounts_match_runs();
     runs_follow();
 }
 
@@ -46,6 +49,26 @@ pub fn brought_downloads_only_complete<D: Disk>()
     ensures complete { BroughtOnlyComplete D.state }
 {
     plan_laws();
+    accounts_match_runs();
     known_downloads_are_idle();
+    runs_follow();
+}
+
+/// So it is of the only download of a run without a metainfo file and a checksum: where nothing stood in its way as the run began,
+/// a mirror brings just a payload's bytes, and neither the mirror's links nor the disk fail, it ends by being complete alone. It
+/// does nothing when it runs.
+pub fn unlisted_downloads_only_complete<D: Disk>()
+    ensures { UnlistedOnlyComplete D.state }
+{
+    runs_follow();
+}
+
+/// Each block of it that is there and came from such a mirror reads as the payload's bytes, behind each turn. It does nothing when
+/// it runs.
+pub fn unlisted_blocks_are_read<D: Disk>()
+    ensures { UnlistedDeliveredAreRead D.state }
+{
+    plan_laws();
+    accounts_match_runs();
     runs_follow();
 }

@@ -2,7 +2,6 @@
 use Rattle.std.proofs.Common.{◌≡◌, ℕ, List, [], ◌∷◌, ◌++◌, Option, Some, None, Ok, refl, sym, ap, ◌∙◌, subst}
 use Rattle.std.specs.Prelude.{box_value}
 use Rattle.std.specs.Option.{option_and_then}
-use Rattle.brought_runs.specs.Ends.{IsAddingOf}
 use Rattle.command_line.specs.declared.source.Source.TheVariants as source
 use Rattle.control_file.specs.declared.want.Want.{Want}
 use Rattle.dl_disk.specs.Files.{Files}
@@ -21,7 +20,7 @@ use Rattle.metainfo.specs.Info.{Info, info_of}
 use Rattle.metainfo.specs.Rules.{metainfo_of}
 use Rattle.metainfo.specs.declared.meta.Meta.{Meta}
 use Rattle.option_set.specs.declared.setting.Assigned.{Assigned}
-use Rattle.brought_runs.proofs.FirstAdded.{AddsListed}
+use Rattle.brought_runs.proofs.FirstAdded.{AddsFirst}
 use Rattle.brought_runs.proofs.Metas.{meta_one}
 
 -- ---- what a metainfo file says
@@ -37,7 +36,7 @@ says_one file one other is also =
 pub record CallOfFile (asked : Option Call) (meta : Meta) (uris : List (List ℕ)) (settings : List Assigned) : Type 0 where
   pub its : Call
   pub is : asked ≡ Some its
-  pub adds : AddsListed its meta uris settings
+  pub adds : AddsFirst its (Listed meta uris) settings
 
 pub call_of_file : (seen : Files) (file : List ℕ) (meta : Meta) (uris : List (List ℕ)) (settings : List Assigned)
     (asked : Option Call) → Says (seen file) (info_of meta) → IsCallOf seen (source.Metainfo file uris) settings asked
@@ -49,18 +48,13 @@ call_of_file seen file meta uris settings (Some (call.AddTorrent m us os positio
       its = call.AddTorrent m us os position;
       is = refl;
       adds = (
-        meta_one (box_value m) meta (adds.0 ∙ says_one (seen file) called.0 (info_of meta) called.1 said),
-        adds.1,
+        (λ i. Listed (meta_one (box_value m) meta (adds.0 ∙ says_one (seen file) called.0 (info_of meta) called.1 said) i)
+            (adds.1 i)),
         adds.2,
         adds.3,
       );
     }
 call_of_file seen file meta uris settings (Some other) said called = absurd called.2
-
-pub adding_of : (its : Call) (meta : Meta) (uris : List (List ℕ)) (settings : List Assigned)
-    → AddsListed its meta uris settings → IsAddingOf its meta
-adding_of (call.AddTorrent m us os position) meta uris settings adds = adds.0
-adding_of other meta uris settings adds = absurd adds
 
 -- ---- a download's want
 

@@ -15,4 +15,7 @@ pub mod LineOptions
 pub mod Histories
 pub mod FileCalls
 pub mod Unbegun
+pub mod OneAdded
 pub mod Completed
+pub mod KnownMirrors
+pub mod CompletedUris

@@ -7,6 +7,7 @@ use Rattle.dl_kinds.specs.declared.gid.Gid.{Gid}
 use Rattle.dl_kinds.specs.declared.runs.Moment.{Moment}
 use Rattle.machine_core.proofs.Parts.{gid_is}
 use Rattle.machine_core.specs.Replays.{download_of, is_same_gid, next_gid, replay_of, with_settings}
+use Rattle.machine_core.specs.RunLegal.{download_in}
 use Rattle.machine_core.specs.Starts.{Download, Listed, RunStart}
 use Rattle.machine_core.specs.declared.calls.Call.{Call}
 use Rattle.machine_core.specs.declared.calls.Call.TheVariants as call
@@ -40,32 +41,37 @@ lone_found : (d e : Download) (gid : Gid) (t : Bool) → is_same_gid gid d.gid �
 lone_found d e gid true same is = sym (gid_is gid d.gid same)
 lone_found d e gid false same is = absurd cc
 
-module _ (start : RunStart) (session : ℕ) (now : Moment) (rest : List Event) (none : HasNoCall rest) where
-  lone_after : (asked : Call) (meta : Meta) (d : Download) (uris : List (List ℕ))
-      → (replay_of start (Called session asked now ∷ [])).downloads ≡ d ∷ [] → d.subject ≡ Listed meta uris
-      → (gid : Gid) × IsLoneListed start (reverse (Called session asked now ∷ rest)) gid meta
-  lone_after asked meta d uris first subject =
-      let past = reverse (Called session asked now ∷ rest) in
-      let whole : (replay_of start past).downloads ≡ d ∷ [] =
-      ap (λ (p : List Event). (replay_of start p).downloads) (reverse-append (Called session asked now ∷ []) rest)
-      ∙ downloads_on start (Called session asked now ∷ []) (reverse rest) (no_call_reversed rest none) ∙ first in (
-        d.gid,
-        record {
-          download = d;
-          added = ap (λ (ds : List Download). download_of ds d.gid) whole
-              ∙ ap (λ (t : Bool). cond t (Some d) None) (eq-eqb d.gid.0 d.gid.0 refl);
-          uris = uris;
-          subject = subject;
-          only = λ other e added.
-              lone_found d e other (is_same_gid other d.gid) refl
-              (sym (ap (λ (ds : List Download). download_of ds other) whole) ∙ added);
-        },
-      )
+module _ (start : RunStart) (session : ℕ) (now : Moment) (rest : List Event) (none : HasNoCall rest) (asked : Call) (d : Download)
+    (first : (replay_of start (Called session asked now ∷ [])).downloads ≡ d ∷ []) where
+  abbrev whole : List Event
+  whole = reverse (Called session asked now ∷ rest)
+
+  alone_after : (replay_of start whole).downloads ≡ d ∷ []
+  alone_after = ap (λ (p : List Event). (replay_of start p).downloads) (reverse-append (Called session asked now ∷ []) rest)
+      ∙ downloads_on start (Called session asked now ∷ []) (reverse rest) (no_call_reversed rest none) ∙ first
+
+  pub only_one : (other : Gid) (e : Download) → download_in start whole other ≡ Some e → other ≡ d.gid
+  only_one other e added = lone_found d e other (is_same_gid other d.gid) refl
+      (sym (ap (λ (ds : List Download). download_of ds other) alone_after) ∙ added)
+
+  lone_after : (meta : Meta) (uris : List (List ℕ)) → d.subject ≡ Listed meta uris
+      → (gid : Gid) × IsLoneListed start whole gid meta
+  lone_after meta uris subject = (
+    d.gid,
+    record {
+      download = d;
+      added = ap (λ (ds : List Download). download_of ds d.gid) alone_after
+          ∙ ap (λ (t : Bool). cond t (Some d) None) (eq-eqb d.gid.0 d.gid.0 refl);
+      uris = uris;
+      subject = subject;
+      only = only_one;
+    },
+  )
 
 pub adds_one : OneCallAddsOne
 adds_one start session (call.AddTorrent m uris options position) now rest meta is none =
     let chosen = with_settings start.global options in
     let d : Download = record { gid = next_gid start [] chosen; subject = Listed (box_value m) uris; options = chosen } in
-    lone_after start session now rest none (call.AddTorrent m uris options position) meta d uris refl
+    lone_after start session now rest none (call.AddTorrent m uris options position) d refl meta uris
     (ap (λ (x : Meta). Listed x uris) is)
 adds_one start session asked now rest meta is none = absurd is

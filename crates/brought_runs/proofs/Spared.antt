@@ -30,7 +30,7 @@ use Rattle.brought_runs.specs.Over.{IsOfWorker, IsRunOver, IsWork, RanOverLinks}
 use Rattle.brought_runs.specs.Served.{AllServe, AllUseNone, IsServed, SparesServing}
 use Rattle.brought_runs.proofs.Workers.{among_all, ends_so, its_work}
 
-uses_work : (op : Operation) → UsesClaim op → IsWork op
+pub uses_work : (op : Operation) → UsesClaim op → IsWork op
 uses_work (operation.Deliver claim run bytes now) uses = tt
 uses_work (operation.Lose claim mark now) uses = tt
 uses_work other uses = absurd uses
@@ -56,18 +56,18 @@ module _ {D O L K : Type 0} {says : DiskSays D} {sinks : SinkSays O} {links : Li
     sufficed well t by is = well (ends_so sinks it.ran.engine out out' ended.ending (it.ran.begun.is_short || it.ran.short)
         (by.at.short (ap ends_short is)) it.ran.finishes.ends)
 
-    of_link : (subject : Subject) (mirror : ℕ) (payload : List ℕ)
+    pub of_link : (subject : Subject) (mirror : ℕ) (payload : List ℕ)
         → (AllServe links olds subject mirror payload
         ⊎ (AllUseNone links olds news subject mirror payload × (ended.ending ≢ NoMemory)))
-        → (t : RunTurn) → Contains it.ran.stops.middle t → UsesClaim t.op
+        → (t : RunTurn) → Contains it.ran.stops.middle t → IsWork t.op
         → ComesOfLink D links turns subject mirror payload t
-    of_link subject mirror payload serve t there uses =
-        let by = it.over.works t there (uses_work t.op uses) in record {
+    of_link subject mirror payload serve t there works =
+        let by = it.over.works t there works in record {
           worker = by.place;
           old = by.at.old.0;
           new = by.at.new.0;
           own = among_all links it.ran olds news by.place by.at;
-          there = its_work links it.ran olds news t by (uses_work t.op uses);
+          there = its_work links it.ran olds news t by works;
           serves = ⊎_elim (λ (all : AllServe links olds subject mirror payload). inl (all by.place by.at.old by.at.old_is))
               (λ (none : AllUseNone links olds news subject mirror payload × (ended.ending ≢ NoMemory)).
               inr (none.0 by.place by.at.old by.at.new by.at.old_is by.at.new_is, sufficed none.1 t by)) serve;
@@ -81,7 +81,7 @@ module _ {D O L K : Type 0} {says : DiskSays D} {sinks : SinkSays O} {links : Li
         faithful words gids doors disk out ended out' it.ran gid is.download mirror payload tells
         (ap (λ (past : List Event). download_in start past gid) (ran_facts.history_is it.ran) ∙ is.added)
         (told_right start (reverse ended.journal.events.items) gid payload is.download.subject is.listed)
-        (of_link is.download.subject mirror payload is.serve)
+        (λ t there uses. of_link is.download.subject mirror payload is.serve t there (uses_work t.op uses))
 
     lost : (gid : Gid) (mirror : ℕ) (payload : List ℕ) → IsFaithful start gid mirror payload (reverse turns)
         → (id piece : ℕ) (mark : Mark) → Contains ended.journal.events.items (Lost gid id mirror piece mark)

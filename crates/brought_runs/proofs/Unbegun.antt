@@ -94,3 +94,21 @@ module _ {D L K O : Type 0} {says : DiskSays D} {links : LinkSays L} {sinks : Si
       (lacks.fault fault) (omega arith))
       (subst (λ (s : Source). RefusesSource (says.state disk).seen s lacks.error) names.named (lacks.told tells)))
       (λ (starved : never.refusal ≡ NoMemory). starved) more) never.ends) never.prints
+
+-- .. nor where they name URIs
+module _ {D O : Type 0} {says : DiskSays D} {sinks : SinkSays O} {words : List (List ℕ)} {disk : D} {out : O} {ended : Ended D}
+    {out' : O} where
+  pub never_began_uris : LinesAreOne → IsTrue says.tells → NeverBegan says sinks words disk out ended out' → (named : CommandLine)
+      (uris : List (List ℕ)) → IsLine words named → named.source ≡ source.Mirrors uris → ended.ending ≡ NoMemory
+  never_began_uris lines tells never named uris means is =
+      no_memory_printed sinks out out' never.refusal ended.ending (⊎_elim
+      (λ (wrong : RefusesWords words never.refusal × (ended.disk ≡ disk)).
+      refused_words words never.refusal named means wrong.0)
+      (λ more. ⊎_elim
+      (λ (lacks : LacksCall says words disk ended.disk never.refusal).
+      let same = lines words named lacks.line means lacks.means in
+      let its : lacks.line.source ≡ source.Mirrors uris = ap (λ (l : CommandLine). l.source) (sym same) ∙ is in
+      let starved : lacks.error ≡ Starved =
+      subst (λ (s : Source). RefusesSource (says.state disk).seen s lacks.error) its (lacks.told tells) in
+      lacks.ending_is ∙ ap ending_of_source starved)
+      (λ (starved : never.refusal ≡ NoMemory). starved) more) never.ends) never.prints

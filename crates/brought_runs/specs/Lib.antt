@@ -4,3 +4,4 @@ pub mod LinksCauses
 pub mod Served
 pub mod Completes
 pub mod OverLaws
+pub mod CompletesUris

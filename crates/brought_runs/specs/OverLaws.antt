@@ -5,6 +5,7 @@ use Rattle.dl_kinds.specs.declared.outside.Sink.{Ghosts as SinkSays}
 use Rattle.link_source.specs.declared.Links.{Ghosts as LinkSays}
 use Rattle.run_frame.specs.declared.ended.Ended.{Ended}
 use Rattle.brought_runs.specs.Completes.{CompletesServed}
+use Rattle.brought_runs.specs.CompletesUris.{CompletesUris}
 use Rattle.brought_runs.specs.LinksCauses.{ShowsLinks}
 use Rattle.brought_runs.specs.Over.{IsRunOver}
 use Rattle.brought_runs.specs.Served.{SparesServing}
@@ -31,3 +32,11 @@ module _ {D O L : Type 0} (K : Type 0) (says : DiskSays D) (sinks : SinkSays O) 
       (news : List (L × K)) (out' : O) → IsRunOver says sinks links words gids doors disk olds out ended news out'
       → 1 ≤ length olds → IsTrue says.tells → IsTrue links.tells
       → CompletesServed says links sinks words disk olds out ended news out'
+
+  -- .. also without a metainfo file, where all mirrors lead to one resource
+  abbrev pub RunsCompleteUris : Type 0
+  RunsCompleteUris =
+      (words : List (List ℕ)) (gids doors : ℕ) (disk : D) (olds : List (L × K)) (out : O) (ended : Ended D)
+      (news : List (L × K)) (out' : O) → IsRunOver says sinks links words gids doors disk olds out ended news out'
+      → 1 ≤ length olds → IsTrue says.tells → IsTrue links.tells
+      → CompletesUris says links sinks words disk olds out ended news out'

@@ -1,16 +1,20 @@
 // What follows of runs over links. Laws do nothing when they run.
-ghost use Rattle.brought_runs.specs.OverLaws.{RunsCompleteServed, RunsShowLinks, RunsSpareServing};
+ghost use Rattle.brought_runs.specs.OverLaws.{RunsCompleteServed, RunsCompleteUris, RunsShowLinks, RunsSpareServing};
 
-use crate::laws::{brought_runs_end_well, finished_runs_are_done, one_call_adds_one_download};
-use blameless_mirrors::{faithful_mirrors_are_blameless, lone_downloads_end_well};
+use crate::laws::{brought_runs_end_well, finished_runs_are_done};
+use blameless_mirrors::{
+    faithful_mirrors_are_blameless, lone_downloads_end_well, unlisted_downloads_only_complete,
+};
 use command_line::lines_are_one;
 use dl_disk::Disk;
 use dl_kinds::Sink;
 use engine_turns::turns_tell_runs;
 use link_source::Links;
 use machine_core::downloads_stay;
-use run_frame::{losses_come_of_workers, runs_end_as_shown, workers_show_their_link};
-use served_claims::runs_are_faithful;
+use run_frame::{
+    losses_come_of_workers, runs_end_as_shown, runs_show_their_disk, workers_show_their_link,
+};
+use served_claims::{runs_are_faithful, runs_tell_right_lengths};
 
 /// What the history of a run over links tells of a claim's loss or length came over the link of the claim's worker.
 pub fn runs_show_their_links<D: Disk, L: Links, K, O: Sink>()
@@ -37,10 +41,25 @@ pub fn runs_complete_what_is_served<D: Disk, L: Links, K, O: Sink>()
     runs_are_faithful::<D, L, O>();
     brought_runs_end_well::<D, O>();
     finished_runs_are_done::<D, O>();
-    one_call_adds_one_download();
     lone_downloads_end_well();
     lines_are_one();
     downloads_stay();
     runs_end_as_shown::<D, O>();
+    turns_tell_runs();
+}
+
+/// .. also without a metainfo file and a checksum, where all mirrors lead alike to one resource and nothing stands in its place.
+pub fn runs_complete_uris<D: Disk, L: Links, K, O: Sink>()
+    ensures { RunsCompleteUris K D.Disk O.Sink L.Links }
+{
+    runs_show_their_links::<D, L, K, O>();
+    runs_are_faithful::<D, L, O>();
+    runs_tell_right_lengths::<D, L, O>();
+    unlisted_downloads_only_complete::<D>();
+    finished_runs_are_done::<D, O>();
+    lines_are_one();
+    downloads_stay();
+    runs_end_as_shown::<D, O>();
+    runs_show_their_disk::<D, O>();
     turns_tell_runs();
 }

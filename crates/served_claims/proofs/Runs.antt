@@ -14,20 +14,22 @@ use Rattle.dl_kinds.specs.declared.outside.Sink.{Ghosts as SinkSays}
 use Rattle.dl_kinds.specs.declared.runs.Moment.{Moment}
 use Rattle.engine_turns.specs.RunTurns.{MayComeAfter}
 use Rattle.engine_turns.specs.Told.{AllTurns, RunTurn}
+use Rattle.engine_turns.specs.declared.operations.Operation.{Operation}
 use Rattle.engine_turns.specs.declared.operations.Operation.TheVariants as operation
 use Rattle.link_source.specs.declared.Links.{Ghosts as LinkSays}
 use Rattle.machine_core.specs.Starts.{RunStart, Subject}
 use Rattle.machine_core.specs.RunLegal.{download_in}
 use Rattle.machine_core.specs.declared.calls.Call.{Call}
 use Rattle.machine_core.specs.declared.events.Event.{Event}
+use Rattle.machine_core.specs.declared.events.Event.TheVariants.{Claimed}
 use Rattle.run_frame.specs.Begins.{IsOwnCall}
 use Rattle.run_frame.specs.Finishes.{Ran}
 use Rattle.run_frame.specs.declared.ended.Ended.{Ended}
 use Rattle.run_frame.proofs.Ran as ran_facts
 use Rattle.run_frame.proofs.Turns.{cut_at, none_there, reversed_cut}
 use Rattle.served_claims.specs.Answering.{WorksOver}
-use Rattle.served_claims.specs.Laws.{ComesOfServing, IsToldRight, ServedClaimsAreFaithful, UsesClaim}
-use Rattle.served_claims.specs.Runs.{ComesOfLink, RunsAreFaithful}
+use Rattle.served_claims.specs.Laws.{ComesOfServing, IsToldRight, ServedClaimsAreFaithful, ServedLengthsAreRight, TellsSize, UsesClaim}
+use Rattle.served_claims.specs.Runs.{ComesOfLink, RunsAreFaithful, RunsTellRight}
 use Rattle.served_claims.proofs.Faithful.{all_at_places}
 
 -- ---- lists of turns
@@ -90,36 +92,48 @@ ended_so {D} {L} links worker s link s' link' result its = by its.comes_out
 
 -- ---- which turns are no worker's
 
-not_by_call : {P : Type 0} (call : Option Call) (turns : List RunTurn) (short : Bool) (t : RunTurn)
-    → IsOwnCall call turns short → Contains turns t → UsesClaim t.op → P
-not_by_call None turns short t is there uses =
-    none_there t (subst (λ (ts : List RunTurn). Contains ts t) is.0 there)
-not_by_call (Some call) turns short t is there uses =
-    ⊎_elim (λ (none : Contains [] t). none_there t none)
-    (λ (same : is.0 ≡ t). absurd (subst UsesClaim (ap (λ (u : RunTurn). u.op) (sym same) ∙ is.2) uses))
-    (Contains-push_cases [] is.0 t (subst (λ (ts : List RunTurn). Contains ts t) is.1 there))
+-- neither a call nor a stop does so
+record IsOfWorkers (Does : Operation → Type 0) : Type 0 where
+  no_call : (session : ℕ) (call : Call) (now : Moment) → Does (operation.Call session call now) → ⊥
+  no_stop : (now : Moment) → Does (operation.Stop now) → ⊥
 
-not_by_stop : {P : Type 0} (u t : RunTurn) (now : Moment) → u.op ≡ operation.Stop now → Contains (u ∷ []) t → UsesClaim t.op
-    → P
-not_by_stop u t now stops there uses =
-    ⊎_elim (λ (none : Contains [] t). none_there t none)
-    (λ (same : u ≡ t). absurd (subst UsesClaim (ap (λ (v : RunTurn). v.op) (sym same) ∙ stops) uses))
-    (Contains-push_cases [] u t there)
+module _ (Does : Operation → Type 0) (theirs : IsOfWorkers Does) where
+  not_by_call : {P : Type 0} (call : Option Call) (turns : List RunTurn) (short : Bool) (t : RunTurn)
+      → IsOwnCall call turns short → Contains turns t → Does t.op → P
+  not_by_call None turns short t is there does =
+      none_there t (subst (λ (ts : List RunTurn). Contains ts t) is.0 there)
+  not_by_call (Some call) turns short t is there does =
+      ⊎_elim (λ (none : Contains [] t). none_there t none)
+      (λ (same : is.0 ≡ t). absurd (theirs.no_call 0 call (record { 0 = 0 })
+      (subst Does (ap (λ (u : RunTurn). u.op) (sym same) ∙ is.2) does)))
+      (Contains-push_cases [] is.0 t (subst (λ (ts : List RunTurn). Contains ts t) is.1 there))
 
-module _ {D O L : Type 0} (says : DiskSays D) (sinks : SinkSays O) (links : LinkSays L) where
-  -- a turn that uses a claim is neither the line's own call nor the last stop
-  in_middle : (words : List (List ℕ)) (gids doors : ℕ) (disk : D) (out : O) (ended : Ended D) (out' : O)
-      (ran : Ran says sinks words gids doors disk out ended out') (t : RunTurn) → Contains (ran_facts.turns ran) t
-      → UsesClaim t.op → Contains ran.stops.middle t
-  in_middle words gids doors disk out ended out' ran t there uses =
+  not_by_stop : {P : Type 0} (u t : RunTurn) (now : Moment) → u.op ≡ operation.Stop now → Contains (u ∷ []) t → Does t.op → P
+  not_by_stop u t now stops there does =
+      ⊎_elim (λ (none : Contains [] t). none_there t none)
+      (λ (same : u ≡ t). absurd (theirs.no_stop now (subst Does (ap (λ (v : RunTurn). v.op) (sym same) ∙ stops) does)))
+      (Contains-push_cases [] u t there)
+
+  -- a turn that does so is neither the line's own call nor the last stop
+  in_middle : {D O : Type 0} (says : DiskSays D) (sinks : SinkSays O) (words : List (List ℕ)) (gids doors : ℕ) (disk : D) (out : O)
+      (ended : Ended D) (out' : O) (ran : Ran says sinks words gids doors disk out ended out') (t : RunTurn)
+      → Contains (ran_facts.turns ran) t → Does t.op → Contains ran.stops.middle t
+  in_middle says sinks words gids doors disk out ended out' ran t there does =
       let own = ran_facts.own_call ran in
       let last = ran_facts.last_turn ran in
       ⊎_elim (λ (front : Contains (own ++ ran.stops.middle) t). ⊎_elim
-      (λ (called : Contains own t). not_by_call ran.begins.call own ran.begun.is_short t ran.begins.own called uses)
+      (λ (called : Contains own t). not_by_call ran.begins.call own ran.begun.is_short t ran.begins.own called does)
       (λ (its : Contains ran.stops.middle t). its) (Contains-append_cases own ran.stops.middle t front))
-      (λ (its : Contains (last ∷ []) t). not_by_stop last t (record { 0 = 0 }) ran.stops.op its uses)
+      (λ (its : Contains (last ∷ []) t). not_by_stop last t (record { 0 = 0 }) ran.stops.op its does)
       (Contains-append_cases (own ++ ran.stops.middle) (last ∷ []) t there)
 
+claims_theirs : IsOfWorkers UsesClaim
+claims_theirs = record { no_call = λ session call now uses. uses; no_stop = λ now uses. uses }
+
+sizes_theirs : IsOfWorkers TellsSize
+sizes_theirs = record { no_call = λ session call now tells. tells; no_stop = λ now tells. tells }
+
+module _ {D O L : Type 0} (says : DiskSays D) (sinks : SinkSays O) (links : LinkSays L) where
   comes_of : (turns : List RunTurn) (subject : Subject) (mirror : ℕ) (payload : List ℕ) (t : RunTurn)
       → ComesOfLink D links turns subject mirror payload t
       → ComesOfServing links.tells (reverse turns) subject mirror payload t
@@ -148,5 +162,18 @@ module _ {D O L : Type 0} (says : DiskSays D) (sinks : SinkSays O) (links : Link
       (subst (λ (past : List Event). download_in start past gid ≡ Some download) (ran_facts.history_is ran) added)
       (subst (λ (past : List Event). IsToldRight start past gid payload download.subject) (ran_facts.history_is ran) right)
       (λ t there uses. comes_of turns download.subject mirror payload t
-      (comes t (in_middle words gids doors disk out ended out' ran t
+      (comes t (in_middle UsesClaim claims_theirs says sinks words gids doors disk out ended out' ran t
       (subst (λ (l : List RunTurn). Contains l t) (reverse-reverse turns) (turned_there (reverse turns) t there)) uses) uses))
+
+  pub runs_tell_right : ServedLengthsAreRight → RunsTellRight says sinks links
+  runs_tell_right right words gids doors disk out ended out' ran gid download payload tells added comes =
+      let start = ran_facts.start ran in
+      let turns = ran_facts.turns ran in
+      subst (λ (past : List Event). IsToldRight start past gid payload download.subject) (sym (ran_facts.history_is ran))
+      (right links.tells start (reverse turns) gid download payload tells (ran_facts.legal_told ran)
+      (ties_turned start turns (ran_facts.may_come ran))
+      (subst (λ (past : List Event). download_in start past gid ≡ Some download) (ran_facts.history_is ran) added)
+      (λ t claim there told claimed. comes_of turns download.subject claim.mirror payload t
+      (comes t claim (in_middle TellsSize sizes_theirs says sinks words gids doors disk out ended out' ran t
+      (subst (λ (l : List RunTurn). Contains l t) (reverse-reverse turns) (turned_there (reverse turns) t there)) told) told
+      (subst (λ (past : List Event). Contains past (Claimed gid claim)) (sym (ran_facts.history_is ran)) claimed))))

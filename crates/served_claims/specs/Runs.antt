@@ -2,19 +2,21 @@
 use Rattle.std.specs.Prelude.{◌≡◌, ◌≢◌, ◌⊎◌, ℕ, Contains, IsTrue, List, Some, Ok, reverse}
 use Rattle.conn_worker.specs.declared.ends.WorkEnd.TheVariants.{NoMemory}
 use Rattle.dl_disk.specs.declared.disk.Disk.{Ghosts as DiskSays}
+use Rattle.dl_kinds.specs.declared.claims.Claim.{Claim}
 use Rattle.dl_kinds.specs.declared.gid.Gid.{Gid}
 use Rattle.dl_kinds.specs.declared.outside.Sink.{Ghosts as SinkSays}
 use Rattle.engine_turns.specs.Told.{RunTurn}
 use Rattle.link_source.specs.declared.Links.{Ghosts as LinkSays}
 use Rattle.machine_core.specs.RunLegal.{download_in}
 use Rattle.machine_core.specs.Starts.{Download, Subject}
+use Rattle.machine_core.specs.declared.events.Event.TheVariants.{Claimed}
 use Rattle.mirror_payloads.specs.Faithful.{IsFaithful}
 use Rattle.run_frame.specs.Begins.{start_of_line}
 use Rattle.run_frame.specs.Finishes.{Ran}
 use Rattle.run_frame.specs.LinkCauses.{WorkedAmong}
 use Rattle.run_frame.specs.Stops.{all_turns}
 use Rattle.run_frame.specs.declared.ended.Ended.{Ended}
-use Rattle.served_claims.specs.Laws.{IsToldRight, UsesClaim}
+use Rattle.served_claims.specs.Laws.{IsToldRight, TellsSize, UsesClaim}
 use Rattle.served_claims.specs.Serving.{ServesRightly, ServesUnused}
 
 -- The turn is one of a worker's own in these turns of a run, over a link whose mirrors served the payload rightly: none on the way had a
@@ -46,3 +48,18 @@ module _ {D O L : Type 0} (says : DiskSays D) (sinks : SinkSays O) (links : Link
       → ComesOfLink D links (all_turns says ran.stops) download.subject mirror payload t)
       → IsFaithful (start_of_line gids doors ran.begins.line.globals) gid mirror payload
       (reverse (all_turns says ran.stops))
+
+  -- Where each length that was told, between the line's own call and the last stop, comes of such links, at whatever mirror the
+  -- download had claims, it is the payload's.
+  abbrev pub RunsTellRight : Type 0
+  RunsTellRight =
+      (words : List (List ℕ)) (gids doors : ℕ) (disk : D) (out : O) (ended : Ended D) (out' : O)
+      (ran : Ran says sinks words gids doors disk out ended out') (gid : Gid) (download : Download) (payload : List ℕ)
+      → IsTrue links.tells
+      → download_in (start_of_line gids doors ran.begins.line.globals) (reverse ended.journal.events.items) gid
+      ≡ Some download
+      → ((t : RunTurn) (claim : Claim) → Contains ran.stops.middle t → TellsSize t.op
+      → Contains (reverse ended.journal.events.items) (Claimed gid claim)
+      → ComesOfLink D links (all_turns says ran.stops) download.subject claim.mirror payload t)
+      → IsToldRight (start_of_line gids doors ran.begins.line.globals) (reverse ended.journal.events.items) gid payload
+      download.subject

@@ -1,7 +1,7 @@
 // What comes of claims over links to mirrors in memory that serve a payload. Laws do nothing when they run.
 ghost use Rattle.served_claims.specs.Answering.{WorkIsAnswered};
 ghost use Rattle.served_claims.specs.Laws.{PartsAreGiven, PartsLeadAmong, ServedClaimsAreFaithful, ServedLengthsAreRight};
-ghost use Rattle.served_claims.specs.Runs.{RunsAreFaithful};
+ghost use Rattle.served_claims.specs.Runs.{RunsAreFaithful, RunsTellRight};
 
 use dl_disk::Disk;
 use dl_kinds::Sink;
@@ -45,6 +45,13 @@ pub fn served_claims_are_faithful()
 /// So it is of whole runs, whoever took their turns.
 pub fn runs_are_faithful<D: Disk, L: Links, O: Sink>()
     ensures { RunsAreFaithful D.Disk O.Sink L.Links }
+{
+    served_claims_are_faithful();
+}
+
+/// .. and a length that was told in one is the payload's.
+pub fn runs_tell_right_lengths<D: Disk, L: Links, O: Sink>()
+    ensures { RunsTellRight D.Disk O.Sink L.Links }
 {
     served_claims_are_faithful();
 }

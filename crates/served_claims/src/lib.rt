@@ -5,5 +5,6 @@
 mod laws;
 
 pub use laws::{
-    parts_of_payloads_are_given, runs_are_faithful, served_claims_are_faithful, work_is_answered,
+    parts_of_payloads_are_given, runs_are_faithful, runs_tell_right_lengths,
+    served_claims_are_faithful, work_is_answered,
 };

@@ -1,6 +1,7 @@
 // A run over one link.
 ghost use Rattle.std.specs.Prelude.{◌≡◌, ◌≤◌, IsTrue, length, map, string_bytes, take};
 ghost use Rattle.brought_runs.specs.Completes.{CompletesServed};
+ghost use Rattle.brought_runs.specs.CompletesUris.{CompletesUris};
 ghost use Rattle.brought_runs.specs.Served.{SparesServing};
 ghost use Rattle.run_frame.specs.DiskCauses.{LeavesOtherFiles, ShowsDisk};
 ghost use Rattle.run_frame.specs.Endings.{EndsAsShown};
@@ -14,7 +15,8 @@ ghost use Rattle.solo_run.specs.Untouched.{LeavesUnused};
 
 use crate::over::run_over;
 use brought_runs::{
-    runs_complete_what_is_served, runs_show_their_links, runs_spare_serving_mirrors,
+    runs_complete_uris, runs_complete_what_is_served, runs_show_their_links,
+    runs_spare_serving_mirrors,
 };
 use dl_clock::Clock;
 use dl_disk::Disk;
@@ -64,6 +66,10 @@ pub fn run_alone<D: Disk, L: Links, K: Clock, A, O: Sink>(
     ensures completes { IsTrue D.tells → IsTrue L.tells → CompletesServed D.Disk L.Links O.Sink
         (map string_bytes words.now) disk (take 1 links.items) out.old (ended_of result)
         (take 1 result.links.items) out.new }
+    // So it does without a metainfo file, where all mirrors lead alike to one resource and no file stands in its folder.
+    ensures completes_uris { IsTrue D.tells → IsTrue L.tells → CompletesUris D.Disk L.Links O.Sink
+        (map string_bytes words.now) disk (take 1 links.items) out.old (ended_of result)
+        (take 1 result.links.items) out.new }
     // What is complete has its digests, and nothing that was promised is lost by a crash.
     ensures survives { IsTrue D.tells
         → SurvivesRun D.Disk (map string_bytes words.now) gids 0 disk (ended_of result) }
@@ -80,6 +86,7 @@ pub fn run_alone<D: Disk, L: Links, K: Clock, A, O: Sink>(
     runs_show_their_links::<D, L, K, O>();
     runs_spare_serving_mirrors::<D, L, K, O>();
     runs_complete_what_is_served::<D, L, K, O>();
+    runs_complete_uris::<D, L, K, O>();
     runs_survive_crashes::<D, O>();
     unbegun_runs_only_read::<D, O>();
     let mut links = links;

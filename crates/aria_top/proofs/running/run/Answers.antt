@@ -44,3 +44,7 @@ pub returns-clause-completes : goal.returns-clause-completes
 returns-clause-completes g c =
     c.runs_complete_what_is_served.ensures _ _ _ _ _ _ _ _ _ (over c.requires.links.0 c.run_through-ended.ensures)
     c.requires.links.0
+
+pub returns-clause-completes_uris : goal.returns-clause-completes_uris
+returns-clause-completes_uris g c =
+    c.runs_complete_uris.ensures _ _ _ _ _ _ _ _ _ (over c.requires.links.0 c.run_through-ended.ensures) c.requires.links.0

@@ -6,5 +6,6 @@ returns-clause-refused g c = fresh_unrefused c.runs_follow.ensures g.D.Disk.stat
 
 pub returns-clause-complete : goal.returns-clause-complete
 returns-clause-complete g c =
-    brought_complete c.runs_follow.ensures g.D.Disk.state c.plan_laws.ensures.follow c.plan_laws.ensures.numbered
+    brought_complete c.runs_follow.ensures g.D.Disk.state c.accounts_match_runs.ensures.plans
+    c.plan_laws.ensures.follow c.plan_laws.ensures.numbered
     c.known_downloads_are_idle.ensures

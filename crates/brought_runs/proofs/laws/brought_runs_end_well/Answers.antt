@@ -7,4 +7,4 @@ returns-clause-told g c words gids doors disk out ended out' ran tells = told_ru
 
 pub returns-clause-ends : goal.returns-clause-ends
 returns-clause-ends g c =
-    end_well g.D.Disk g.O.Sink c.brought_downloads_only_complete.ensures.complete c.runs_show_their_disk.ensures
+    end_well g.D.Disk g.O.Sink c.runs_show_their_disk.ensures c.brought_downloads_only_complete.ensures.complete

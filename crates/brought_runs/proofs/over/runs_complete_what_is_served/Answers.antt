@@ -10,7 +10,6 @@ returns g c words gids doors disk olds out ended news out' is =
       faithful = c.runs_are_faithful.ensures;
       well = c.brought_runs_end_well.ensures.ends;
       done = c.finished_runs_are_done.ensures;
-      one = c.one_call_adds_one_download.ensures;
       alone = c.lone_downloads_end_well.ensures.alone;
       shown = c.runs_end_as_shown.ensures;
       shows = c.runs_show_their_links.ensures;

@@ -1,6 +1,7 @@
 use Rattle.std.proofs.Common.{◌≡◌, ap, ◌∙◌, slice_index_or, slice_set, subst, arith}
 use Rattle.std.specs.Prelude.{IsTrue, map, string_bytes}
 use Rattle.brought_runs.specs.Completes.{CompletesServed}
+use Rattle.brought_runs.specs.CompletesUris.{CompletesUris}
 use Rattle.brought_runs.specs.Served.{SparesServing}
 use Rattle.solo_run.specs.Runs.{RunsOver}
 use Rattle.solo_run.proofs.Framed.{whole}
@@ -73,6 +74,18 @@ returns-clause-completes g c =
     c.run_over-ending.new.out)
     _ pair (c.run_over-ending.new.link, c.run_over-ending.new.clock) c.requires c.index_mut.ensures.value
     (c.runs_complete_what_is_served.ensures _ _ _ _ _ _ _ _ _
+    (over pair (c.run_over-ending.new.link, c.run_over-ending.new.clock) c.run_over-ending.ensures.runs)
+    (omega arith))
+
+pub returns-clause-completes_uris : goal.returns-clause-completes_uris
+returns-clause-completes_uris g c =
+    let pair = c.index_mut.result.now in
+    of_first_alone
+    (λ olds news. IsTrue g.D.Disk.tells → IsTrue g.L.Links.tells → CompletesUris g.D.Disk g.L.Links g.O.Sink
+    (map string_bytes c.args.words.now) c.args.disk olds c.args.out.now c.run_over-ending.result news
+    c.run_over-ending.new.out)
+    _ pair (c.run_over-ending.new.link, c.run_over-ending.new.clock) c.requires c.index_mut.ensures.value
+    (c.runs_complete_uris.ensures _ _ _ _ _ _ _ _ _
     (over pair (c.run_over-ending.new.link, c.run_over-ending.new.clock) c.run_over-ending.ensures.runs)
     (omega arith))
 

@@ -1,0 +1,17 @@
+use Rattle.brought_runs.proofs.CompletedUris.{completes_uris}
+use Rattle.brought_runs.proofs.over.runs_complete_uris.Goals as goal
+
+pub returns : goal.returns
+returns g c words gids doors disk olds out ended news out' is =
+    completes_uris (record {
+      append = c.turns_tell_runs.ensures.appended;
+      stay = c.downloads_stay.ensures.downloads;
+      lines = c.lines_are_one.ensures;
+      faithful = c.runs_are_faithful.ensures;
+      right = c.runs_tell_right_lengths.ensures;
+      complete = c.unlisted_downloads_only_complete.ensures;
+      disk = c.runs_show_their_disk.ensures;
+      done = c.finished_runs_are_done.ensures;
+      shown = c.runs_end_as_shown.ensures;
+      shows = c.runs_show_their_links.ensures;
+    }) is
