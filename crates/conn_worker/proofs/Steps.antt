@@ -80,6 +80,7 @@ pub record Later (f : Fetching) (left : ℕ) (fetch : Fetch) (link : LinkAt) (la
   pub gains : Gains f.since.state.exchanges link.state.exchanges later
   pub is_fetch : IsFetch f.job later f.handed fetch
   pub spent : received_by later + left ≤ f.granted
+  pub more : received_by f.used ≤ received_by later
 
 -- .. and all that was granted came, but what is left
 record IsAhead (f : Fetching) (left : ℕ) (fetch : Fetch) (link : LinkAt) (later : List Exchange) : Type 0 where
@@ -206,7 +207,7 @@ ahead_by o f new got link link' tells m s t =
     let taken = s.taken in
     let few = s.few in
     let exact : received_by s.later + (o.left - got.taken) ≡ f.granted = omega (arith, all, left, taken, few) in record {
-      later_is = record { gains = s.gains; is_fetch = s.is_fetch; spent = omega (arith, exact) };
+      later_is = record { gains = s.gains; is_fetch = s.is_fetch; spent = omega (arith, exact); more = omega (arith, taken) };
       exact = exact;
     }
 
@@ -258,7 +259,7 @@ open_step tells o f new got link link' m calls ready none done held reads =
       gain = (λ t. (told.1 t).spent, λ t. (told.1 t).ahead.exact, λ t. (told.1 t).front);
     } in (
       g,
-      record { same = refl; at = at },
+      record { same = refl; more = λ t. (told.1 t).ahead.later_is.more; at = at },
       record {
         gain = refl;
         is = later_open tells o f new left link link' told.0 Open m.is calls none_ready
@@ -325,7 +326,7 @@ ready_step tells o f mid new got bytes link link' law m calls takes ready some f
       );
     } in (
       g,
-      record { same = refl; at = at },
+      record { same = refl; more = λ t. (later t).more; at = at },
       record { gain = refl; is = open_is; at = at },
     )
 
@@ -346,7 +347,7 @@ lost_told o f new loss link link' tells m s t =
     let few = s.few in (
       s.later,
       record {
-        later_is = record { gains = s.gains; is_fetch = s.is_fetch; spent = omega (arith, spent, left, few) };
+        later_is = record { gains = s.gains; is_fetch = s.is_fetch; spent = omega (arith, spent, left, few); more = s.more };
         came = s.came;
         none_whole = s.none_whole;
         count = s.count;
@@ -369,7 +370,7 @@ lost_by tells o f new loss link link' None is m calls none counts told =
       gain = tt;
     } in (
       g,
-      record { same = refl; at = at },
+      record { same = refl; more = λ t. (told.1 t).later_is.more; at = at },
       record {
         gain = refl;
         is = later_open tells o f new 0 link link' told.0 Starved m.is calls none (λ t. (told.1 t).later_is);
@@ -389,7 +390,7 @@ lost_by tells o f new loss link link' (Some mark) is m calls none counts told =
       );
     } in (
       g,
-      record { same = refl; at = at },
+      record { same = refl; more = λ t. (told.1 t).later_is.more; at = at },
       record {
         gain = refl;
         is = later_open tells o f new 0 link link' told.0 gain m.is calls none (λ t. (told.1 t).later_is);

@@ -1,5 +1,5 @@
 -- Which turn a worker takes, by what it has in hand, and what it has in hand behind the answer.
-use Rattle.std.specs.Prelude.{◌≡◌, ℕ, zero, suc, Bool, true, false, List, Option, Some, None}
+use Rattle.std.specs.Prelude.{◌≡◌, ◌≤◌, ℕ, zero, suc, Bool, true, false, IsTrue, List, Option, Some, None}
 use Rattle.std.specs.Option.{option_or}
 use Rattle.dl_kinds.specs.declared.runs.Moment.{Moment}
 use Rattle.engine_turns.specs.declared.limits.TheConstants.{MAX_ALLOWANCE}
@@ -9,6 +9,7 @@ use Rattle.engine_turns.specs.declared.operations.Operation.{Operation}
 use Rattle.engine_turns.specs.declared.operations.Operation.TheVariants as operation
 use Rattle.engine_turns.specs.declared.operations.Said.{Said}
 use Rattle.engine_turns.specs.declared.operations.Said.TheVariants as said
+use Rattle.request_chain.specs.Chains.{received_by}
 use Rattle.conn_worker.specs.Ends.{end_of_said}
 use Rattle.conn_worker.specs.Facts.{IsFetchingAt, IsProbingAt}
 use Rattle.conn_worker.specs.Hands.{Fetching, Hand, Nothing, Fetches, Probes, Seals, LinkAt, Probing, allowing, begun_fetch, delivered}
@@ -41,9 +42,10 @@ due_op worker (Seals gid sealed) now = operation.Seal gid sealed now
 
 -- ---- what follows
 
--- one step of the fetch: it is carried on
+-- one step of the fetch: it is carried on, and no byte that it received is forgotten
 pub record IsStepOf (tells : Bool) (f : Fetching) (link : LinkAt) (g : Fetching) : Type 0 where
   pub same : g ≡ record f { used = g.used; left = g.left; gain = g.gain }
+  pub more : IsTrue tells → received_by f.used ≤ received_by g.used
   pub at : IsFetchingAt tells g link
 
 -- a hand and the link, behind what a worker did

@@ -349,6 +349,7 @@ module _ (fits : FetchedFits) (follow : BlocksFollow) (job : Job) (used : List E
       later = loses.later;
       gains = loses.gains;
       is_fetch = lost_fetch;
+      more = (let took : received_by loses.later ≡ received_by used + new.chain.taken = loses.taken in omega (arith, took));
       few = few_lost loses.later new.chain.taken loses.taken loses.few;
       came = new.held.items;
       none_whole = ap (λ (r : Run). r.count) (sym lost_ready) ∙ none;
@@ -358,9 +359,10 @@ module _ (fits : FetchedFits) (follow : BlocksFollow) (job : Job) (used : List E
 
   -- memory ran out: nothing of what came then is kept
   pub fails_memory : (loss : Loss) → loss ≡ NoMemory → (later : List Exchange) → Gains before now later
-      → received_by later ≤ received_by used + allow → new.lost ≡ Some loss → new.held.items ≡ old.held.items → new.ready.count ≡ 0
+      → received_by used ≤ received_by later → received_by later ≤ received_by used + allow → new.lost ≡ Some loss
+      → new.held.items ≡ old.held.items → new.ready.count ≡ 0
       → Fails job before used handed now allow loss new
-  fails_memory loss memory later gains few lost_is held_is none =
+  fails_memory loss memory later gains more few lost_is held_is none =
       let L : Option Loss → Type 0 = λ lost. HasCome job.parts later (handed ++ new.held.items) lost new.chain in
       let S : List ℕ → Type 0 = λ items. IsShort job.parts (handed ++ items) in
       let T : Loss → Type 0 = λ loss. TellsLoss job.parts later (handed ++ new.held.items) 0 loss in
@@ -372,6 +374,7 @@ module _ (fits : FetchedFits) (follow : BlocksFollow) (job : Job) (used : List E
         later = later;
         gains = gains;
         is_fetch = is_new;
+        more = more;
         few = few;
         came = new.held.items;
         none_whole = ap (λ (r : Run). r.count) (sym ready) ∙ none;
@@ -391,6 +394,7 @@ module _ (fits : FetchedFits) (follow : BlocksFollow) (job : Job) (used : List E
         later = used;
         gains = gains;
         is_fetch = is;
+        more = omega arith;
         few = omega arith;
         came = old.held.items;
         none_whole = ap (λ (r : Run). r.count) (sym ready) ∙ none;

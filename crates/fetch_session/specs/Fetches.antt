@@ -139,6 +139,7 @@ pub record Fails (job : Job) (before used : List Exchange) (handed : List ℕ) (
   pub later : List Exchange
   pub gains : Gains before now later
   pub is_fetch : IsFetch job later handed new
+  pub more : received_by used ≤ received_by later
   pub few : received_by later ≤ received_by used + allow
   pub came : List ℕ
   pub none_whole : (ready_blocks job.plan job.run (length handed) (length handed + length came)).count ≡ 0

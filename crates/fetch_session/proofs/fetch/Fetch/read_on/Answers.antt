@@ -39,6 +39,7 @@ returns-in-NoMemory-clause-reads g c = λ tells job before used handed is gains.
     ∙ ap (take (length self.held.items)) read.1 ∙ take-append_seam self.held.items read.0 in
     fails_memory fits follow job used handed self is room c.requires.some_room c.requires.room _ refl refl refl
     before _ 0 c.args.allow read.0 c.in-Err.loss c.in-NoMemory.is read.2.later read.2.gains
+    (let took : received_by read.2.later ≡ received_by used + c.read.new.self.taken = read.2.taken in omega (arith, took))
     (let few : c.read.new.self.taken ≤ c.args.allow = read.2.few in
     let took : received_by read.2.later ≡ received_by used + c.read.new.self.taken = read.2.taken in
     omega (arith, few, took)) refl held c.requires.none_ready

@@ -23,7 +23,7 @@ returns-then-is_err-clause-reads g c = λ tells job before used handed is gains.
     let some : 0 < c.missing-room.result = (let some = c.if-room-eq0.false in omega (arith, some)) in
     fails_memory c.fetched_bytes_fit_their_parts.ensures.fits c.plan_laws.ensures.follow job used handed self is c.missing-room.result some
     (omega (arith, c.missing-room.ensures.value, c.len.ensures)) _ shown.plan shown.end_is (ap (λ (r : Run). r.first) shown.ready)
-    before _ 0 c.args.allow [] _ refl used gains (omega arith) refl (ap (λ v. v.items) shown.held) (ready ∙ c.requires.none_ready)
+    before _ 0 c.args.allow [] _ refl used gains (omega arith) (omega arith) refl (ap (λ v. v.items) shown.held) (ready ∙ c.requires.none_ready)
 
 pub returns-clause-reads : goal.returns-clause-reads
 returns-clause-reads g c = λ tells job before used handed is gains.

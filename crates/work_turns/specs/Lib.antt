@@ -1,0 +1,6 @@
+pub mod Receiving
+pub mod TurnBounds
+pub mod Alone
+pub mod Reads
+pub mod Offering
+pub mod Leisure
