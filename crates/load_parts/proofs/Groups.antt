@@ -1,5 +1,5 @@
 -- Groups of pieces and of digests.
-use Rattle.std.proofs.Common.{◌≡◌, ℕ, zero, suc, ◌+◌, ◌-◌, ◌<◌, ◌≤◌, min, List, [], ◌∷◌, ◌++◌, length, take, drop, map, get_or, slice_get, cond, Bool, Some, refl, sym, ap, ◌∙◌, arith}
+use Rattle.std.proofs.Common.{◌≡◌, true, ℕ, zero, suc, ◌+◌, ◌-◌, ◌<◌, ◌≤◌, min, List, [], ◌∷◌, ◌++◌, length, take, drop, map, get_or, slice_get, cond, Bool, Some, refl, sym, ap, ◌∙◌, arith}
 use Rattle.std.specs.List.{count_by, range_with_len}
 use Rattle.std.proofs.lemmas.List.{take_more, take_min, drop_more, drop_all, length-drop, length-take-le, get_or-drop}
 use Rattle.std.proofs.lemmas.List.FromFn.{length-map-range_with_len, length-range_with_len, map-range_with_len_more}
@@ -7,7 +7,7 @@ use Rattle.std.proofs.lemmas.List.Sums.{count_by-le-length, sum_by-append, sum_b
 use Rattle.std.proofs.lemmas.Option.{get_or_from_slice_get, slice_get_within}
 use Rattle.dl_words.specs.Lists.{part_at}
 use Rattle.verify_piece.specs.Checks.{comparisons}
-use Rattle.load_parts.specs.Payload.{first_digests, is_right, load_piece, piece_in, pieces_in, right_from}
+use Rattle.load_parts.specs.Payload.{piece_digests, is_right_piece, load_piece, piece_in, pieces_in, right_from}
 use Rattle.sha1.specs.Sha1.{sha1}
 
 -- ---- parts
@@ -41,14 +41,14 @@ right_one : (answer : Bool) (answers : List Bool) → count_by (λ a. a) (answer
 right_one answer answers = sum_by-cons (λ a. cond a 1 0) answer answers
 
 from_one : (digests : List (List ℕ)) (payload : List ℕ) (first count : ℕ)
-    → right_from digests payload first (suc count) ≡ cond (is_right digests payload first) 1 0 + right_from digests payload (first + 1) count
+    → right_from digests payload first (suc count) ≡ cond (is_right_piece digests payload first) 1 0 + right_from digests payload (first + 1) count
 unfolding right_from
 from_one digests payload first count =
-    sum_by-cons (λ piece. cond (is_right digests payload piece) 1 0) first (range_with_len (first + 1) count)
+    sum_by-cons (λ piece. cond (is_right_piece digests payload piece) 1 0) first (range_with_len (first + 1) count)
 
 comparisons_one : (digests : List (List ℕ)) (payload : List ℕ) (first count : ℕ) → first < length digests
     → comparisons (pieces_in payload first (suc count)) (part_at digests first (suc count))
-    ≡ is_right digests payload first ∷ comparisons (pieces_in payload (first + 1) count) (part_at digests (first + 1) count)
+    ≡ is_right_piece digests payload first ∷ comparisons (pieces_in payload (first + 1) count) (part_at digests (first + 1) count)
 unfolding pieces_in
 comparisons_one digests payload first count within =
     let here : drop first digests ≡ get_or digests first [] ∷ drop (first + 1) digests = drop_more digests first [] within in
@@ -66,8 +66,8 @@ group_right digests payload first zero within = group_none digests payload first
 group_right digests payload first (suc count) within =
     let behind = group_right digests payload (first + 1) count (omega arith) in
     ap (count_by (λ answer. answer)) (comparisons_one digests payload first count (omega arith))
-    ∙ right_one (is_right digests payload first) (comparisons (pieces_in payload (first + 1) count) (part_at digests (first + 1) count))
-    ∙ ap (λ more. cond (is_right digests payload first) 1 0 + more) behind
+    ∙ right_one (is_right_piece digests payload first) (comparisons (pieces_in payload (first + 1) count) (part_at digests (first + 1) count))
+    ∙ ap (λ more. cond (is_right_piece digests payload first) 1 0 + more) behind
     ∙ sym (from_one digests payload first count)
 
 range_split : (first count more : ℕ) → range_with_len first (count + more) ≡ range_with_len first count ++ range_with_len (first + count) more
@@ -84,7 +84,7 @@ pub right_more : (digests : List (List ℕ)) (payload : List ℕ) (count more : 
     → right_from digests payload 0 (count + more) ≡ right_from digests payload 0 count + right_from digests payload count more
 unfolding right_from
 right_more digests payload count more =
-    let is = is_right digests payload in
+    let is = is_right_piece digests payload in
     ap (count_by is) (range_split 0 count more)
     ∙ sum_by-append (λ piece. cond (is piece) 1 0) (range_with_len 0 count) (range_with_len (0 + count) more)
     ∙ ap (λ n. count_by is (range_with_len 0 count) + count_by is (range_with_len n more)) (let same : 0 + count ≡ count = omega arith in same)
@@ -92,13 +92,25 @@ right_more digests payload count more =
 pub right_few : (digests : List (List ℕ)) (payload : List ℕ) (first count : ℕ) → right_from digests payload first count ≤ count
 unfolding right_from
 right_few digests payload first count =
-    let few = count_by-le-length (is_right digests payload) (range_with_len first count) in
+    let few = count_by-le-length (is_right_piece digests payload) (range_with_len first count) in
     let long = length-range_with_len first count in
     omega arith
 
 pub right_none : (digests : List (List ℕ)) (payload : List ℕ) (first : ℕ) → right_from digests payload first 0 ≡ 0
 unfolding right_from
 right_none digests payload first = refl
+
+-- where each is right, all are
+pub all_right : (digests : List (List ℕ)) (payload : List ℕ) (first count : ℕ)
+    → ((piece : ℕ) → first ≤ piece → piece < first + count → is_right_piece digests payload piece ≡ true)
+    → right_from digests payload first count ≡ count
+all_right digests payload first zero each = right_none digests payload first
+all_right digests payload first (suc count) each =
+    let one : ℕ = cond (is_right_piece digests payload first) 1 0 in
+    let here : one ≡ 1 = ap (λ b. cond b 1 0) (each first (omega arith) (omega arith)) in
+    let rest = all_right digests payload (first + 1) count (λ piece from to. each piece (omega (arith, from)) (omega (arith, to))) in
+    let both = from_one digests payload first count in
+    omega (arith, here, rest, both)
 
 -- ---- lengths
 
@@ -121,14 +133,14 @@ pub pieces_more : (payload : List ℕ) (first count : ℕ) → pieces_in payload
 unfolding pieces_in
 pieces_more payload first count = map-range_with_len_more (piece_in payload) first count (first + count) refl
 
-pub digests_none : (n : ℕ) → first_digests n 0 ≡ []
-unfolding first_digests
+pub digests_none : (n : ℕ) → piece_digests n 0 ≡ []
+unfolding piece_digests
 digests_none n = refl
 
-pub digests_more : (n count : ℕ) → first_digests n (count + 1) ≡ first_digests n count ++ sha1 (load_piece n count) ∷ []
-unfolding first_digests
+pub digests_more : (n count : ℕ) → piece_digests n (count + 1) ≡ piece_digests n count ++ sha1 (load_piece n count) ∷ []
+unfolding piece_digests
 digests_more n count = map-range_with_len_more (λ piece. sha1 (load_piece n piece)) 0 count count (omega arith)
 
-pub digests_long : (n count : ℕ) → length (first_digests n count) ≡ count
-unfolding first_digests
+pub digests_long : (n count : ℕ) → length (piece_digests n count) ≡ count
+unfolding piece_digests
 digests_long n count = length-map-range_with_len (λ piece. sha1 (load_piece n piece)) 0 count

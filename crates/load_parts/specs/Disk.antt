@@ -12,5 +12,5 @@ pub record IsLoadDisk (digests : List (List ℕ)) (disk : MemDisk) : Type 0 wher
   pub sound : failing_calls disk ≡ []
 
 -- the payload, and nothing where there is none
-abbrev pub payload_in : Files → List ℕ
-payload_in seen = unwrap_or (seen (codes "load.bin")) []
+abbrev pub payload_read : Files → List ℕ
+payload_read seen = unwrap_or (seen (codes "load.bin")) []

@@ -12,12 +12,12 @@ abbrev pub load_piece : ℕ → ℕ → List ℕ
 load_piece n piece = load_part n (piece * PIECE) PIECE
 
 -- the digests of its first pieces
-unfoldable pub first_digests : ℕ → ℕ → List (List ℕ)
-first_digests n count = map (λ piece. sha1 (load_piece n piece)) (range_with_len 0 count)
+unfoldable pub piece_digests : ℕ → ℕ → List (List ℕ)
+piece_digests n count = map (λ piece. sha1 (load_piece n piece)) (range_with_len 0 count)
 
 -- .. of all
 abbrev pub digests_of : ℕ → List (List ℕ)
-digests_of n = first_digests n PIECES
+digests_of n = piece_digests n PIECES
 
 -- what stands of a payload where a piece is to stand
 abbrev pub piece_in : List ℕ → ℕ → List ℕ
@@ -28,12 +28,12 @@ unfoldable pub pieces_in : List ℕ → ℕ → ℕ → List (List ℕ)
 pieces_in payload first count = map (piece_in payload) (range_with_len first count)
 
 -- whether that has the digest at the piece's place
-abbrev pub is_right : List (List ℕ) → List ℕ → ℕ → Bool
-is_right digests payload piece = has_digest (piece_in payload piece) (slice_index_or digests piece [])
+abbrev pub is_right_piece : List (List ℕ) → List ℕ → ℕ → Bool
+is_right_piece digests payload piece = has_digest (piece_in payload piece) (slice_index_or digests piece [])
 
 -- of how many of so many pieces, from one on
 unfoldable pub right_from : List (List ℕ) → List ℕ → ℕ → ℕ → ℕ
-right_from digests payload first count = count_by (is_right digests payload) (range_with_len first count)
+right_from digests payload first count = count_by (is_right_piece digests payload) (range_with_len first count)
 
 -- .. of all
 abbrev pub right_pieces : List (List ℕ) → List ℕ → ℕ

@@ -1,9 +1,9 @@
 // The disk of a load.
 ghost use Rattle.std.specs.Prelude.{◌≡◌, IfOk, unwrap_or};
 ghost use Rattle.dl_disk.specs.MemDisk.{reading};
-ghost use Rattle.load_parts.specs.Disk.{IsLoadDisk, payload_in};
+ghost use Rattle.load_parts.specs.Disk.{IsLoadDisk, payload_read};
 
-use crate::metainfo::{TORRENT, load_metainfo};
+use crate::torrent::{TORRENT, load_metainfo};
 use dl_disk::MemDisk;
 use dl_kinds::{Blob, Digests, Text};
 use std::alloc::{AllocError, Global};
@@ -23,7 +23,7 @@ pub fn load_disk(alloc: Global, digests: &Digests) -> Result<MemDisk, AllocError
 
 /// The payload as the disk reads it, and nothing where it has none.
 pub fn payload_on(disk: &MemDisk) -> &[u8]
-    ensures { result.now ≡ payload_in (reading disk.now) }
+    ensures { result.now ≡ payload_read (reading disk.now) }
 {
     disk.file(PAYLOAD).unwrap_or(&[])
 }

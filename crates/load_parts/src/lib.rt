@@ -4,16 +4,20 @@
 
 mod counting;
 mod disk;
+mod laws;
 mod line;
 mod links;
-mod metainfo;
 mod payload;
+mod sink;
+mod torrent;
 mod words;
 
 pub use counting::count_right;
 pub use disk::{PAYLOAD, load_disk, payload_on};
+pub use laws::{metainfo_files_say_payloads, words_name_load};
 pub use line::{failed_line, whole_line};
 pub use links::{LOAD_LINKS, load_link};
-pub use metainfo::{TORRENT, load_metainfo};
 pub use payload::{PIECE, PIECES, TOTAL, load_digests};
+pub use sink::UnseenSink;
+pub use torrent::{TORRENT, load_metainfo};
 pub use words::{load_of, load_words};

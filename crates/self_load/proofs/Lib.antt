@@ -1,2 +1,10 @@
+pub mod CallAlone
+pub mod Comes
+pub mod Ends
 pub mod Links
+pub mod Opened
 pub mod Outcomes
+pub mod Pieces
+pub mod Right
+pub mod Run
+pub mod Served

@@ -1,23 +1,28 @@
 -- The run of a load.
-use Rattle.std.specs.Prelude.{◌≡◌, ℕ, ◌+◌, List, [], ◌∷◌, length}
+use Rattle.std.specs.Prelude.{◌≡◌, ◌⊎◌, ◌<◌, ◌+◌, ℕ, true, Contains, List, [], ◌∷◌, length}
+use Rattle.brought_runs.specs.Completes.{HadNoFaults, WasCutShort}
 use Rattle.aria_top.specs.RunsTogether.{RunsTogether, edges, edges_left, ended_run}
 use Rattle.aria_top.specs.declared.finished.FinishedRun.{FinishedRun}
 use Rattle.dl_clock.specs.declared.memory.MemClock.{MemClock}
 use Rattle.dl_disk.specs.MemDisk.{reading}
 use Rattle.dl_disk.specs.declared.disk.Disk.{Ghosts as DiskSays}
 use Rattle.dl_disk.specs.declared.memory.MemDisk.{MemDisk}
-use Rattle.dl_kinds.specs.MemSink.{failing_writes, taken_of}
-use Rattle.dl_kinds.specs.declared.outside.MemSink.{MemSink}
+use Rattle.dl_kinds.specs.declared.gid.Gid.{Gid}
 use Rattle.dl_kinds.specs.declared.outside.Sink.{Ghosts as SinkSays}
 use Rattle.door_source.specs.declared.Doors.{Ghosts as DoorSays}
 use Rattle.door_source.specs.declared.memory.MemDoors.{MemDoors}
 use Rattle.link_source.specs.declared.Links.{Ghosts as LinkSays}
 use Rattle.link_source.specs.declared.memory.MemLinks.{MemLinks}
-use Rattle.load_parts.specs.Disk.{IsLoadDisk, payload_in}
+use Rattle.load_parts.specs.Disk.{IsLoadDisk, payload_read}
 use Rattle.load_parts.specs.Links.{IsLoadLink}
-use Rattle.load_parts.specs.Payload.{digests_of}
+use Rattle.load_parts.specs.Payload.{digests_of, is_right_piece}
 use Rattle.load_parts.specs.Words.{run_words}
 use Rattle.load_parts.specs.declared.links.TheConstants.{LOAD_LINKS}
+use Rattle.load_parts.specs.declared.payload.TheConstants.{PIECES}
+use Rattle.load_parts.specs.declared.sink.UnseenSink.{UnseenSink}
+use Rattle.machine_core.specs.declared.ends.End.TheVariants.{Complete}
+use Rattle.machine_core.specs.declared.events.Event.TheVariants.{Ended}
+use Rattle.run_report.specs.declared.endings.RunEnding.TheVariants.{Done, NoMemory}
 use Rattle.self_load.specs.declared.inner.TheConstants.{GIDS}
 
 -- they are the load's links, from one number on
@@ -33,15 +38,27 @@ AreLoadLinks n links = (length links ≡ LOAD_LINKS) × AreLinksFrom n 0 links
 abbrev pub Left : Type 0
 Left = FinishedRun MemDisk MemLinks MemClock MemDoors
 
-abbrev pub payload_of : Left → List ℕ
-payload_of left = payload_in (reading left.disk)
+abbrev pub payload_left : Left → List ℕ
+payload_left left = payload_read (reading left.disk)
 
--- nothing was written to it, and no write will fail
-abbrev pub IsEmptySink : MemSink → Type 0
-IsEmptySink sink = (taken_of sink ≡ []) × (failing_writes sink ≡ [])
+-- the journal that is left tells that a download is complete
+abbrev pub HasComplete : Left → Type 0
+HasComplete left = (gid : Gid) × Contains left.journal.events.items (Ended gid Complete)
 
-module _ (disks : DiskSays MemDisk) (links : LinkSays MemLinks) (doors : DoorSays MemDoors) (sinks : SinkSays MemSink) where
-  -- what is left of the run of the load's words over its disk and its links, without doors
+-- each piece of the payload has its digest
+abbrev pub IsWholePayload : List (List ℕ) → List ℕ → Type 0
+IsWholePayload digests payload = (piece : ℕ) → piece < PIECES → is_right_piece digests payload piece ≡ true
+
+-- Its run is done just where its journal has its Complete, unless memory was wanting; and then the payload is whole.
+pub record EndsAsLoad (n : ℕ) (left : Left) : Type 0 where
+  pub complete : left.ending ≡ Done → HasComplete left
+  pub done : HasComplete left → (left.ending ≡ Done) ⊎ (left.ending ≡ NoMemory)
+  pub whole : left.ending ≡ Done → IsWholePayload (digests_of n) (payload_left left)
+
+module _ (disks : DiskSays MemDisk) (links : LinkSays MemLinks) (doors : DoorSays MemDoors)
+    (sinks : SinkSays UnseenSink) where
+  -- What is left of the run of the load's words over its disk and its links, without doors. Where no call of the disk or of
+  -- a link failed it is done, unless memory was wanting, or a worker was cut short.
   pub record IsInnerRun (n : ℕ) (left : Left) : Type 0 where
     pub words : List (List ℕ)
     pub words_are : words ≡ run_words
@@ -51,8 +68,9 @@ module _ (disks : DiskSays MemDisk) (links : LinkSays MemLinks) (doors : DoorSay
     pub olds_are : AreLoadLinks n olds
     pub none : List (MemDoors × MemClock)
     pub none_are : none ≡ []
-    pub sink : MemSink
-    pub sink_is : IsEmptySink sink
-    pub shown : MemSink
-    pub does : RunsTogether disks links doors sinks words GIDS disk (edges olds none) sink (ended_run left) (edges_left left)
-        left.transcripts.items shown
+    pub sink : UnseenSink
+    pub shown : UnseenSink
+    pub does : RunsTogether disks links doors sinks words GIDS disk (edges olds none) sink (ended_run left)
+        (edges_left left) left.transcripts.items shown
+    pub served : HadNoFaults disks links sinks words disk olds sink (ended_run left) left.links.items shown
+        → (left.ending ≡ Done) ⊎ (left.ending ≡ NoMemory) ⊎ WasCutShort MemDisk links olds left.links.items

@@ -1,15 +1,21 @@
 // The run of a load.
 ghost use Rattle.std.specs.Prelude.{◌≡◌, IfOk};
 ghost use Rattle.load_parts.specs.Payload.{digests_of};
-ghost use Rattle.self_load.specs.Inner.{AreLoadLinks, IsInnerRun};
+ghost use Rattle.self_load.specs.Inner.{AreLoadLinks, EndsAsLoad, IsInnerRun};
 
 use aria_top::{FinishedRun, run};
+use blameless_mirrors::lone_downloads_end_well;
 use dl_clock::MemClock;
 use dl_disk::{Disk, MemDisk};
-use dl_kinds::{Digests, MemSink, NoMemory, Sink};
+use dl_kinds::{Digests, NoMemory, Sink};
 use door_source::{Doors, MemDoors};
 use link_source::{Links, MemLinks};
-use load_parts::{LOAD_LINKS, load_disk, load_link, load_words};
+use load_parts::{
+    LOAD_LINKS, UnseenSink, load_disk, load_link, load_words, metainfo_files_say_payloads,
+    words_name_load,
+};
+use machine_core::{downloads_are_legal, downloads_stay};
+use run_promises::disks_keep_runs;
 use std::alloc::Global;
 use std::sync::Wait;
 use std::sync::atomic::AtomicBool;
@@ -39,14 +45,21 @@ pub(crate) fn run_inner<R: Threads + Wait + Sync>(
     digests: &Digests,
 ) -> Result<Inner, NoMemory>
     requires { digests.now ≡ digests_of n }
-    ensures { IfOk result (IsInnerRun ⟦<MemDisk as Disk>⟧ ⟦<MemLinks as Links>⟧ ⟦<MemDoors as Doors>⟧
-        ⟦<MemSink as Sink>⟧ n) }
+    ensures run { IfOk result (IsInnerRun ⟦<MemDisk as Disk>⟧ ⟦<MemLinks as Links>⟧
+        ⟦<MemDoors as Doors>⟧ ⟦<UnseenSink as Sink>⟧ n) }
+    ensures ends { IfOk result (EndsAsLoad n) }
 {
+    words_name_load();
+    metainfo_files_say_payloads();
+    downloads_stay();
+    downloads_are_legal();
+    lone_downloads_end_well();
+    disks_keep_runs::<MemDisk>();
     let words = load_words(alloc)?;
     let disk = load_disk(alloc, digests)?;
     let links = links(alloc, n)?;
     let over = AtomicBool::new(false);
-    let mut summary = MemSink::new(alloc, Vec::new(alloc));
+    let mut summary = UnseenSink {};
     let doors = Vec::new(alloc);
     Ok(run(
         rt,

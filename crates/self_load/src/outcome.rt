@@ -1,18 +1,17 @@
 // What comes of a load, and how that is told.
 ghost use Rattle.std.specs.Prelude.{◌≡◌, IfOk, length, string_bytes};
 ghost use Rattle.dl_disk.specs.MemDisk.{reading};
-ghost use Rattle.load_parts.specs.Disk.{payload_in};
+ghost use Rattle.load_parts.specs.Disk.{payload_read};
 ghost use Rattle.load_parts.specs.declared.payload.TheConstants.{PIECES};
-ghost use Rattle.self_load.specs.Outcomes.{ComesOf, IsCountOf, ending_by, line_by};
+ghost use Rattle.self_load.specs.Outcomes.{ComesOf, IsCountOf, ending_of_outcome, line_by};
 
 use crate::inner::run_inner;
 use aria_top::FinishedRun;
 use dl_disk::{Disk, MemDisk};
-use dl_kinds::{Digests, MemSink, NoMemory, Sink};
+use dl_kinds::{Digests, NoMemory, Sink};
 use door_source::{Doors, MemDoors};
 use link_source::{Links, MemLinks};
-use load_parts::{PIECES, count_right, failed_line, load_digests, payload_on, whole_line};
-use machine_core::End;
+use load_parts::{UnseenSink, count_right, failed_line, load_digests, payload_on, whole_line};
 use run_report::RunEnding;
 use sha1::Sha1;
 use std::alloc::{AllocError, Global};
@@ -22,7 +21,7 @@ use std::thread::Threads;
 /// What comes of a load.
 #[derive(Drop)]
 pub enum Outcome {
-    /// Its run was done, and so many pieces on its disk are right. The digest is that of the payload.
+    /// Its run was done. So many pieces on its disk are right, and the payload has this digest.
     Counted { right: u64, digest: [u8; 20] },
     /// Its run ended otherwise, or memory was wanting.
     Failed(RunEnding),
@@ -36,7 +35,7 @@ fn counted<R: Threads + Sync>(
     disk: &MemDisk,
 ) -> Result<Outcome, AllocError>
     requires { length digests.now ≡ PIECES }
-    ensures { IfOk result (IsCountOf digests.now (payload_in (reading disk.now))) }
+    ensures { IfOk result (IsCountOf digests.now (payload_read (reading disk.now))) }
 {
     let payload = payload_on(disk);
     Ok(Outcome::Counted {
@@ -51,8 +50,8 @@ pub(crate) fn load<R: Threads + Wait + Sync>(
     alloc: Global,
     n: u64,
 ) -> Result<Outcome, NoMemory>
-    ensures { IfOk result (ComesOf ⟦<MemDisk as Disk>⟧ ⟦<MemLinks as Links>⟧ ⟦<MemDoors as Doors>⟧
-        ⟦<MemSink as Sink>⟧ n) }
+    ensures { IfOk result (ComesOf ⟦<MemDisk as Disk>⟧ ⟦<MemLinks as Links>⟧
+        ⟦<MemDoors as Doors>⟧ ⟦<UnseenSink as Sink>⟧ n) }
 {
     let digests = load_digests(alloc, n)?;
     let FinishedRun {
@@ -69,18 +68,12 @@ pub(crate) fn load<R: Threads + Wait + Sync>(
     }
 }
 
-/// How the load ended: a payload of which a piece isn't right is one without its checksum.
+/// How the load ended.
 pub(crate) fn ending_of(outcome: &Outcome) -> RunEnding
-    ensures { result ≡ ending_by outcome.now }
+    ensures { result ≡ ending_of_outcome outcome.now }
 {
     match outcome {
-        Outcome::Counted { right, .. } => {
-            if *right == PIECES {
-                RunEnding::Done
-            } else {
-                RunEnding::Failed(End::Checksum)
-            }
-        }
+        Outcome::Counted { .. } => RunEnding::Done,
         Outcome::Failed(ending) => *ending,
     }
 }

@@ -3,13 +3,14 @@ ghost use Rattle.std.specs.Prelude.{◌≡◌, IsTrue};
 ghost use Rattle.dl_kinds.specs.Causes.{HasCause};
 ghost use Rattle.dl_kinds.specs.Sinks.{Takes};
 ghost use Rattle.run_report.specs.declared.endings.RunEnding.TheVariants.{Done};
-ghost use Rattle.self_load.specs.Outcomes.{ComesOf, EndsLoad, IsRightLoad, line_by};
+ghost use Rattle.self_load.specs.Outcomes.{ComesOf, EndsByJournal, EndsLoad, IsRightLoad, line_by};
 
 use crate::outcome::{Outcome, ending_of, line_of, load};
 use dl_disk::{Disk, MemDisk};
-use dl_kinds::{IoErr, MemSink, Sink};
+use dl_kinds::{IoErr, Sink};
 use door_source::{Doors, MemDoors};
 use link_source::{Links, MemLinks};
+use load_parts::UnseenSink;
 use run_report::RunEnding;
 use std::alloc::Global;
 use std::sync::Wait;
@@ -18,7 +19,7 @@ use std::thread::Threads;
 // What comes of the load; where memory is wanting, that.
 fn outcome_of<R: Threads + Wait + Sync>(rt: &R, alloc: Global, n: u64) -> Outcome
     ensures { ComesOf ⟦<MemDisk as Disk>⟧ ⟦<MemLinks as Links>⟧ ⟦<MemDoors as Doors>⟧
-        ⟦<MemSink as Sink>⟧ n result }
+        ⟦<UnseenSink as Sink>⟧ n result }
 {
     match load(rt, alloc, n) {
         Ok(outcome) => outcome,
@@ -27,7 +28,8 @@ fn outcome_of<R: Threads + Wait + Sync>(rt: &R, alloc: Global, n: u64) -> Outcom
 }
 
 fn told<O: Sink>(alloc: Global, n: u64, outcome: &Outcome, out: &mut O) -> Result<(), IoErr>
-    ensures bytes { IsTrue O.tells → Takes (O.taken out.old) (line_by n outcome.now) (O.taken out.new) result }
+    ensures bytes { IsTrue O.tells
+        → Takes (O.taken out.old) (line_by n outcome.now) (O.taken out.new) result }
     ensures cause { HasCause (O.faults out.old) (O.faults out.new) result }
 {
     let line = line_of(alloc, n, outcome)?;
@@ -42,10 +44,13 @@ pub fn run_load<R: Threads + Wait + Sync, O: Sink>(
     out: &mut O,
 ) -> RunEnding
     ensures ends { EndsLoad ⟦<MemDisk as Disk>⟧ ⟦<MemLinks as Links>⟧ ⟦<MemDoors as Doors>⟧
-        ⟦<MemSink as Sink>⟧ O.Sink n out.old result out.new }
+        ⟦<UnseenSink as Sink>⟧ O.Sink n out.old result out.new }
+    // It is done just where the journal of its run has its Complete.
+    ensures journal { EndsByJournal ⟦<MemDisk as Disk>⟧ ⟦<MemLinks as Links>⟧ ⟦<MemDoors as Doors>⟧
+        ⟦<UnseenSink as Sink>⟧ O.Sink n out.old result out.new }
     // Where it is done, every piece on its disk has its digest.
     ensures right { result ≡ Done → IsRightLoad ⟦<MemDisk as Disk>⟧ ⟦<MemLinks as Links>⟧
-        ⟦<MemDoors as Doors>⟧ ⟦<MemSink as Sink>⟧ n }
+        ⟦<MemDoors as Doors>⟧ ⟦<UnseenSink as Sink>⟧ n }
 {
     let outcome = outcome_of(rt, alloc, n);
     match told(alloc, n, &outcome, out) {

@@ -1,6 +1,6 @@
 use Rattle.std.proofs.Common.{◌≡◌, ◌∙◌, ◌++◌, ◌∷◌, [], List, ap, sym, ℕ, arith}
 use Rattle.sha1.specs.Sha1.{sha1}
-use Rattle.load_parts.specs.Payload.{first_digests, load_piece}
+use Rattle.load_parts.specs.Payload.{piece_digests, load_piece}
 use Rattle.load_parts.proofs.Groups.{digests_more, digests_none}
 use Rattle.load_parts.proofs.payload.load_digests.Goals as goal
 
@@ -19,4 +19,4 @@ loop-piece-preserved c =
 pub returns : goal.returns
 returns c =
     let all : c.loop-piece.piece ≡ 64 = omega arith in
-    c.loop-piece.invariant ∙ ap (first_digests c.args.n) all
+    c.loop-piece.invariant ∙ ap (piece_digests c.args.n) all

@@ -1,9 +1,17 @@
-use Rattle.std.proofs.Common.{◌∙◌, ap, map, string_bytes, subst}
+use Rattle.std.proofs.Common.{◌++◌, ◌≤◌, ⊎_elim, ◌∙◌, ap, arith, inl, inr, length, map, refl, string_bytes, subst}
+use Rattle.std.specs.Prelude.{codes}
+use Rattle.aria_top.proofs.Over.{over}
 use Rattle.load_parts.specs.Disk.{IsLoadDisk}
+use Rattle.load_parts.specs.Payload.{digests_of}
+use Rattle.load_parts.specs.Links.{load_content}
+use Rattle.self_load.proofs.Comes.{comes_well, no_control}
+use Rattle.self_load.proofs.Links.{links_content}
+use Rattle.self_load.proofs.Pieces.{starts_sound}
+use Rattle.self_load.proofs.Run.{ends_so}
 use Rattle.self_load.proofs.inner.run_inner.Goals as goal
 
-pub returns : goal.returns
-returns g c = record {
+pub returns-clause-run : goal.returns-clause-run
+returns-clause-run g c = record {
   words = _;
   words_are = ap (map string_bytes) c.deref.ensures.value ∙ c.in_ok-words.ensures;
   disk = c.in_ok-disk.disk;
@@ -12,8 +20,48 @@ returns g c = record {
   olds_are = c.in_ok-links.ensures;
   none = c.new-doors.result.items;
   none_are = c.new-doors.ensures.items;
-  sink = c.new-summary.result;
-  sink_is = (c.new-summary.ensures.taken, c.new-summary.ensures.failing ∙ c.new.ensures.items);
+  sink = _;
   shown = _;
   does = c.run.ensures.does;
+  served = λ well.
+      ⊎_elim (λ done. inl done.0) inr (comes_well c.args.n (c.run.ensures.completes refl refl) (record {
+        words_name = c.words_name_load.ensures;
+        files_say = c.metainfo_files_say_payloads.ensures.said;
+        files_read = c.metainfo_files_say_payloads.ensures.read;
+        words_are = ap (map string_bytes) c.deref.ensures.value ∙ c.in_ok-words.ensures;
+        file = (subst (λ digests. IsLoadDisk digests c.in_ok-disk.disk) c.requires c.in_ok-disk.ensures).fresh.seen
+            (codes "load.torrent");
+        fresh = λ name. (subst
+            (λ digests. IsLoadDisk digests c.in_ok-disk.disk) c.requires c.in_ok-disk.ensures).fresh.seen
+            (name ++ codes ".aria2") ∙ no_control _ name;
+        content = λ place old at.
+            links_content c.args.n 0 c.in_ok-links.links.items c.in_ok-links.ensures.1 place old at
+            ∙ ap (load_content c.args.n) (omega arith);
+      }) well);
 }
+
+pub returns-clause-ends : goal.returns-clause-ends
+returns-clause-ends g c =
+    let stands = subst (λ digests. IsLoadDisk digests c.in_ok-disk.disk) c.requires c.in_ok-disk.ensures in
+    let some : 1 ≤ length c.in_ok-links.links.items = let many = c.in_ok-links.ensures.0 in omega (arith, many) in
+    let ends = ends_so c.args.n (over some c.run.ensures.does) (record {
+      laws = record {
+        stay = c.downloads_stay.ensures.downloads;
+        parts = c.downloads_are_legal.ensures;
+        ends = c.lone_downloads_end_well.ensures.ends;
+        alone = c.lone_downloads_end_well.ensures.alone;
+      };
+      words_name = c.words_name_load.ensures;
+      files_say = c.metainfo_files_say_payloads.ensures.said;
+      right = c.disks_keep_runs.ensures.complete;
+      tells = refl;
+      words_are = ap (map string_bytes) c.deref.ensures.value ∙ c.in_ok-words.ensures;
+      file = stands.fresh.seen (codes "load.torrent");
+      sound = starts_sound (digests_of c.args.n) c.in_ok-disk.disk stands;
+    }) in
+    record {
+      complete = ends.complete;
+      done = λ told. ⊎_elim inl (λ more. ⊎_elim inr (λ sunk. absurd (let never = sunk.1 in omega (arith, never))) more)
+          (ends.done told);
+      whole = ends.right;
+    }

@@ -1,6 +1,6 @@
 use Rattle.std.proofs.Common.{◌∙◌, ◌++◌, List, ap, ℕ}
 use Rattle.load_parts.specs.Metainfo.{digests_joined, metainfo_back, metainfo_by, metainfo_front}
-use Rattle.load_parts.proofs.metainfo.load_metainfo.Goals as goal
+use Rattle.load_parts.proofs.torrent.load_metainfo.Goals as goal
 
 pub returns : goal.returns
 unfolding metainfo_back metainfo_by metainfo_front

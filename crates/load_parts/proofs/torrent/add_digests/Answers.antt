@@ -1,7 +1,7 @@
 use Rattle.std.proofs.Common.{◌<◌, sym, arith, length}
 use Rattle.load_parts.proofs.Texts.{joined_more, none_within}
-use Rattle.load_parts.proofs.metainfo.add_digests.Goals as goal
-use Rattle.load_parts.proofs.metainfo.add_digests.Goals.{in-Some+in_ok-extend_from_slice, in_default}
+use Rattle.load_parts.proofs.torrent.add_digests.Goals as goal
+use Rattle.load_parts.proofs.torrent.add_digests.Goals.{in-Some+in_ok-extend_from_slice, in_default}
 
 pub loop-place-preserved : goal.loop-place-preserved
 loop-place-preserved c =
