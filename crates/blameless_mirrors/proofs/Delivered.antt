@@ -84,7 +84,7 @@ opened_known None lengths plan same = absurd (let some = plan.some in omega (ari
 opened_known (Some l) lengths plan same = ap (λ (x : PayloadLengths). Some x) (same l refl)
 
 -- no block lands of a download that isn't opened
-lands_opened : {P : Type 0} (total len : ℕ) (own : List OwnEvent) → UnopenedFitAnyLengths → LegalOwn total len own
+pub lands_opened : {P : Type 0} (total len : ℕ) (own : List OwnEvent) → UnopenedFitAnyLengths → LegalOwn total len own
     → is_opened own ≡ false → (claim : Claim) → Contains (standing_claims own) claim
     → 1 ≤ claim.run.first + claim.run.count → P
 lands_opened total len own fit legal un claim stands some =

@@ -15,3 +15,4 @@ pub mod OneWant
 pub mod LoneLaws
 pub mod LoneUris
 pub mod UriBlocks
+pub mod Completions

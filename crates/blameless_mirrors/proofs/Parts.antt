@@ -77,10 +77,10 @@ AnsweredTo start before t op =
     (answer_before start (history_of before) op)
 
 module _ (start : RunStart) (before : List RunTurn) (t : RunTurn) where
-  abbrev at_start : TurnStart
+  abbrev pub at_start : TurnStart
   at_start = turn_start start before t
 
-  abbrev standing : RunStanding
+  abbrev pub standing : RunStanding
   standing = standing_after start before
 
   abbrev past : List Event
