@@ -16,3 +16,4 @@ pub mod LoneLaws
 pub mod LoneUris
 pub mod UriBlocks
 pub mod Completions
+pub mod OwnThere
