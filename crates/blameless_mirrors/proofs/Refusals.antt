@@ -89,6 +89,13 @@ added_of None own l is = absurd cc
 same_refused : (want : Want) (old new : Files) → SameFor want old new → open_refusal want new ≡ open_refusal want old
 same_refused want old new same i = refused_over want (same.control i) (first_len (lens_of (same.files i)))
 
+-- where no file of the want changes it stays so
+abbrev pub IsKeptBy : (Files → Type 0) → Want → Type 0
+IsKeptBy Q want = (old new : Files) → SameFor want old new → Q old → Q new
+
+refusals_kept : (want : Want) → IsKeptBy (λ files. open_refusal want files ≡ None) want
+refusals_kept want old new same is = same_refused want old new same ∙ is
+
 module _ (laws : RunFollows) (start : RunStart) (disk : DiskState) (gid : Gid) (download : Download) where
   -- what holds after these turns
   pub record Fresh (told : List RunTurn) : Type 0 where
@@ -145,41 +152,38 @@ module _ (laws : RunFollows) (start : RunStart) (disk : DiskState) (gid : Gid) (
         ∙ laws.going start mid gid mid_legal opening.active) in cc))
         (λ (starved : t.answer.said ≡ NoMemory). f.memory.0 starved) more) asks.came
 
-    -- so nothing came that a want would be refused for
-    free_still : (want : Want) (told : List RunTurn) (later : List Event) → mid ≡ history_after (history_of told) later
-        → Fresh told → (t : RunTurn) (before : List RunTurn) → told ≡ t ∷ before
-        → open_refusal want (disk.seen_at (first_time told)) ≡ None → open_refusal want (disk.seen_at t.after.time) ≡ None
-    free_still want [] later mid_is f t before is none = absurd cc
-    free_still want (u ∷ []) later mid_is f t before is none =
+    -- so what no change of other files undoes is still so
+    still_so : (Q : Files → Type 0) (want : Want) → IsKeptBy Q want → (told : List RunTurn) (later : List Event)
+        → mid ≡ history_after (history_of told) later → Fresh told → (t : RunTurn) (before : List RunTurn) → told ≡ t ∷ before
+        → Q (disk.seen_at (first_time told)) → Q (disk.seen_at t.after.time)
+    still_so Q want kept [] later mid_is f t before is so = absurd cc
+    still_so Q want kept (u ∷ []) later mid_is f t before is so =
         let same : u ≡ t = cc in
-        subst (λ (x : RunTurn). open_refusal want (disk.seen_at x.after.time) ≡ None) same
-        (same_refused want (disk.seen_at u.before.time) (disk.seen_at u.after.time)
-        (f.fits.0.fits.untouched want (λ g other asked has. absurd (unasked (u ∷ []) later mid_is f g asked))) ∙ none)
-    free_still want (u ∷ v ∷ older) later mid_is f t before is none =
+        subst (λ (x : RunTurn). Q (disk.seen_at x.after.time)) same
+        (kept (disk.seen_at u.before.time) (disk.seen_at u.after.time)
+        (f.fits.0.fits.untouched want (λ g other asked has. absurd (unasked (u ∷ []) later mid_is f g asked))) so)
+    still_so Q want kept (u ∷ v ∷ older) later mid_is f t before is so =
         let same : u ≡ t = cc in
         let f_v = fresh_before u (v ∷ older) f in
-        let was = free_still want (v ∷ older) (u.events ++ later)
-        (mid_is ∙ sym (history_on (history_of (v ∷ older)) u.events later)) f_v v older refl none in
+        let was = still_so Q want kept (v ∷ older) (u.events ++ later)
+        (mid_is ∙ sym (history_on (history_of (v ∷ older)) u.events later)) f_v v older refl so in
         let time : u.before.time ≡ v.after.time = ap (λ s. s.time) f.marks.0 in
-        let here : open_refusal want (disk.seen_at u.before.time) ≡ None =
-        ap (λ (k : ℕ). open_refusal want (disk.seen_at k)) time ∙ was in
-        subst (λ (x : RunTurn). open_refusal want (disk.seen_at x.after.time) ≡ None) same
-        (same_refused want (disk.seen_at u.before.time) (disk.seen_at u.after.time)
-        (f.fits.0.fits.untouched want (λ g other asked has. absurd (unasked (u ∷ v ∷ older) later mid_is f g asked)))
-        ∙ here)
+        let here : Q (disk.seen_at u.before.time) = subst (λ (k : ℕ). Q (disk.seen_at k)) (sym time) was in
+        subst (λ (x : RunTurn). Q (disk.seen_at x.after.time)) same
+        (kept (disk.seen_at u.before.time) (disk.seen_at u.after.time)
+        (f.fits.0.fits.untouched want (λ g other asked has. absurd (unasked (u ∷ v ∷ older) later mid_is f g asked))) here)
 
   -- ---- a turn
 
-  -- as it began nothing was refused of the want
-  free_before : (want : Want) (t : RunTurn) (before : List RunTurn) → (mid : List Event) → IsLegal start mid
-      → IsOpening start mid gid → (front : List Event) → mid ≡ history_after (history_of before) front → Fresh (t ∷ before)
-      → open_refusal want (disk.seen_at (first_time (t ∷ before))) ≡ None
-      → open_refusal want (disk.seen_at t.before.time) ≡ None
-  free_before want t [] mid legal opening front mid_is f none = none
-  free_before want t (u ∷ older) mid legal opening front mid_is f none =
+  -- as it began that was so
+  pub so_before : (Q : Files → Type 0) (want : Want) → IsKeptBy Q want → (t : RunTurn) (before : List RunTurn) (mid : List Event)
+      → IsLegal start mid → IsOpening start mid gid → (front : List Event) → mid ≡ history_after (history_of before) front
+      → Fresh (t ∷ before) → Q (disk.seen_at (first_time (t ∷ before))) → Q (disk.seen_at t.before.time)
+  so_before Q want kept t [] mid legal opening front mid_is f so = so
+  so_before Q want kept t (u ∷ older) mid legal opening front mid_is f so =
       let time : t.before.time ≡ u.after.time = ap (λ s. s.time) f.marks.0 in
-      ap (λ (k : ℕ). open_refusal want (disk.seen_at k)) time
-      ∙ free_still mid legal opening want (u ∷ older) front mid_is (fresh_before t (u ∷ older) f) u older refl none
+      subst (λ (k : ℕ). Q (disk.seen_at k)) (sym time)
+      (still_so mid legal opening Q want kept (u ∷ older) front mid_is (fresh_before t (u ∷ older) f) u older refl so)
 
   -- no want of the download was refused as the first of the turns began
   abbrev pub IsFreeFirst : List RunTurn → Type 0
@@ -207,8 +211,8 @@ module _ (laws : RunFollows) (start : RunStart) (disk : DiskState) (gid : Gid) (
       subst (λ (g : Gid). IsOpening start mid g) (gid_added start mid other d may.own.added ∙ its)
       (refusal_opens start mid d (wanted_pieces d (known_lengths start mid other)) how refuses may.cause) in
       let so = f.fits.0.fits.refused gid how (subst (λ (g : Gid). Contains t.events (Ended g how)) its there) refuses in
-      let never = free_before so.want t before mid legal.0 opening split.front refl f
-      (free so.want (want_on laws start past t.events gid so.want f.legal so.has)) in
+      let never = so_before (λ files. open_refusal so.want files ≡ None) so.want (refusals_kept so.want) t before mid legal.0
+      opening split.front refl f (free so.want (want_on laws start past t.events gid so.want f.legal so.has)) in
       absurd (let no : Some so.err ≡ None = sym so.found ∙ never in cc)
 
   free_earlier : (t : RunTurn) (before : List RunTurn) → Fresh (t ∷ before) → first_time (t ∷ before) ≡ first_time before
