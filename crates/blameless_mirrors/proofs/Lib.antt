@@ -17,3 +17,4 @@ pub mod LoneUris
 pub mod UriBlocks
 pub mod Completions
 pub mod OwnThere
+pub mod UriFiles

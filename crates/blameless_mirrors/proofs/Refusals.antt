@@ -190,7 +190,7 @@ module _ (laws : RunFollows) (start : RunStart) (disk : DiskState) (gid : Gid) (
   IsFreeFirst told =
       (want : Want) → HasWant start (history_of told) gid want → open_refusal want (disk.seen_at (first_time told)) ≡ None
 
-  first_same : (t : RunTurn) (before : List RunTurn) → (before ≡ []) ⊎ (first_time (t ∷ before) ≡ first_time before)
+  pub first_same : (t : RunTurn) (before : List RunTurn) → (before ≡ []) ⊎ (first_time (t ∷ before) ≡ first_time before)
   first_same t [] = inl refl
   first_same t (u ∷ older) = inr refl
 

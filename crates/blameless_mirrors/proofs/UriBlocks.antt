@@ -64,7 +64,7 @@ module _ (start : RunStart) (past : List Event) (gid : Gid) (uris : List (List �
       subst (λ (d : Download). IsUnlistedName (text_of_word d.options Out) uris want.base) (it_is want has)
       (subst (λ (s : Subject). IsPayloadName has.download s want.base) (of_uris want has) has.is.base)
 
-  wants_one : (v w : Want) → HasWant start past gid v → HasWant start past gid w → v ≡ w
+  pub wants_one : (v w : Want) → HasWant start past gid v → HasWant start past gid w → v ≡ w
   wants_one v w a b =
       let lengths : a.lengths ≡ b.lengths = (let some : Some a.lengths ≡ Some b.lengths = sym a.known ∙ b.known in cc) in
       let cut = a.is.plan ∙ (lengths ∙ sym b.is.plan) in

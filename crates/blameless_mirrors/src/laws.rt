@@ -1,7 +1,7 @@
 // What follows in runs in which a mirror brings a payload's own bytes.
 ghost use Rattle.blameless_mirrors.specs.Blameless.{DeliveredAreRead, MarksAreOfLinks, NeverEndDead, StayEligible, WrongFindingsArentTheirs};
 ghost use Rattle.blameless_mirrors.specs.Lone.{BroughtOnlyComplete, FreshAreNeverRefused, LoneAreAlone, LoneDownloadsEndWell};
-ghost use Rattle.blameless_mirrors.specs.LoneUris.{UnlistedDeliveredAreRead, UnlistedOnlyComplete};
+ghost use Rattle.blameless_mirrors.specs.LoneUris.{UnlistedCompleteAreWhole, UnlistedDeliveredAreRead, UnlistedOnlyComplete};
 
 use dl_disk::Disk;
 use dl_kinds::plan_laws;
@@ -67,6 +67,16 @@ pub fn unlisted_downloads_only_complete<D: Disk>()
 /// it runs.
 pub fn unlisted_blocks_are_read<D: Disk>()
     ensures { UnlistedDeliveredAreRead D.state }
+{
+    plan_laws();
+    accounts_match_runs();
+    runs_follow();
+}
+
+/// Where all its mirrors are such, no control file of it stood as the run began, and it ended as complete, its file has just the
+/// payload's bytes. It does nothing when it runs.
+pub fn unlisted_complete_downloads_are_whole<D: Disk>()
+    ensures { UnlistedCompleteAreWhole D.state }
 {
     plan_laws();
     accounts_match_runs();
