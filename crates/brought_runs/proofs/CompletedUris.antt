@@ -3,19 +3,19 @@ use Rattle.std.proofs.Common.{◌≡◌, ◌⊎◌, inl, inr, ⊎_elim, ℕ, IsT
 use Rattle.std.specs.Prelude.{◌≤◌, ◌<◌, codes, Contains, IfSome, map, reverse}
 use Rattle.std.specs.Option.{is_some, option_and_then, option_map, unwrap_or}
 use Rattle.blameless_mirrors.specs.Lone.{first_time}
-use Rattle.blameless_mirrors.specs.LoneUris.{IsFreeFirst, IsLoneUnlisted, IsUnlistedBrought, UnlistedOnlyComplete}
+use Rattle.blameless_mirrors.specs.LoneUris.{HasFile, IsFreeFirst, IsLoneUnlisted, IsUnlistedBrought, IsUnlistedServed, UnlistedCompleteAreWhole, UnlistedOnlyComplete}
 use Rattle.brought_runs.specs.Completes.{IsDone, WasCutShort}
-use Rattle.brought_runs.specs.CompletesUris.{CompletesUris, IsServedAlike, LacksFiles, NamesMirrors, own_options}
+use Rattle.brought_runs.specs.CompletesUris.{CompletesUris, IsDoneWith, IsServedAlike, LacksFiles, NamesMirrors, own_options}
 use Rattle.brought_runs.specs.Ends.{EndsUnfailed, FinishedAreDone, OnlyCompletes}
 use Rattle.brought_runs.specs.Over.{IsRunOver, IsWork, RanOverLinks}
 use Rattle.brought_runs.specs.OverLaws.{RunsShowLinks}
 use Rattle.brought_runs.specs.Served.{AllServe}
-use Rattle.brought_runs.proofs.Endings.{ends_here, faultless, some_turns}
+use Rattle.brought_runs.proofs.Endings.{ends_here, faultless, in_reverse, some_turns}
 use Rattle.brought_runs.proofs.KnownMirrors.{claimed_known}
 use Rattle.brought_runs.proofs.LineOptions.{LineUsual, line_usual}
 use Rattle.brought_runs.proofs.OneAdded.{RanOne, comes, no_failed_link, ran_one}
 use Rattle.brought_runs.proofs.Spared.{of_link, uses_work}
-use Rattle.brought_runs.proofs.ToldRuns.{read_first, told_run}
+use Rattle.brought_runs.proofs.ToldRuns.{read_first, read_last, told_run}
 use Rattle.brought_runs.proofs.Unbegun.{never_began_uris}
 use Rattle.command_line.specs.LineLaws.{LinesAreOne}
 use Rattle.command_line.specs.declared.line.CommandLine.{CommandLine}
@@ -34,8 +34,8 @@ use Rattle.engine_turns.specs.declared.operations.Operation.{Operation}
 use Rattle.engine_turns.specs.declared.operations.Operation.TheVariants as operation
 use Rattle.first_call.specs.Sources.{IsNamedCall}
 use Rattle.link_source.specs.declared.Links.{Ghosts as LinkSays}
-use Rattle.machine_core.specs.DownloadWants.{files_of_subject}
-use Rattle.machine_core.specs.FileNames.{folder_in}
+use Rattle.machine_core.specs.DownloadWants.{HasWant, files_of_subject}
+use Rattle.machine_core.specs.FileNames.{IsPayloadName, IsUnlistedName, folder_in}
 use Rattle.machine_core.specs.LawfulCalls.{IsLawful}
 use Rattle.machine_core.specs.OwnParts.{PayloadLengths, lengths_by, own_of, payload_lengths_of, told_lengths}
 use Rattle.machine_core.specs.RunLegal.{DownloadsStay, download_in}
@@ -43,15 +43,16 @@ use Rattle.machine_core.specs.Starts.{Download, RunStart, Subject, Unlisted}
 use Rattle.machine_core.specs.declared.calls.Call.{Call}
 use Rattle.machine_core.specs.declared.calls.Call.TheVariants as call
 use Rattle.machine_core.specs.declared.events.Event.{Event}
-use Rattle.machine_core.specs.declared.events.Event.TheVariants.{Claimed}
+use Rattle.machine_core.specs.declared.events.Event.TheVariants.{Claimed, Ended as EventEnded}
+use Rattle.machine_core.specs.declared.ends.End.TheVariants.{Complete}
 use Rattle.mirror_payloads.specs.Faithful.{IsFaithful}
 use Rattle.option_set.specs.Values.{OptionValues, number_value, text_of_word}
 use Rattle.option_set.specs.declared.kinds.Num.TheVariants.{MaxTries, PieceLength}
-use Rattle.option_set.specs.declared.kinds.Word.TheVariants.{Checksum, Dir}
+use Rattle.option_set.specs.declared.kinds.Word.TheVariants.{Checksum, Dir, Out}
 use Rattle.payload_files.specs.Names.{name_of, root_of}
 use Rattle.resume_core.specs.Lens.{first_len, lens_of}
 use Rattle.resume_core.specs.Refusals.{in_the_way, open_refusal, refused_over}
-use Rattle.resume_core.specs.Wants.{control_name, files_in}
+use Rattle.resume_core.specs.Wants.{control_name, files_in, payload_name}
 use Rattle.resume_core.specs.declared.refusing.OpenErr.TheVariants.{Exists}
 use Rattle.run_frame.proofs.Ran as ran_facts
 use Rattle.run_frame.specs.Finishes.{Ran}
@@ -79,11 +80,15 @@ unhindered : (o : Option (List ℕ)) → cond (is_some o) None (option_map Exist
 unhindered (Some hash) = refl
 unhindered None = refl
 
+no_control : (want : Want) (files : Files) → ((base : List ℕ) → files (name_of want.dir (base ∷ [])) ≡ None)
+    → files (control_name want) ≡ None
+no_control want files none =
+    ap files (append_assoc (root_of want.dir) want.base (codes ".aria2")) ∙ none (want.base ++ codes ".aria2")
+
 none_stands : (want : Want) (files : Files) (len : ℕ) → want.layout ≡ record { path = want.base ∷ []; len = len } ∷ []
     → ((base : List ℕ) → files (name_of want.dir (base ∷ [])) ≡ None) → open_refusal want files ≡ None
 none_stands want files len layout none =
-    let control : files (control_name want) ≡ None =
-    ap files (append_assoc (root_of want.dir) want.base (codes ".aria2")) ∙ none (want.base ++ codes ".aria2") in
+    let control : files (control_name want) ≡ None = no_control want files none in
     let contents : files_in want files ≡ None ∷ [] =
     ap (λ (fs : List FileLen). map (λ (file : FileLen). files (name_of want.dir file.path)) fs) layout
     ∙ ap (λ (o : Option (List ℕ)). o ∷ []) (none want.base) in
@@ -100,6 +105,7 @@ pub record UriLaws {D O L : Type 0} (K : Type 0) (says : DiskSays D) (sinks : Si
   pub faithful : RunsAreFaithful says sinks links
   pub right : RunsTellRight says sinks links
   pub complete : UnlistedOnlyComplete says.state
+  pub whole : UnlistedCompleteAreWhole says.state
   pub disk : RunsShowDisk says sinks
   pub done : FinishedAreDone says sinks
   pub shown : RunsEndAsShown says sinks
@@ -203,18 +209,35 @@ module _ {D O L K : Type 0} {says : DiskSays D} {sinks : SinkSays O} {links : Li
       lacks : LacksFiles (says.state disk).seen line
       lacks = subst (λ (l : CommandLine). LacksFiles (says.state disk).seen l) line_is is.fresh
 
+      -- ---- its want
+
+      module _ (want : Want) (has : HasWant start past gid want) where
+        its : has.download ≡ d
+        its = let both : Some has.download ≡ Some d = sym has.added ∙ one.there in cc
+
+        of : has.download.subject ≡ Unlisted uris
+        of = ap (λ (x : Download). x.subject) its ∙ one.subject_is
+
+        folder : want.dir ≡ unwrap_or (text_of_word (own_options line) Dir) []
+        folder = has.is.dir ∙ ap folder_in its ∙ ap (λ (o : OptionValues). unwrap_or (text_of_word o Dir) []) one.options
+
+        named_so : IsUnlistedName (text_of_word (own_options line) Out) uris want.base
+        named_so = subst (λ (o : OptionValues). IsUnlistedName (text_of_word o Out) uris want.base) one.options
+            (subst (λ (x : Download). IsUnlistedName (text_of_word x.options Out) uris want.base) its
+            (subst (λ (s : Subject). IsPayloadName has.download s want.base) of has.is.base))
+
+        none_first : (base : List ℕ)
+            → (says.state ended.disk).seen_at (first_time told) (name_of want.dir (base ∷ [])) ≡ None
+        none_first base =
+            let some = some_turns (ran.begun.desk.own ++ ran.stops.middle) ran.stops.last in
+            read_first ran tells some.0 some.1 some.2 (name_of want.dir (base ∷ []))
+            ∙ (ap (λ (f : List ℕ). (says.state disk).seen (name_of f (base ∷ []))) folder ∙ lacks base)
+
       free : IsFreeFirst start told (says.state ended.disk) gid
       free want has =
-          let its : has.download ≡ d = (let both : Some has.download ≡ Some d = sym has.added ∙ one.there in cc) in
-          let of : has.download.subject ≡ Unlisted uris = ap (λ (x : Download). x.subject) its ∙ one.subject_is in
-          let dir : want.dir ≡ folder_in d = has.is.dir ∙ ap folder_in its in
-          let options : folder_in d ≡ unwrap_or (text_of_word (own_options line) Dir) [] =
-          ap (λ (o : OptionValues). unwrap_or (text_of_word o Dir) []) one.options in
-          let some = some_turns (ran.begun.desk.own ++ ran.stops.middle) ran.stops.last in
           none_stands want ((says.state ended.disk).seen_at (first_time told)) has.lengths.total
-          (has.is.layout ∙ ap (λ (s : Subject). files_of_subject s want.base has.lengths.total) of)
-          (λ base. read_first ran tells some.0 some.1 some.2 (name_of want.dir (base ∷ []))
-          ∙ (ap (λ (folder : List ℕ). (says.state disk).seen (name_of folder (base ∷ []))) (dir ∙ options) ∙ lacks base))
+          (has.is.layout ∙ ap (λ (s : Subject). files_of_subject s want.base has.lengths.total) (of want has))
+          (none_first want has)
 
       brought : IsUnlistedBrought start told (says.state ended.disk) gid 0 uris resource
       brought = record {
@@ -236,12 +259,56 @@ module _ {D O L K : Type 0} {says : DiskSays D} {sinks : SinkSays O} {links : Li
       done : IsDone ended ⊎ (ended.ending ≡ NoMemory)
       done = comes {links = links} {olds = olds} {news = news} ran laws.shown is.well (Unlisted uris) laws.done one ends.0 ends.1
 
-    completes_here : 1 ≤ length olds → IsDone ended ⊎ (ended.ending ≡ NoMemory) ⊎ WasCutShort D links olds news
-    completes_here some = ⊎_elim
-        (λ (one : RanOne ran (Unlisted uris)). ⊎_elim (λ (well : IsDone ended). inl well)
+      -- ---- its file
+
+      served : IsUnlistedServed start told (says.state ended.disk) gid uris resource
+      served = record {
+        run = told_run ran tells;
+        lone = lone;
+        faithful = faithful;
+        claims = low_claim;
+        lengths = total_is;
+        memory = one.memory;
+        fresh = λ want has. record {
+          absent = no_control want ((says.state ended.disk).seen_at (first_time told)) (none_first want has);
+        };
+      }
+
+      stands : Contains past (EventEnded gid Complete) → HasFile start past gid (says.state ended.disk).seen resource
+      stands there =
+          let some = some_turns (ran.begun.desk.own ++ ran.stops.middle) ran.stops.last in
+          subst (λ (files : Files). HasFile start past gid files resource) (read_last ran tells some.0 some.1 some.2)
+          (subst (λ (ts : List RunTurn). HasFile start (history_of ts) gid
+          ((says.state ended.disk).seen_at some.0.after.time) resource) (sym some.2)
+          (laws.whole start some.0 some.1 ended.disk gid uris resource
+          (subst (λ (ts : List RunTurn). IsUnlistedServed start ts (says.state ended.disk) gid uris resource) some.2 served)
+          (subst (λ (ts : List RunTurn). Contains (history_of ts) (EventEnded gid Complete)) some.2 there)))
+
+      done_with : IsDone ended → IsDoneWith says links sinks words disk olds out ended news out' line uris resource
+      done_with is_done =
+          let g : is_done.1 ≡ gid = (ends.0 is_done.1 Complete is_done.2).0 in
+          let there : Contains past (EventEnded is_done.1 Complete) =
+          subst (λ (es : List Event). Contains es (EventEnded is_done.1 Complete)) (ran_facts.history_is ran)
+          (in_reverse ended.journal.events.items (EventEnded is_done.1 Complete) is_done.2) in
+          let at = stands (subst (λ (x : Gid). Contains past (EventEnded x Complete)) g there) in
+          record {
+            done = is_done;
+            base = at.want.base;
+            named = named_so at.want at.has;
+            file = ap (λ (f : List ℕ). (says.state ended.disk).seen (name_of f (at.want.base ∷ [])))
+                (sym (folder at.want at.has)) ∙ at.file;
+          }
+
+    abbrev Comes : CommandLine → Type 0
+    Comes l = IsDoneWith says links sinks words disk olds out ended news out' l uris resource
+        ⊎ (ended.ending ≡ NoMemory) ⊎ WasCutShort D links olds news
+
+    completes_here : 1 ≤ length olds → Comes named
+    completes_here some = subst Comes (sym line_is) (⊎_elim
+        (λ (one : RanOne ran (Unlisted uris)). ⊎_elim (λ (well : IsDone ended). inl (done_with one well))
         (λ (starved : ended.ending ≡ NoMemory). inr (inl starved)) (done one))
         (λ more. inr more)
-        (ran_one laws.append laws.stay it (call.AddUri uris line.settings None) asked (Unlisted uris) (refl, refl, refl) usual some)
+        (ran_one laws.append laws.stay it (call.AddUri uris line.settings None) asked (Unlisted uris) (refl, refl, refl) usual some))
 
   pub completes_uris : UriLaws K says sinks links → IsRunOver says sinks links words gids doors disk olds out ended news out'
       → 1 ≤ length olds → IsTrue says.tells → IsTrue links.tells

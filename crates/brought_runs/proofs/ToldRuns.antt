@@ -9,7 +9,7 @@ use Rattle.dl_kinds.specs.declared.outside.Sink.{Ghosts as SinkSays}
 use Rattle.engine_core.specs.TurnReads.{FitsDisk}
 use Rattle.engine_turns.specs.RunTurns.{MayComeAfter}
 use Rattle.engine_turns.specs.Told.{AllTurns, RunTurn}
-use Rattle.run_frame.proofs.Ran.{fits, goes_on, legal_told, mark, mark_time, marked, may_come}
+use Rattle.run_frame.proofs.Ran.{fits, goes_on, last_time, legal_told, mark, mark_time, marked, may_come}
 use Rattle.run_frame.proofs.Turns.{mark_on, reversed_cut}
 use Rattle.run_frame.specs.Finishes.{Ran}
 use Rattle.run_frame.specs.Stops.{all_turns}
@@ -78,3 +78,15 @@ module _ {D O : Type 0} {says : DiskSays D} {sinks : SinkSays O} {words : List (
       ∙ (λ i. passes.seen (says.state began).moment (omega arith) i name)
       ∙ (λ i. (says.state began).now_seen i name)
       ∙ (ran.begins.is_read.stays tells).seen name
+
+  -- .. and what it read behind the last turn it reads in the end
+  pub read_last : (t : RunTurn) (before : List RunTurn) → told_of says sinks ran ≡ t ∷ before
+      → (says.state ended.disk).seen_at t.after.time ≡ (says.state ended.disk).seen
+  read_last t before is =
+      let cut : all_turns says ran.stops ≡ reverse (t ∷ before) =
+      sym (reverse-reverse (all_turns says ran.stops)) ∙ ap reverse is in
+      let last : last_mark (mark ran) (all_turns says ran.stops) ≡ t.after =
+      ap (last_mark (mark ran)) cut ∙ newest_mark (mark ran) t before in
+      let time : t.after.time ≡ (says.state ended.disk).moment =
+      ap (λ (s : Stamp). s.time) (sym last) ∙ last_time ran tells in
+      ap (λ (k : ℕ). (says.state ended.disk).seen_at k) time ∙ (says.state ended.disk).now_seen

@@ -1,5 +1,5 @@
 -- What a run comes to without a metainfo file, over links whose mirrors lead alike to one resource.
-use Rattle.std.specs.Prelude.{◌≡◌, ◌⊎◌, ◌<◌, ℕ, false, None, List, [], ◌∷◌, length}
+use Rattle.std.specs.Prelude.{◌≡◌, ◌⊎◌, ◌<◌, ℕ, false, None, Some, List, [], ◌∷◌, length}
 use Rattle.brought_runs.specs.Completes.{HadNoFaults, IsDone, WasCutShort}
 use Rattle.brought_runs.specs.Served.{AllServe}
 use Rattle.command_line.specs.Lines.{IsLine, has_console}
@@ -10,11 +10,12 @@ use Rattle.dl_disk.specs.declared.disk.Disk.{Ghosts as DiskSays}
 use Rattle.dl_kinds.specs.Plan.{IsPlan}
 use Rattle.dl_kinds.specs.declared.outside.Sink.{Ghosts as SinkSays}
 use Rattle.link_source.specs.declared.Links.{Ghosts as LinkSays}
+use Rattle.machine_core.specs.FileNames.{IsUnlistedName}
 use Rattle.machine_core.specs.Replays.{with_settings}
 use Rattle.machine_core.specs.Starts.{Unlisted}
 use Rattle.option_set.specs.Values.{OptionValues, number_value, text_of_word}
 use Rattle.option_set.specs.declared.kinds.Num.TheVariants.{PieceLength}
-use Rattle.option_set.specs.declared.kinds.Word.TheVariants.{Checksum, Dir}
+use Rattle.option_set.specs.declared.kinds.Word.TheVariants.{Checksum, Dir, Out}
 use Rattle.payload_files.specs.Names.{name_of}
 use Rattle.run_frame.specs.declared.ended.Ended.{Ended}
 use Rattle.run_report.specs.declared.endings.RunEnding.TheVariants.{NoMemory}
@@ -54,8 +55,16 @@ module _ {D L K O : Type 0} (says : DiskSays D) (links : LinkSays L) (sinks : Si
 
   -- ---- what comes
 
-  -- the run is done, and its download complete, unless it was cut short
+  -- The run is done and its download complete; and as the disk reads in the end, the file of the name that the line says, or else
+  -- the first URI, has just the resource's bytes.
+  pub record IsDoneWith (line : CommandLine) (uris : List (List ℕ)) (resource : List ℕ) : Type 0 where
+    pub done : IsDone ended
+    pub base : List ℕ
+    pub named : IsUnlistedName (text_of_word (own_options line) Out) uris base
+    pub file : (says.state ended.disk).seen (name_in_folder line base) ≡ Some resource
+
+  -- so it is, unless it was cut short
   abbrev pub CompletesUris : Type 0
   CompletesUris =
       (line : CommandLine) (uris : List (List ℕ)) (resource : List ℕ) → IsServedAlike line uris resource
-      → IsDone ended ⊎ (ended.ending ≡ NoMemory) ⊎ WasCutShort D links olds news
+      → IsDoneWith line uris resource ⊎ (ended.ending ≡ NoMemory) ⊎ WasCutShort D links olds news

@@ -3,7 +3,8 @@ ghost use Rattle.brought_runs.specs.OverLaws.{RunsCompleteServed, RunsCompleteUr
 
 use crate::laws::{brought_runs_end_well, finished_runs_are_done};
 use blameless_mirrors::{
-    faithful_mirrors_are_blameless, lone_downloads_end_well, unlisted_downloads_only_complete,
+    faithful_mirrors_are_blameless, lone_downloads_end_well,
+    unlisted_complete_downloads_are_whole, unlisted_downloads_only_complete,
 };
 use command_line::lines_are_one;
 use dl_disk::Disk;
@@ -48,7 +49,8 @@ pub fn runs_complete_what_is_served<D: Disk, L: Links, K, O: Sink>()
     turns_tell_runs();
 }
 
-/// .. also without a metainfo file and a checksum, where all mirrors lead alike to one resource and nothing stands in its place.
+/// .. also without a metainfo file and a checksum, where all mirrors lead alike to one resource and nothing stands in its place; and
+/// then its file has just the resource's bytes.
 pub fn runs_complete_uris<D: Disk, L: Links, K, O: Sink>()
     ensures { RunsCompleteUris K D.Disk O.Sink L.Links }
 {
@@ -56,6 +58,7 @@ pub fn runs_complete_uris<D: Disk, L: Links, K, O: Sink>()
     runs_are_faithful::<D, L, O>();
     runs_tell_right_lengths::<D, L, O>();
     unlisted_downloads_only_complete::<D>();
+    unlisted_complete_downloads_are_whole::<D>();
     finished_runs_are_done::<D, O>();
     lines_are_one();
     downloads_stay();

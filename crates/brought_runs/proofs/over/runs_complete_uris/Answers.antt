@@ -10,6 +10,7 @@ returns g c words gids doors disk olds out ended news out' is =
       faithful = c.runs_are_faithful.ensures;
       right = c.runs_tell_right_lengths.ensures;
       complete = c.unlisted_downloads_only_complete.ensures;
+      whole = c.unlisted_complete_downloads_are_whole.ensures;
       disk = c.runs_show_their_disk.ensures;
       done = c.finished_runs_are_done.ensures;
       shown = c.runs_end_as_shown.ensures;
