@@ -234,7 +234,8 @@ pub fn run<
     ensures completes { IsTrue D.tells → IsTrue L.tells → CompletesServed D.Disk L.Links O.Sink
         (map string_bytes words.now) disk links.items out.old (ended_run result) result.links.items
         out.new }
-    // So it does without a metainfo file, where all mirrors lead alike to one resource and no file stands in its folder.
+    // So it does without a metainfo file, where all mirrors lead alike to one resource and no file stands in its folder; and
+    // then its file has just the resource's bytes.
     ensures completes_uris { IsTrue D.tells → IsTrue L.tells → CompletesUris D.Disk L.Links O.Sink
         (map string_bytes words.now) disk links.items out.old (ended_run result) result.links.items
         out.new }

@@ -1,11 +1,11 @@
 -- A download ends as complete only in a turn behind which it is opened.
-use Rattle.std.proofs.Common.{◌≡◌, ⊎_elim, inl, inr, ℕ, ◌+◌, ◌≤◌, zero, suc, Bool, true, false, cond, Option, Some, None, List, [], ◌∷◌, ◌++◌, refl, sym, ap, ◌∙◌, subst, arith}
+use Rattle.std.proofs.Common.{◌≡◌, ⊎_elim, inl, inr, ℕ, zero, suc, Bool, true, false, cond, Option, Some, None, List, [], ◌∷◌, ◌++◌, refl, sym, ap, ◌∙◌, subst, arith}
 use Rattle.std.specs.Prelude.{Contains}
 use Rattle.std.specs.List.{list_any}
 use Rattle.std.proofs.lemmas.Bool.{eq-eqb}
 use Rattle.std.proofs.lemmas.List.Elements.{Contains-append_left, Contains-append_right}
 use Rattle.dl_history.proofs.Bools.{true_not_false}
-use Rattle.dl_history.specs.OwnEvents.{Opens, OwnEvent, Settles}
+use Rattle.dl_history.specs.OwnEvents.{Opens, Settles}
 use Rattle.dl_history.specs.PayloadParts.{is_opened}
 use Rattle.dl_kinds.specs.declared.claims.Claim.{Claim}
 use Rattle.dl_kinds.specs.declared.gid.Gid.{Gid}
@@ -16,9 +16,9 @@ use Rattle.engine_core.proofs.Promising.{legal_front, opened_on}
 use Rattle.engine_turns.specs.CallRows.{CallRow, LeaveRow, StopRow, left_events, stop_events}
 use Rattle.engine_turns.specs.ClaimRows.{DeliverRow, IsDelivery, IsKept, LoseRow, MoreRow, SizedRow, sole_phase}
 use Rattle.engine_turns.specs.NextRows.{IsFaulted, NextRow, OfferRow, OpenRow, whole_row}
-use Rattle.engine_turns.specs.Phases.{AfterDisk, AndThen, DeadPhase, EndingOr, FindingPhase, IfElse, IsOpeningRefusal, IsSaveOrFault, JustEnd, JustEvent, NoEvent, OpeningPhase, Phase, SavesPhase, SettlingPhase, TurnStart, after_finding_phase}
+use Rattle.engine_turns.specs.Phases.{AfterDisk, AndThen, DeadPhase, EndingOr, IfElse, IsOpeningRefusal, IsSaveOrFault, JustEnd, JustEvent, NoEvent, OpeningPhase, Phase, SavesPhase, SettlingPhase, TurnStart}
 use Rattle.engine_turns.specs.RunTurns.{IsAnswered, MayComeAfter, OperationRow, answer_before}
-use Rattle.engine_turns.specs.SealRows.{IsSettled, SealRow, has_listed_digest}
+use Rattle.engine_turns.specs.SealRows.{SealRow, has_listed_digest}
 use Rattle.engine_turns.specs.Standings.{AnswersOnly, IsHomeOf, OfClaim, RunStanding}
 use Rattle.engine_turns.specs.Told.{AllTurns, RunTurn, history_after, history_of}
 use Rattle.engine_turns.specs.declared.operations.Operation.{Operation}
@@ -28,8 +28,7 @@ use Rattle.engine_turns.specs.declared.operations.Said.TheVariants.{Idle, NoMemo
 use Rattle.engine_turns.specs.declared.outcome.Outcome.{Outcome}
 use Rattle.engine_turns.specs.declared.outcome.Outcome.TheVariants.{Over, Starved, Went}
 use Rattle.machine_core.specs.Clashes.{IsClash}
-use Rattle.machine_core.specs.OwnParts.{own_of, with_own}
-use Rattle.machine_core.specs.Replays.{is_same_gid}
+use Rattle.machine_core.specs.OwnParts.{own_of}
 use Rattle.machine_core.specs.RunLegal.{IsLegal, MayBeSettled, doors_left, is_listed, is_stop, known_lengths}
 use Rattle.machine_core.specs.Starts.{Download, RunStart}
 use Rattle.machine_core.specs.declared.calls.Call.{Call}
@@ -46,8 +45,8 @@ use Rattle.stored_run.specs.RunFollows.{RunFollows}
 use Rattle.verify_piece.specs.Seals.{PieceBytes}
 use Rattle.blameless_mirrors.proofs.Delivered.{lands_opened}
 use Rattle.blameless_mirrors.proofs.Findings.{come_of, split_at}
-use Rattle.blameless_mirrors.proofs.Parts.{AnsweredTo, at_start, standing}
-use Rattle.blameless_mirrors.proofs.Rows.{IsRowOf, answered_each, of_each}
+use Rattle.blameless_mirrors.proofs.Parts.{at_start, standing}
+use Rattle.blameless_mirrors.proofs.Rows.{IsRowOf, of_each}
 
 abbrev completes : Event → Bool
 completes (Ended gid end.Complete) = true
@@ -188,108 +187,100 @@ module _ (P : Gid → Type 0) where
   module _ (at : TurnStart) (s : RunStanding) (events : List Event) (said : Said)
       (settled : (gid : Gid) (piece : ℕ) (right : Bool) (giver : Giver) → Contains events (Settled gid piece right giver) → P gid)
       (opened : (gid : Gid) (verified blocks : List Bool) (now : Moment) → Contains events (Opened gid verified blocks now) → P gid)
-      where
-    row_seal : (gid : Gid) (sealed : PieceBytes) → SealRow at s gid sealed events said → Each Completes events
-    row_seal gid sealed (inl void) = row_only Void events said void
-    row_seal gid sealed (inr settles) =
-        let one = settles.1 in
-        let d = one.download in
-        let right = has_listed_digest d.subject sealed in
-        let Rest = AndThen (SettlingPhase at d sealed.piece right) (EndingOr at d NoEvent) in
-        by one.outcome one.is
-      where
-        by : (o : Outcome)
-            → AndThen (AfterDisk at settles.1.download.gid [])
-            (AndThen (SettlingPhase at settles.1.download sealed.piece (has_listed_digest settles.1.download.subject sealed))
-            (EndingOr at settles.1.download NoEvent)) s.past events o → Each Completes events
-        by o (inl broken) =
-            disk_in Completes at settles.1.download.gid [] tt (fault settles.1.download.gid) s.past events o broken.0
-        by o (inr on) =
-            let d = settles.1.download in
-            let right = has_listed_digest d.subject sealed in
-            let Rest = AndThen (SettlingPhase at d sealed.piece right) (EndingOr at d NoEvent) in
-            let found = settles_before at d sealed.piece right (EndingOr at d NoEvent) (history_after s.past on.front) on.rest o on.second in
-            let e = Settled d.gid sealed.piece right found.0 in
-            let holds = settled d.gid sealed.piece right found.0
-            (subst (λ (es : List Event). Contains es e) (sym on.cut) (Contains-append_right on.front on.rest e found.1)) in
-            let all = own_all d.gid holds in
-            then_in Completes (AfterDisk at d.gid []) Rest (read_in Completes at d.gid all)
-            (settled_in Completes at d all sealed.piece right) s.past events o (inr on)
+    where
+      of_seal : (d : Download) (sealed : PieceBytes) (right : Bool) (o : Outcome)
+          → AndThen (AfterDisk at d.gid []) (AndThen (SettlingPhase at d sealed.piece right) (EndingOr at d NoEvent)) s.past events o
+          → Each Completes events
+      of_seal d sealed right o (inl broken) = disk_in Completes at d.gid [] tt (fault d.gid) s.past events o broken.0
+      of_seal d sealed right o (inr on) =
+          let found = settles_before at d sealed.piece right (EndingOr at d NoEvent) (history_after s.past on.front) on.rest o
+          on.second in
+          let e = Settled d.gid sealed.piece right found.0 in
+          let all = own_all d.gid (settled d.gid sealed.piece right found.0
+          (subst (λ (es : List Event). Contains es e) (sym on.cut) (Contains-append_right on.front on.rest e found.1))) in
+          then_in Completes (AfterDisk at d.gid []) (AndThen (SettlingPhase at d sealed.piece right) (EndingOr at d NoEvent))
+          (read_in Completes at d.gid all) (settled_in Completes at d all sealed.piece right) s.past events o (inr on)
 
-    row_whole : (d : Download) (piece : ℕ) (listed : Bool) → whole_row at s d piece listed events said → Each Completes events
-    row_whole d piece true is = ⊎_elim
-        (λ grant. subst (Each Completes) (sym grant.is.0) tt)
-        (λ more. ⊎_elim
-        (λ (failed : IsFaulted at d.gid events said).
-        subst (Each Completes) (sym failed.0.2) (fault d.gid failed.0.0, tt))
-        (λ (starved : AnswersOnly NoMemory events said). row_only NoMemory events said starved) more) is
-    row_whole d piece false is =
-        let found = settles_before at d piece true (EndingOr at d NoEvent) s.past events is.0 is.1 in
-        settled_in Completes at d (own_all d.gid (settled d.gid piece true found.0 found.1)) piece true s.past events is.0 is.1
+      row_seal : (gid : Gid) (sealed : PieceBytes) → SealRow at s gid sealed events said → Each Completes events
+      row_seal gid sealed (inl void) = row_only Void events said void
+      row_seal gid sealed (inr settles) =
+          let one = settles.1 in
+          of_seal one.download sealed (has_listed_digest one.download.subject sealed) one.outcome one.is
 
-    row_offer : (worker : ℕ) (d : Download) (given : Offer) → OfferRow at s worker d given events said → Each Completes events
-    row_offer worker d (offer.Whole piece) is = row_whole d piece (is_listed d.subject) is
-    row_offer worker d (offer.Blocks mirror run victim) is =
-        subst (Each Completes) (sym is.claimed) (plain (Claimed d.gid _) refl, tt)
-    row_offer worker d (offer.Probe mirror) is = subst (Each Completes) (sym is.claimed) (plain (Claimed d.gid _) refl, tt)
+      row_whole : (d : Download) (piece : ℕ) (listed : Bool) → whole_row at s d piece listed events said → Each Completes events
+      row_whole d piece true is = ⊎_elim
+          (λ grant. subst (Each Completes) (sym grant.is.0) tt)
+          (λ more. ⊎_elim
+          (λ (failed : IsFaulted at d.gid events said).
+          subst (Each Completes) (sym failed.0.2) (fault d.gid failed.0.0, tt))
+          (λ (starved : AnswersOnly NoMemory events said). row_only NoMemory events said starved) more) is
+      row_whole d piece false is =
+          let found = settles_before at d piece true (EndingOr at d NoEvent) s.past events is.0 is.1 in
+          settled_in Completes at d (own_all d.gid (settled d.gid piece true found.0 found.1)) piece true s.past events is.0 is.1
 
-    clashed : (d : Download) (how : End) → IsClash at.start s.past d how → Completes (Ended d.gid how)
-    clashed d how clash gid is =
-        let same : how ≡ end.Complete = cc in
-        absurd (subst (IsClash at.start s.past d) same clash)
+      row_offer : (worker : ℕ) (d : Download) (given : Offer) → OfferRow at s worker d given events said → Each Completes events
+      row_offer worker d (offer.Whole piece) is = row_whole d piece (is_listed d.subject) is
+      row_offer worker d (offer.Blocks mirror run victim) is =
+          subst (Each Completes) (sym is.claimed) (plain (Claimed d.gid _) refl, tt)
+      row_offer worker d (offer.Probe mirror) is = subst (Each Completes) (sym is.claimed) (plain (Claimed d.gid _) refl, tt)
 
-    refused : (gid : Gid) (how : End) → IsOpeningRefusal at how → Completes (Ended gid how)
-    refused gid how refuses other is =
-        let same : how ≡ end.Complete = cc in
-        absurd (subst (IsOpeningRefusal at) same refuses)
+      clashed : (d : Download) (how : End) → IsClash at.start s.past d how → Completes (Ended d.gid how)
+      clashed d how clash gid is =
+          let same : how ≡ end.Complete = cc in
+          absurd (subst (IsClash at.start s.past d) same clash)
 
-    of_opening : (gid : Gid) → HoldsOfOwn Completes gid → AllowsOnly Completes (OpeningPhase at gid)
-    of_opening gid all past es Went is =
-        subst (Each Completes) (sym is.2) (plain (Opened gid is.0 is.1 at.now) refl, tt)
-    of_opening gid all past es Over is = subst (Each Completes) (sym is.2) (all.ended is.0, tt)
-    of_opening gid all past es Starved is = subst (Each Completes) (sym is) tt
+      refused : (gid : Gid) (how : End) → IsOpeningRefusal at how → Completes (Ended gid how)
+      refused gid how refuses other is =
+          let same : how ≡ end.Complete = cc in
+          absurd (subst (IsOpeningRefusal at) same refuses)
 
-    opening_broken : (d : Download) (o : Outcome) → OpeningPhase at d.gid s.past events o → (o ≡ Went → ⊥) → Each Completes events
-    opening_broken d Went is broken = absurd (broken refl)
-    opening_broken d Over is broken = subst (Each Completes) (sym is.2) (refused d.gid is.0 is.1, tt)
-    opening_broken d Starved is broken = subst (Each Completes) (sym is) tt
+      of_opening : (gid : Gid) → HoldsOfOwn Completes gid → AllowsOnly Completes (OpeningPhase at gid)
+      of_opening gid all past es Went is =
+          subst (Each Completes) (sym is.2) (plain (Opened gid is.0 is.1 at.now) refl, tt)
+      of_opening gid all past es Over is = subst (Each Completes) (sym is.2) (all.ended is.0, tt)
+      of_opening gid all past es Starved is = subst (Each Completes) (sym is) tt
 
-    opens : (d : Download) (o : Outcome) → AndThen (OpeningPhase at d.gid) (EndingOr at d NoEvent) s.past events o
-        → Each Completes events
-    opens d o (inl broken) = opening_broken d o broken.0 broken.1
-    opens d o (inr on) =
-        let e = Opened d.gid on.first.0 on.first.1 at.now in
-        let there : Contains on.front e = subst (λ (es : List Event). Contains es e) (sym on.first.2) (0, omega arith, refl) in
-        let holds = opened d.gid on.first.0 on.first.1 at.now
-        (subst (λ (es : List Event). Contains es e) (sym on.cut) (Contains-append_left on.front on.rest e there)) in
-        let all = own_all d.gid holds in
-        then_in Completes (OpeningPhase at d.gid) (EndingOr at d NoEvent) (of_opening d.gid all)
-        (ending_in Completes at d all NoEvent (none_in Completes)) s.past events o (inr on)
+      opening_broken : (d : Download) (o : Outcome) → OpeningPhase at d.gid s.past events o → (o ≡ Went → ⊥) → Each Completes events
+      opening_broken d Went is broken = absurd (broken refl)
+      opening_broken d Over is broken = subst (Each Completes) (sym is.2) (refused d.gid is.0 is.1, tt)
+      opening_broken d Starved is broken = subst (Each Completes) (sym is) tt
 
-    row_open : (d : Download) → OpenRow at s d events said → Each Completes events
-    row_open d (inl clash) = subst (Each Completes) (sym clash.2) (clashed d clash.0 clash.1, tt)
-    row_open d (inr is) = opens d is.1.0 is.1.1
+      opens : (d : Download) (o : Outcome) → AndThen (OpeningPhase at d.gid) (EndingOr at d NoEvent) s.past events o
+          → Each Completes events
+      opens d o (inl broken) = opening_broken d o broken.0 broken.1
+      opens d o (inr on) =
+          let e = Opened d.gid on.first.0 on.first.1 at.now in
+          let there : Contains on.front e = subst (λ (es : List Event). Contains es e) (sym on.first.2) (0, omega arith, refl) in
+          let holds = opened d.gid on.first.0 on.first.1 at.now
+          (subst (λ (es : List Event). Contains es e) (sym on.cut) (Contains-append_left on.front on.rest e there)) in
+          let all = own_all d.gid holds in
+          then_in Completes (OpeningPhase at d.gid) (EndingOr at d NoEvent) (of_opening d.gid all)
+          (ending_in Completes at d all NoEvent (none_in Completes)) s.past events o (inr on)
 
-    row_next : (worker : ℕ) → NextRow at s worker events said → Each Completes events
-    row_next worker is = ⊎_elim
-        (λ opening. row_open opening.download opening.row)
-        (λ rest. ⊎_elim
-        (λ given. row_offer worker given.download given.offer given.row)
-        (λ waits. ⊎_elim
-        (λ holding. subst (Each Completes) (sym holding.2.0) tt)
-        (λ idling. subst (Each Completes) (sym idling.1.0) tt) waits) rest.1) is
+      row_open : (d : Download) → OpenRow at s d events said → Each Completes events
+      row_open d (inl clash) = subst (Each Completes) (sym clash.2) (clashed d clash.0 clash.1, tt)
+      row_open d (inr is) = opens d is.1.0 is.1.1
 
-    row_deliver : (id : ℕ) (run : Run) (bytes : List ℕ)
-        → ((d : Download) (claim : Claim) → IsHomeOf at.start s.past id d claim
-        → IsDelivery (known_lengths at.start s.past d.gid) claim run bytes → P d.gid)
-        → OfClaim at s id (DeliverRow at s run bytes) events said → Each Completes events
-    row_deliver id run bytes delivers (inl none) = row_only Void events said none.1
-    row_deliver id run bytes delivers (inr home) = ⊎_elim
-        (λ (kept : IsDelivery (known_lengths at.start s.past home.0.gid) home.1 run bytes
-        × IsKept at s home.0 home.1 run events said).
-        delivery_in Completes at home.0 (own_all home.0.gid (delivers home.0 home.1 home.2 kept.0)) s.past home.1 kept.1.runs
-        s.past events kept.1.outcome kept.1.is)
-        (λ void. row_only Void events said void.1) home.3
+      row_next : (worker : ℕ) → NextRow at s worker events said → Each Completes events
+      row_next worker is = ⊎_elim
+          (λ opening. row_open opening.download opening.row)
+          (λ rest. ⊎_elim
+          (λ given. row_offer worker given.download given.offer given.row)
+          (λ waits. ⊎_elim
+          (λ holding. subst (Each Completes) (sym holding.2.0) tt)
+          (λ idling. subst (Each Completes) (sym idling.1.0) tt) waits) rest.1) is
+
+      row_deliver : (id : ℕ) (run : Run) (bytes : List ℕ)
+          → ((d : Download) (claim : Claim) → IsHomeOf at.start s.past id d claim
+          → IsDelivery (known_lengths at.start s.past d.gid) claim run bytes → P d.gid)
+          → OfClaim at s id (DeliverRow at s run bytes) events said → Each Completes events
+      row_deliver id run bytes delivers (inl none) = row_only Void events said none.1
+      row_deliver id run bytes delivers (inr home) = ⊎_elim
+          (λ (kept : IsDelivery (known_lengths at.start s.past home.0.gid) home.1 run bytes
+          × IsKept at s home.0 home.1 run events said).
+          delivery_in Completes at home.0 (own_all home.0.gid (delivers home.0 home.1 home.2 kept.0)) s.past home.1 kept.1.runs
+          s.past events kept.1.outcome kept.1.is)
+          (λ void. row_only Void events said void.1) home.3
 
 -- ---- a turn
 

@@ -1,5 +1,5 @@
 -- What of a history stands in a download's part of it: its opening and its claims.
-use Rattle.std.proofs.Common.{◌≡◌, ◌⊎◌, ⊎_elim, inl, inr, ℕ, suc, Bool, true, false, cond, List, [], ◌∷◌, refl, sym, ap, ◌∙◌, subst, arith}
+use Rattle.std.proofs.Common.{◌≡◌, ◌⊎◌, ⊎_elim, inl, inr, ℕ, Bool, true, false, cond, List, [], ◌∷◌, refl, ap, subst, arith}
 use Rattle.std.specs.Prelude.{◌&&◌, ◌==◌, Contains, slice_index_or}
 use Rattle.blameless_mirrors.proofs.Marks.{behind, first_or}
 use Rattle.dl_history.specs.OwnEvents.{Checks, Clears, Grants, Halts, Lands, Loses, Opens, OwnEvent, Saves, Settles, Sizes}
@@ -85,7 +85,6 @@ was_halted true y own other there = ⊎_elim
     (λ (here : Halts false ≡ y). absurd (other here))
     (λ (was : Contains own y). was) (first_or (Halts false) y own there)
 was_halted false y own other there = there
-
 
 pub opens_there : (start : RunStart) (gid : Gid) (verified' blocks' : List Bool) (now' : Moment) (past : List Event)
     → Contains (own_of start past gid) (Opens verified' blocks' now') → Contains past (Opened gid verified' blocks' now')

@@ -1,10 +1,10 @@
 -- The file of the only download of a run, where it has no metainfo file, all its mirrors bring a payload's own bytes, and it is complete.
-use Rattle.std.proofs.Common.{◌≡◌, ◌⊎◌, ⊎_elim, inl, inr, ℕ, ◌+◌, ◌-◌, ◌*◌, ◌/◌, ◌%◌, ◌<◌, ◌≤◌, Bool, true, false, Option, Some, None, List, [], ◌∷◌, ◌++◌, length, get_or, slice_get, refl, sym, ap, ◌∙◌, subst, arith}
-use Rattle.std.specs.Prelude.{◌&&◌, Contains, IsSome, IsSomeAnd, map, slice_index_or}
-use Rattle.std.specs.List.{concat, range_with_len}
+use Rattle.std.proofs.Common.{◌≡◌, ⊎_elim, ℕ, ◌+◌, ◌*◌, ◌/◌, ◌%◌, ◌<◌, ◌≤◌, Bool, true, false, Option, Some, None, List, [], ◌∷◌, ◌++◌, length, get_or, slice_get, refl, sym, ap, ◌∙◌, subst, arith}
+use Rattle.std.specs.Prelude.{◌&&◌, Contains, IsSome, IsSomeAnd, slice_index_or}
+use Rattle.std.specs.List.{concat}
 use Rattle.std.specs.Option.{is_some, unwrap_or}
-use Rattle.std.proofs.Math.Nat.{mul-le-mul_right}
-use Rattle.std.proofs.lemmas.Bool.Decides.{nat_tests}
+use Rattle.std.proofs.Math.Nat.{mod-lt, mul-le-mul_right}
+use Rattle.std.proofs.lemmas.Bool.{cases_lt}
 use Rattle.std.proofs.lemmas.Grind.{div_ceil_times}
 use Rattle.std.proofs.lemmas.List.{append-nil, same_lists}
 use Rattle.std.proofs.lemmas.List.FromFn.{get_or-map-range_with_len}
@@ -17,7 +17,7 @@ use Rattle.dl_history.proofs.Bools.{or_right, true_not_false}
 use Rattle.dl_history.specs.OwnEvents.{OwnEvent}
 use Rattle.dl_history.specs.OwnLegal.{LegalOwn}
 use Rattle.dl_history.specs.PayloadParts.{is_alive, is_ended, is_landed_in, is_opened, is_verified_in, source_in, verifies}
-use Rattle.dl_kinds.specs.Plan.{IsPlan, blocks_of, piece_end, piece_of, piece_start, pieces_of}
+use Rattle.dl_kinds.specs.Plan.{IsPlan, piece_end, piece_of, piece_start, pieces_of}
 use Rattle.dl_kinds.specs.PlanLaws.{BlocksFollow, PlacesAreNumbered}
 use Rattle.dl_kinds.specs.declared.gid.Gid.{Gid}
 use Rattle.dl_kinds.specs.declared.runs.Moment.{Moment}
@@ -38,9 +38,9 @@ use Rattle.machine_core.specs.declared.events.Event.TheVariants.{Ended, Opened}
 use Rattle.option_set.specs.Values.{text_of_word}
 use Rattle.option_set.specs.declared.kinds.Word.TheVariants.{SelectFile}
 use Rattle.payload_files.specs.Names.{name_of}
-use Rattle.payload_files.specs.Payload.{HasFiles}
+use Rattle.payload_files.specs.Payload.{HasFiles, payload_in}
 use Rattle.piece_table.specs.Changes.{Absent, From, Source, Unknown, is_present}
-use Rattle.resume_core.specs.Found.{Absent as NoControl, Found, found, found_in}
+use Rattle.resume_core.specs.Found.{Absent as NoControl, Found, found}
 use Rattle.resume_core.specs.Openings.{OpensBlock, is_compared}
 use Rattle.resume_core.specs.Resume.{BlockResumed}
 use Rattle.resume_core.specs.Wants.{control_name, files_in, payload_name}
@@ -49,14 +49,16 @@ use Rattle.std.proofs.lemmas.List.Elements.{All-head}
 use Rattle.stored_run.proofs.Doing.{history_on, own_grows_on}
 use Rattle.stored_run.proofs.Left.{ended_in, one_of}
 use Rattle.stored_run.proofs.PlainEvents.{gid_added}
+use Rattle.stored_run.specs.Opening.{is_checked_in}
 use Rattle.stored_run.specs.RunFollows.{RunFollows}
 use Rattle.stored_run.specs.Settlings.{payload_of}
 use Rattle.blameless_mirrors.specs.Blameless.{HasBlockOf}
-use Rattle.blameless_mirrors.specs.Lone.{LacksControlFirst, first_time}
-use Rattle.blameless_mirrors.specs.LoneUris.{HasFile, IsLoneUnlisted, IsUnlistedServed, UnlistedCompleteAreWhole}
+use Rattle.blameless_mirrors.specs.Lone.{first_time}
+use Rattle.blameless_mirrors.specs.LoneUris.{HasFile, IsUnlistedServed, UnlistedCompleteAreWhole}
 use Rattle.blameless_mirrors.proofs.Completions.{complete_opened}
 use Rattle.blameless_mirrors.proofs.Findings.{come_of, split_at}
-use Rattle.blameless_mirrors.proofs.OwnThere.{FindsBlock, OpensIt, grant_there, granted_there, opening_event, opens_there, unknown_found}
+use Rattle.blameless_mirrors.proofs.Marks.{behind}
+use Rattle.blameless_mirrors.proofs.OwnThere.{OpensIt, grant_there, granted_there, opening_event, opens_there, unknown_found}
 use Rattle.blameless_mirrors.proofs.PayloadBytes.{block_at}
 use Rattle.blameless_mirrors.proofs.Refusals.{Fresh, first_same, fresh_before, so_before}
 use Rattle.blameless_mirrors.proofs.UriBlocks.{unlisted_read, wants_one}
@@ -109,7 +111,7 @@ piece_at total len at some inside =
     let p : ℕ = at / len in
     let r : ℕ = at % len in
     let cut : p * len + r ≡ at = div-add-mod' at len in
-    let rest : r < len = Rattle.std.proofs.Math.Nat.mod-lt at some in
+    let rest : r < len = mod-lt at some in
     let top : total ≤ pieces_of total len * len = (div_ceil_times total len some).0 in
     let next : (p + 1) * len ≡ p * len + len = omega arith in
     let known : p < pieces_of total len = ⊎_elim
@@ -117,7 +119,7 @@ piece_at total len at some inside =
     (λ (past : pieces_of total len ≤ p).
     let many : pieces_of total len * len ≤ p * len = mul-le-mul_right len past in
     absurd (omega (arith, cut, top, many, inside)))
-    (Rattle.std.proofs.lemmas.Bool.cases_lt p (pieces_of total len)) in
+    (cases_lt p (pieces_of total len)) in
     (p, known, omega (arith, cut), omega (arith, cut, rest, next, inside))
 
 -- lists of the same bytes
@@ -235,7 +237,7 @@ module _ (laws : RunFollows) (plans : OpenedHavePlans) (start : RunStart) (gid :
         more.0,
         more.1,
         more.2,
-        Rattle.blameless_mirrors.proofs.Marks.behind e (Opened gid more.0 more.1 more.2) past more.3,
+        behind e (Opened gid more.0 more.1 more.2) past more.3,
       ))
       (opening_event start past gid e opened)
 
@@ -288,7 +290,7 @@ module _ (laws : RunFollows) (plans : OpenedHavePlans) (start : RunStart) (gid :
         let its = f.same so.has.download (download_on laws start past t.events gid so.has.download so.has.added) in
         let hash : want.info_hash ≡ None =
         so.has.is.info_hash ∙ ap info_hash_by (ap (λ (x : Download). x.subject) its ∙ subject) in
-        nothing_opened want (disk.seen_at t.before.time) (Rattle.stored_run.specs.Opening.is_checked_in start past gid) b hash none
+        nothing_opened want (disk.seen_at t.before.time) (is_checked_in start past gid) b hash none
         ((so.just.blocks b).0 (read_there blocks b has))
 
     lacks_before : (t : RunTurn) (before : List RunTurn) → Fine (t ∷ before) → first_time (t ∷ before) ≡ first_time before
@@ -420,14 +422,13 @@ module _ (laws : RunFollows) (plans : OpenedHavePlans) (follow : BlocksFollow) (
 
   file : files (payload_name want) ≡ Some payload
   file =
-      let only : List FileLen = record { path = want.base ∷ []; len = has.lengths.total } ∷ [] in
       let Is = λ (x : FileLen). IsSomeAnd (files (name_of want.dir x.path)) (λ bytes. length bytes ≡ x.len) in
       let at_len = All-head Is (record { path = want.base ∷ []; len = has.lengths.total }) []
       (subst (λ (fs : List FileLen). HasFiles want.dir fs files) layout whole) in
       file_is (files (payload_name want)) payload
       (subst (λ (n : ℕ). IsSomeAnd (files (payload_name want)) (λ bytes. length bytes ≡ n)) (is.lengths has.lengths has.known) at_len)
       (λ at inside.
-      ap (λ (fs : List FileLen). slice_get (Rattle.payload_files.specs.Payload.payload_in want.dir fs files) at) (sym layout)
+      ap (λ (fs : List FileLen). slice_get (payload_in want.dir fs files) at) (sym layout)
       ∙ byte_read at inside)
 
   pub has_file : HasFile start past gid files payload

@@ -52,7 +52,7 @@ use Rattle.option_set.specs.declared.kinds.Word.TheVariants.{Checksum, Dir, Out}
 use Rattle.payload_files.specs.Names.{name_of, root_of}
 use Rattle.resume_core.specs.Lens.{first_len, lens_of}
 use Rattle.resume_core.specs.Refusals.{in_the_way, open_refusal, refused_over}
-use Rattle.resume_core.specs.Wants.{control_name, files_in, payload_name}
+use Rattle.resume_core.specs.Wants.{control_name, files_in}
 use Rattle.resume_core.specs.declared.refusing.OpenErr.TheVariants.{Exists}
 use Rattle.run_frame.proofs.Ran as ran_facts
 use Rattle.run_frame.specs.Finishes.{Ran}
@@ -284,7 +284,7 @@ module _ {D O L K : Type 0} {says : DiskSays D} {sinks : SinkSays O} {links : Li
           (subst (λ (ts : List RunTurn). IsUnlistedServed start ts (says.state ended.disk) gid uris resource) some.2 served)
           (subst (λ (ts : List RunTurn). Contains (history_of ts) (EventEnded gid Complete)) some.2 there)))
 
-      done_with : IsDone ended → IsDoneWith says links sinks words disk olds out ended news out' line uris resource
+      done_with : IsDone ended → IsDoneWith says ended line uris resource
       done_with is_done =
           let g : is_done.1 ≡ gid = (ends.0 is_done.1 Complete is_done.2).0 in
           let there : Contains past (EventEnded is_done.1 Complete) =
@@ -300,7 +300,7 @@ module _ {D O L K : Type 0} {says : DiskSays D} {sinks : SinkSays O} {links : Li
           }
 
     abbrev Comes : CommandLine → Type 0
-    Comes l = IsDoneWith says links sinks words disk olds out ended news out' l uris resource
+    Comes l = IsDoneWith says ended l uris resource
         ⊎ (ended.ending ≡ NoMemory) ⊎ WasCutShort D links olds news
 
     completes_here : 1 ≤ length olds → Comes named

@@ -53,18 +53,22 @@ module _ {D L K O : Type 0} (says : DiskSays D) (links : LinkSays L) (sinks : Si
     pub fresh : LacksFiles (says.state disk).seen line
     pub well : HadNoFaults says links sinks words disk olds out ended news out'
 
-  -- ---- what comes
+-- ---- what comes
 
-  -- The run is done and its download complete; and as the disk reads in the end, the file of the name that the line says, or else
-  -- the first URI, has just the resource's bytes.
-  pub record IsDoneWith (line : CommandLine) (uris : List (List ℕ)) (resource : List ℕ) : Type 0 where
-    pub done : IsDone ended
-    pub base : List ℕ
-    pub named : IsUnlistedName (text_of_word (own_options line) Out) uris base
-    pub file : (says.state ended.disk).seen (name_in_folder line base) ≡ Some resource
+-- The run is done and its download complete; and as the disk reads in the end, the file of the name that the line says, or else
+-- the first URI, has just the resource's bytes.
+pub record IsDoneWith {D : Type 0} (says : DiskSays D) (ended : Ended D) (line : CommandLine) (uris : List (List ℕ))
+    (resource : List ℕ) : Type 0 where
+  pub done : IsDone ended
+  pub base : List ℕ
+  pub named : IsUnlistedName (text_of_word (own_options line) Out) uris base
+  pub file : (says.state ended.disk).seen (name_in_folder line base) ≡ Some resource
 
-  -- so it is, unless it was cut short
+module _ {D L K O : Type 0} (says : DiskSays D) (links : LinkSays L) (sinks : SinkSays O) (words : List (List ℕ)) (disk : D)
+    (olds : List (L × K)) (out : O) (ended : Ended D) (news : List (L × K)) (out' : O) where
+  -- the run is done with the resource, unless memory was wanting or a worker was cut short
   abbrev pub CompletesUris : Type 0
   CompletesUris =
-      (line : CommandLine) (uris : List (List ℕ)) (resource : List ℕ) → IsServedAlike line uris resource
-      → IsDoneWith line uris resource ⊎ (ended.ending ≡ NoMemory) ⊎ WasCutShort D links olds news
+      (line : CommandLine) (uris : List (List ℕ)) (resource : List ℕ)
+      → IsServedAlike says links sinks words disk olds out ended news out' line uris resource
+      → IsDoneWith says ended line uris resource ⊎ (ended.ending ≡ NoMemory) ⊎ WasCutShort D links olds news

@@ -3,8 +3,8 @@ ghost use Rattle.brought_runs.specs.OverLaws.{RunsCompleteServed, RunsCompleteUr
 
 use crate::laws::{brought_runs_end_well, finished_runs_are_done};
 use blameless_mirrors::{
-    faithful_mirrors_are_blameless, lone_downloads_end_well,
-    unlisted_complete_downloads_are_whole, unlisted_downloads_only_complete,
+    faithful_mirrors_are_blameless, lone_downloads_end_well, unlisted_complete_downloads_are_whole,
+    unlisted_downloads_only_complete,
 };
 use command_line::lines_are_one;
 use dl_disk::Disk;

@@ -66,7 +66,8 @@ pub fn run_alone<D: Disk, L: Links, K: Clock, A, O: Sink>(
     ensures completes { IsTrue D.tells → IsTrue L.tells → CompletesServed D.Disk L.Links O.Sink
         (map string_bytes words.now) disk (take 1 links.items) out.old (ended_of result)
         (take 1 result.links.items) out.new }
-    // So it does without a metainfo file, where all mirrors lead alike to one resource and no file stands in its folder.
+    // So it does without a metainfo file, where all mirrors lead alike to one resource and no file stands in its folder; and
+    // then its file has just the resource's bytes.
     ensures completes_uris { IsTrue D.tells → IsTrue L.tells → CompletesUris D.Disk L.Links O.Sink
         (map string_bytes words.now) disk (take 1 links.items) out.old (ended_of result)
         (take 1 result.links.items) out.new }
