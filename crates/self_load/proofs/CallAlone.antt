@@ -1,5 +1,5 @@
--- A run over links has one call where its line adds a download of a metainfo file and asks for no console. By its history that
--- download is complete just where the run is done.
+-- A run over links has one call where its line adds a download of a metainfo file and asks for no console. By its
+-- history that download is complete just where the run is done.
 use Rattle.std.proofs.Common.{◌≡◌, ⊎_elim, ℕ, Bool, true, false, List, [], ◌∷◌, ◌++◌, Option, Some, refl, sym, ap, ◌∙◌, subst}
 use Rattle.std.specs.Prelude.{◌||◌, ◌==◌, Contains, reverse}
 use Rattle.std.proofs.lemmas.Bool.{false≢true}
@@ -55,10 +55,11 @@ first_false : (a b : Bool) → (a || b) ≡ false → a ≡ false
 first_false false b is = refl
 first_false true b is = absurd (false≢true (sym is))
 
--- The run has one download, of this metainfo file; it is complete just where the run is done, if it ends as its history tells.
+-- The run has one download, of this metainfo file; it is complete just where the run is done, if it ends as its history
+-- tells.
 pub record RanOneListed {D O : Type 0} {says : DiskSays D} {sinks : SinkSays O} {words : List (List ℕ)} {gids doors : ℕ}
-    {disk : D} {out : O} {ended : Ended D} {out' : O} (ran : Ran says sinks words gids doors disk out ended out') (meta : Meta)
-    (uris : List (List ℕ)) : Type 0 where
+    {disk : D} {out : O} {ended : Ended D} {out' : O} (ran : Ran says sinks words gids doors disk out ended out')
+    (meta : Meta) (uris : List (List ℕ)) : Type 0 where
   pub download : Download
   pub added : download_in (ran_facts.start ran) (history_of (ran_facts.told ran)) download.gid ≡ Some download
   pub subject_is : download.subject ≡ Listed meta uris

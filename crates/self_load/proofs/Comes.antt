@@ -61,8 +61,8 @@ pub record IsLoadGiven {D L K : Type 0} (says : DiskSays D) (links : LinkSays L)
   pub content : (place : ℕ) (old : L × K) → slice_get olds place ≡ Some old
       → (links.state old.0).content ≡ load_content n place
 
-pub comes_well : {D L K O : Type 0} {says : DiskSays D} {links : LinkSays L} {sinks : SinkSays O} {words : List (List ℕ)}
-    {disk : D} {olds : List (L × K)} {out : O} {ended : Ended D} {news : List (L × K)} {out' : O} (n : ℕ)
+pub comes_well : {D L K O : Type 0} {says : DiskSays D} {links : LinkSays L} {sinks : SinkSays O}
+    {words : List (List ℕ)} {disk : D} {olds : List (L × K)} {out : O} {ended : Ended D} {news : List (L × K)} {out' : O} (n : ℕ)
     → CompletesServed says links sinks words disk olds out ended news out' → IsLoadGiven says links words disk olds n
     → HadNoFaults says links sinks words disk olds out ended news out'
     → IsDone ended ⊎ (ended.ending ≡ NoMemory) ⊎ WasCutShort D links olds news

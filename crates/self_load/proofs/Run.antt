@@ -310,7 +310,7 @@ pub record EndsSo {D O : Type 0} (says : DiskSays D) (sinks : SinkSays O) (n : �
       → is_right_piece (digests_of n) (payload_read (says.state ended.disk).seen) piece ≡ true
 
 pub ends_so : {D O L K : Type 0} {says : DiskSays D} {sinks : SinkSays O} {links : LinkSays L} {words : List (List ℕ)}
-    {gids doors : ℕ} {disk : D} {olds : List (L × K)} {out : O} {ended : Ended D} {news : List (L × K)} {out' : O} (n : ℕ)
-    → IsRunOver says sinks links words gids doors disk olds out ended news out' → IsLoadsRun says words disk n
+    {gids doors : ℕ} {disk : D} {olds : List (L × K)} {out : O} {ended : Ended D} {news : List (L × K)} {out' : O}
+    (n : ℕ) → IsRunOver says sinks links words gids doors disk olds out ended news out' → IsLoadsRun says words disk n
     → EndsSo says sinks n out ended out'
 ends_so n runs is = record { complete = complete n is runs; done = done n is runs; right = all_right n is runs }

@@ -47,9 +47,11 @@ HasComplete left = (gid : Gid) × Contains left.journal.events.items (Ended gid 
 
 -- each piece of the payload has its digest
 abbrev pub IsWholePayload : List (List ℕ) → List ℕ → Type 0
-IsWholePayload digests payload = (piece : ℕ) → piece < PIECES → is_right_piece digests payload piece ≡ true
+IsWholePayload digests payload =
+    (piece : ℕ) → piece < PIECES → is_right_piece digests payload piece ≡ true
 
--- Its run is done just where its journal has its Complete, unless memory was wanting; and then the payload is whole.
+-- Its run is done just where its journal has its Complete, unless memory was wanting; and then the
+-- payload is whole.
 pub record EndsAsLoad (n : ℕ) (left : Left) : Type 0 where
   pub complete : left.ending ≡ Done → HasComplete left
   pub done : HasComplete left → (left.ending ≡ Done) ⊎ (left.ending ≡ NoMemory)
@@ -57,8 +59,9 @@ pub record EndsAsLoad (n : ℕ) (left : Left) : Type 0 where
 
 module _ (disks : DiskSays MemDisk) (links : LinkSays MemLinks) (doors : DoorSays MemDoors)
     (sinks : SinkSays UnseenSink) where
-  -- What is left of the run of the load's words over its disk and its links, without doors. Where no call of the disk or of
-  -- a link failed it is done, unless memory was wanting, or a worker was cut short.
+  -- What is left of the run of the load's words over its disk and its links, without doors. Where no
+  -- call of the disk or of a link failed it is done, unless memory was wanting, or a worker was cut
+  -- short.
   pub record IsInnerRun (n : ℕ) (left : Left) : Type 0 where
     pub words : List (List ℕ)
     pub words_are : words ≡ run_words
@@ -70,7 +73,9 @@ module _ (disks : DiskSays MemDisk) (links : LinkSays MemLinks) (doors : DoorSay
     pub none_are : none ≡ []
     pub sink : UnseenSink
     pub shown : UnseenSink
-    pub does : RunsTogether disks links doors sinks words GIDS disk (edges olds none) sink (ended_run left)
-        (edges_left left) left.transcripts.items shown
-    pub served : HadNoFaults disks links sinks words disk olds sink (ended_run left) left.links.items shown
-        → (left.ending ≡ Done) ⊎ (left.ending ≡ NoMemory) ⊎ WasCutShort MemDisk links olds left.links.items
+    pub does : RunsTogether disks links doors sinks words GIDS disk (edges olds none) sink
+        (ended_run left) (edges_left left) left.transcripts.items shown
+    pub served :
+        HadNoFaults disks links sinks words disk olds sink (ended_run left) left.links.items shown
+        → (left.ending ≡ Done) ⊎ (left.ending ≡ NoMemory)
+        ⊎ WasCutShort MemDisk links olds left.links.items

@@ -31,13 +31,14 @@ line_by n (Failed how) = failed_line n (code_of_ending how)
 
 -- of the pieces of this payload so many are right, and this is its digest
 abbrev pub IsCountOf : List (List ℕ) → List ℕ → Outcome → Type 0
-IsCountOf digests payload (Counted right digest) = (right ≡ right_pieces digests payload) × (digest ≡ sha1 payload)
+IsCountOf digests payload (Counted right digest) =
+    (right ≡ right_pieces digests payload) × (digest ≡ sha1 payload)
 IsCountOf digests payload (Failed how) = ⊥
 
 module _ (disks : DiskSays MemDisk) (links : LinkSays MemLinks) (doors : DoorSays MemDoors)
     (sinks : SinkSays UnseenSink) where
-  -- Its run was done, and its journal has its Complete. All pieces on its disk are right, and this is the digest of the
-  -- payload there.
+  -- Its run was done, and its journal has its Complete. All pieces on its disk are right, and this is
+  -- the digest of the payload there.
   pub record IsCounted (n right : ℕ) (digest : List ℕ) : Type 0 where
     pub left : Left
     pub inner : IsInnerRun disks links doors sinks n left
@@ -60,7 +61,8 @@ module _ (disks : DiskSays MemDisk) (links : LinkSays MemLinks) (doors : DoorSay
   ComesOf n (Counted right digest) = IsCounted n right digest
   ComesOf n (Failed how) = (how ≡ ending.NoMemory) ⊎ IsFailed n how
 
-  -- Its run was done, and its journal has its Complete. On its disk each piece has its digest, so that all are counted.
+  -- Its run was done, and its journal has its Complete. On its disk each piece has its digest, so
+  -- that all are counted.
   pub record IsRightLoad (n : ℕ) : Type 0 where
     pub left : Left
     pub inner : IsInnerRun disks links doors sinks n left
