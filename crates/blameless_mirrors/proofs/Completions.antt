@@ -185,12 +185,14 @@ module _ (P : Gid → Type 0) where
 
   -- the events of a turn tell of it
   module _ (at : TurnStart) (s : RunStanding) (events : List Event) (said : Said)
-      (settled : (gid : Gid) (piece : ℕ) (right : Bool) (giver : Giver) → Contains events (Settled gid piece right giver) → P gid)
-      (opened : (gid : Gid) (verified blocks : List Bool) (now : Moment) → Contains events (Opened gid verified blocks now) → P gid)
+      (settled : (gid : Gid) (piece : ℕ) (right : Bool) (giver : Giver)
+      → Contains events (Settled gid piece right giver) → P gid)
+      (opened : (gid : Gid) (verified blocks : List Bool) (now : Moment)
+      → Contains events (Opened gid verified blocks now) → P gid)
     where
       of_seal : (d : Download) (sealed : PieceBytes) (right : Bool) (o : Outcome)
-          → AndThen (AfterDisk at d.gid []) (AndThen (SettlingPhase at d sealed.piece right) (EndingOr at d NoEvent)) s.past events o
-          → Each Completes events
+          → AndThen (AfterDisk at d.gid []) (AndThen (SettlingPhase at d sealed.piece right) (EndingOr at d NoEvent)) s.past
+          events o → Each Completes events
       of_seal d sealed right o (inl broken) = disk_in Completes at d.gid [] tt (fault d.gid) s.past events o broken.0
       of_seal d sealed right o (inr on) =
           let found = settles_before at d sealed.piece right (EndingOr at d NoEvent) (history_after s.past on.front) on.rest o
@@ -207,7 +209,8 @@ module _ (P : Gid → Type 0) where
           let one = settles.1 in
           of_seal one.download sealed (has_listed_digest one.download.subject sealed) one.outcome one.is
 
-      row_whole : (d : Download) (piece : ℕ) (listed : Bool) → whole_row at s d piece listed events said → Each Completes events
+      row_whole : (d : Download) (piece : ℕ) (listed : Bool) → whole_row at s d piece listed events said
+          → Each Completes events
       row_whole d piece true is = ⊎_elim
           (λ grant. subst (Each Completes) (sym grant.is.0) tt)
           (λ more. ⊎_elim
@@ -218,7 +221,8 @@ module _ (P : Gid → Type 0) where
           let found = settles_before at d piece true (EndingOr at d NoEvent) s.past events is.0 is.1 in
           settled_in Completes at d (own_all d.gid (settled d.gid piece true found.0 found.1)) piece true s.past events is.0 is.1
 
-      row_offer : (worker : ℕ) (d : Download) (given : Offer) → OfferRow at s worker d given events said → Each Completes events
+      row_offer : (worker : ℕ) (d : Download) (given : Offer) → OfferRow at s worker d given events said
+          → Each Completes events
       row_offer worker d (offer.Whole piece) is = row_whole d piece (is_listed d.subject) is
       row_offer worker d (offer.Blocks mirror run victim) is =
           subst (Each Completes) (sym is.claimed) (plain (Claimed d.gid _) refl, tt)
@@ -240,7 +244,8 @@ module _ (P : Gid → Type 0) where
       of_opening gid all past es Over is = subst (Each Completes) (sym is.2) (all.ended is.0, tt)
       of_opening gid all past es Starved is = subst (Each Completes) (sym is) tt
 
-      opening_broken : (d : Download) (o : Outcome) → OpeningPhase at d.gid s.past events o → (o ≡ Went → ⊥) → Each Completes events
+      opening_broken : (d : Download) (o : Outcome) → OpeningPhase at d.gid s.past events o → (o ≡ Went → ⊥)
+          → Each Completes events
       opening_broken d Went is broken = absurd (broken refl)
       opening_broken d Over is broken = subst (Each Completes) (sym is.2) (refused d.gid is.0 is.1, tt)
       opening_broken d Starved is broken = subst (Each Completes) (sym is) tt
@@ -278,8 +283,8 @@ module _ (P : Gid → Type 0) where
       row_deliver id run bytes delivers (inr home) = ⊎_elim
           (λ (kept : IsDelivery (known_lengths at.start s.past home.0.gid) home.1 run bytes
           × IsKept at s home.0 home.1 run events said).
-          delivery_in Completes at home.0 (own_all home.0.gid (delivers home.0 home.1 home.2 kept.0)) s.past home.1 kept.1.runs
-          s.past events kept.1.outcome kept.1.is)
+          delivery_in Completes at home.0 (own_all home.0.gid (delivers home.0 home.1 home.2 kept.0)) s.past home.1
+          kept.1.runs s.past events kept.1.outcome kept.1.is)
           (λ void. row_only Void events said void.1) home.3
 
 -- ---- a turn
@@ -323,42 +328,49 @@ module _ (laws : RunFollows) (start : RunStart) (before : List RunTurn) (t : Run
 
   delivery_opened : (id : ℕ) (run : Run) (bytes : List ℕ) (d : Download) (claim : Claim) → IsHomeOf start past id d claim
       → IsDelivery (known_lengths start past d.gid) claim run bytes → IsOpened d.gid
-  delivery_opened id run bytes d claim home delivery = opened_on start past t.events d.gid (by (is_opened (own_of start past d.gid)) refl)
+  delivery_opened id run bytes d claim home delivery =
+      opened_on start past t.events d.gid (by (is_opened (own_of start past d.gid)) refl)
     where
       by : (b : Bool) → is_opened (own_of start past d.gid) ≡ b → is_opened (own_of start past d.gid) ≡ true
       by true is = is
       by false un =
           let some = delivery.some in
           let last = delivery.last in
-          lands_opened (known_lengths start past d.gid).total (known_lengths start past d.gid).piece_len (own_of start past d.gid)
-          laws.sound.unopened (laws.legal start past d.gid (legal_front start past t.events legal)) un claim home.stands
+          lands_opened (known_lengths start past d.gid).total (known_lengths start past d.gid).piece_len
+          (own_of start past d.gid) laws.sound.unopened (laws.legal start past d.gid (legal_front start past t.events legal)) un claim home.stands
           (omega (arith, some, last))
 
   abbrev C : Event → Type 0
   C = Completes IsOpened
 
-  by_row : (op : Operation) → OperationRow (at_start start before t) (standing start before t) op t.events t.answer.said
+  abbrev at : TurnStart
+  at = at_start start before t
+
+  abbrev s : RunStanding
+  s = standing start before t
+
+  by_row : (op : Operation) → OperationRow at s op t.events t.answer.said
       → Each C t.events
   by_row (operation.Next worker now) is =
-      row_next IsOpened (at_start start before t) (standing start before t) t.events t.answer.said settled_opened opening_opened worker is
+      row_next IsOpened at s t.events t.answer.said settled_opened opening_opened worker is
   by_row (operation.Seal gid sealed now) is =
-      row_seal IsOpened (at_start start before t) (standing start before t) t.events t.answer.said settled_opened opening_opened gid sealed is
+      row_seal IsOpened at s t.events t.answer.said settled_opened opening_opened gid sealed is
   by_row (operation.Deliver claim run bytes now) is =
-      row_deliver IsOpened (at_start start before t) (standing start before t) t.events t.answer.said settled_opened opening_opened
+      row_deliver IsOpened at s t.events t.answer.said settled_opened opening_opened
       claim run bytes (delivery_opened claim run bytes) is
   by_row (operation.Call session call now) is =
-      row_call IsOpened (at_start start before t) (standing start before t) session call t.events t.answer.said is
+      row_call IsOpened at s session call t.events t.answer.said is
   by_row (operation.More claim want now) is =
-      row_more IsOpened (at_start start before t) (standing start before t) claim want t.events t.answer.said is
+      row_more IsOpened at s claim want t.events t.answer.said is
   by_row (operation.Lose claim mark now) is =
-      row_lose IsOpened (at_start start before t) (standing start before t) claim mark t.events t.answer.said is
+      row_lose IsOpened at s claim mark t.events t.answer.said is
   by_row (operation.Sized claim total now) is =
-      row_sized IsOpened (at_start start before t) (standing start before t) claim total t.events t.answer.said is
+      row_sized IsOpened at s claim total t.events t.answer.said is
   by_row operation.Pulse is = row_only IsOpened Idle t.events t.answer.said is
-  by_row operation.Leave is = row_leave IsOpened (at_start start before t) (standing start before t) t.events t.answer.said is
-  by_row (operation.Stop now) is = row_stop IsOpened (at_start start before t) (standing start before t) t.events t.answer.said is
+  by_row operation.Leave is = row_leave IsOpened at s t.events t.answer.said is
+  by_row (operation.Stop now) is = row_stop IsOpened at s t.events t.answer.said is
 
-  by_answer : (o : Option Said) → IsAnswered (at_start start before t) (standing start before t) t.op
+  by_answer : (o : Option Said) → IsAnswered at s t.op
       t.events t.answer.said o → Each C t.events
   by_answer (Some said) is = subst (Each C) (sym is.0) tt
   by_answer None is = ⊎_elim

@@ -1,5 +1,5 @@
--- What of a history stands in a download's part of it: its opening and its claims.
-use Rattle.std.proofs.Common.{◌≡◌, ◌⊎◌, ⊎_elim, inl, inr, ℕ, Bool, true, false, cond, List, [], ◌∷◌, refl, ap, subst, arith}
+-- What of a history stands in a download's part of it: its opening and its claims; and which blocks its opening found.
+use Rattle.std.proofs.Common.{◌≡◌, ◌⊎◌, ⊎_elim, inl, inr, ℕ, Bool, true, false, cond, List, [], ◌∷◌, refl, sym, ap, ◌∙◌, subst, arith}
 use Rattle.std.specs.Prelude.{◌&&◌, ◌==◌, Contains, slice_index_or}
 use Rattle.blameless_mirrors.proofs.Marks.{behind, first_or}
 use Rattle.dl_history.specs.OwnEvents.{Checks, Clears, Grants, Halts, Lands, Loses, Opens, OwnEvent, Saves, Settles, Sizes}
@@ -63,120 +63,83 @@ opening_event start past gid (Ended other how) h =
 opening_event start past gid Left h = inr h
 opening_event start past gid Stopped h = inr h
 
--- ---- its events
+-- ---- its opening and its claims, as events of the history
 
-where_there : (t : Bool) (x y : OwnEvent) (own : List OwnEvent) → Contains (cond t (x ∷ own) own) y
-    → ((t ≡ true) × (x ≡ y)) ⊎ Contains own y
-where_there true x y own there = ⊎_elim
-    (λ (here : x ≡ y). inl (refl, here))
-    (λ (later : Contains own y). inr later) (first_or x y own there)
-where_there false x y own there = inr there
+-- an opening or a claim
+abbrev pub IsTold : OwnEvent → Type 0
+IsTold (Opens verified blocks now) = Unit {0}
+IsTold (Grants claim) = Unit {0}
+IsTold x = ⊥
 
--- what is another event was there before
-was_there : (t : Bool) (x y : OwnEvent) (own : List OwnEvent) → (x ≡ y → ⊥) → Contains (cond t (x ∷ own) own) y
-    → Contains own y
-was_there t x y own other there = ⊎_elim
-    (λ (here : (t ≡ true) × (x ≡ y)). absurd (other here.1))
-    (λ (was : Contains own y). was) (where_there t x y own there)
+-- as an event of the history
+abbrev pub told_as : Gid → OwnEvent → Event
+told_as gid (Opens verified blocks now) = Opened gid verified blocks now
+told_as gid (Grants claim) = Claimed gid claim
+told_as gid x = Left
 
-was_halted : (t : Bool) (y : OwnEvent) (own : List OwnEvent) → (Halts false ≡ y → ⊥) → Contains (halted_where t own) y
-    → Contains own y
-was_halted true y own other there = ⊎_elim
-    (λ (here : Halts false ≡ y). absurd (other here))
-    (λ (was : Contains own y). was) (first_or (Halts false) y own there)
-was_halted false y own other there = there
+-- the event came, or stood before
+step_there : (gid : Gid) (e : Event) (past : List Event) (t : Bool) (x y : OwnEvent) (own : List OwnEvent)
+    → (t ≡ true → x ≡ y → e ≡ told_as gid y) → (Contains own y → Contains past (told_as gid y))
+    → Contains (cond t (x ∷ own) own) y → Contains (e ∷ past) (told_as gid y)
+step_there gid e past false x y own came was there = behind e (told_as gid y) past (was there)
+step_there gid e past true x y own came was there = ⊎_elim
+    (λ (here : x ≡ y). (0, omega arith, came refl here))
+    (λ (later : Contains own y). behind e (told_as gid y) past (was later)) (first_or x y own there)
 
-pub opens_there : (start : RunStart) (gid : Gid) (verified' blocks' : List Bool) (now' : Moment) (past : List Event)
-    → Contains (own_of start past gid) (Opens verified' blocks' now') → Contains past (Opened gid verified' blocks' now')
-opens_there start gid verified' blocks' now' [] there = absurd (let within = there.1 in omega (arith, within))
-opens_there start gid verified' blocks' now' (Called session asked now ∷ past) there =
-    behind (Called session asked now) (Opened gid verified' blocks' now') past (opens_there start gid verified' blocks' now' past
-    (was_halted (halts_by start past (Called session asked now) asked gid) (Opens verified' blocks' now') (own_of start past gid) (λ is. absurd cc) there))
-opens_there start gid verified' blocks' now' (Opened other verified blocks now ∷ past) there = ⊎_elim
-    (λ (here : (is_same_gid gid other ≡ true) × (Opens verified blocks now ≡ Opens verified' blocks' now')).
-    let g : other ≡ gid = gid_is gid other here.0 in
-    let same : Opens verified blocks now ≡ Opens verified' blocks' now' = here.1 in
-    subst (λ (x : Event). Contains (Opened other verified blocks now ∷ past) x)
-    (let e : Opened other verified blocks now ≡ Opened gid verified' blocks' now' = cc in e) (0, omega arith, refl))
-    (λ (was : Contains (own_of start past gid) (Opens verified' blocks' now')). behind (Opened other verified blocks now) (Opened gid verified' blocks' now') past (opens_there start gid verified' blocks' now' past was))
-    (where_there (is_same_gid gid other) (Opens verified blocks now) (Opens verified' blocks' now') (own_of start past gid) there)
-opens_there start gid verified' blocks' now' (Sized other id total ∷ past) there =
-    behind (Sized other id total) (Opened gid verified' blocks' now') past (opens_there start gid verified' blocks' now' past
-    (was_there (is_same_gid gid other) (Sizes id total) (Opens verified' blocks' now') (own_of start past gid) (λ is. absurd cc) there))
-opens_there start gid verified' blocks' now' (Claimed other claim ∷ past) there =
-    behind (Claimed other claim) (Opened gid verified' blocks' now') past (opens_there start gid verified' blocks' now' past
-    (was_there (is_same_gid gid other) (Grants claim) (Opens verified' blocks' now') (own_of start past gid) (λ is. absurd cc) there))
-opens_there start gid verified' blocks' now' (Landed other id mirror run now ∷ past) there =
-    behind (Landed other id mirror run now) (Opened gid verified' blocks' now') past (opens_there start gid verified' blocks' now' past
-    (was_there (is_same_gid gid other) (Lands id mirror run) (Opens verified' blocks' now') (own_of start past gid) (λ is. absurd cc) there))
-opens_there start gid verified' blocks' now' (Settled other piece right giver ∷ past) there =
-    behind (Settled other piece right giver) (Opened gid verified' blocks' now') past (opens_there start gid verified' blocks' now' past
-    (was_there (is_same_gid gid other) (Settles piece right giver) (Opens verified' blocks' now') (own_of start past gid) (λ is. absurd cc) there))
-opens_there start gid verified' blocks' now' (Cleared other piece ∷ past) there =
-    behind (Cleared other piece) (Opened gid verified' blocks' now') past (opens_there start gid verified' blocks' now' past
-    (was_there (is_same_gid gid other) (Clears piece) (Opens verified' blocks' now') (own_of start past gid) (λ is. absurd cc) there))
-opens_there start gid verified' blocks' now' (Lost other id mirror piece mark ∷ past) there =
-    behind (Lost other id mirror piece mark) (Opened gid verified' blocks' now') past (opens_there start gid verified' blocks' now' past
-    (was_there (is_same_gid gid other) (Loses id mirror piece mark) (Opens verified' blocks' now') (own_of start past gid) (λ is. absurd cc) there))
-opens_there start gid verified' blocks' now' (Checked other right ∷ past) there =
-    behind (Checked other right) (Opened gid verified' blocks' now') past (opens_there start gid verified' blocks' now' past
-    (was_there (is_same_gid gid other) (Checks right) (Opens verified' blocks' now') (own_of start past gid) (λ is. absurd cc) there))
-opens_there start gid verified' blocks' now' (Saved other now ∷ past) there =
-    behind (Saved other now) (Opened gid verified' blocks' now') past (opens_there start gid verified' blocks' now' past
-    (was_there (is_same_gid gid other) (Saves now) (Opens verified' blocks' now') (own_of start past gid) (λ is. absurd cc) there))
-opens_there start gid verified' blocks' now' (Ended other how ∷ past) there =
-    behind (Ended other how) (Opened gid verified' blocks' now') past (opens_there start gid verified' blocks' now' past
-    (was_there (is_same_gid gid other) (Halts true) (Opens verified' blocks' now') (own_of start past gid) (λ is. absurd cc) there))
-opens_there start gid verified' blocks' now' (Left ∷ past) there = behind Left (Opened gid verified' blocks' now') past (opens_there start gid verified' blocks' now' past there)
-opens_there start gid verified' blocks' now' (Stopped ∷ past) there =
-    behind Stopped (Opened gid verified' blocks' now') past (opens_there start gid verified' blocks' now' past
-    (was_halted true (Opens verified' blocks' now') (own_of start past gid) (λ is. absurd cc) there))
+halted_there : (gid : Gid) (e : Event) (past : List Event) (t : Bool) (y : OwnEvent) (own : List OwnEvent) → IsTold y
+    → (Contains own y → Contains past (told_as gid y)) → Contains (halted_where t own) y
+    → Contains (e ∷ past) (told_as gid y)
+halted_there gid e past t y own told was there =
+    step_there gid e past t (Halts false) y own (λ same is. absurd (subst IsTold (sym is) told)) was (by t there)
+  where
+    by : (t : Bool) → Contains (halted_where t own) y → Contains (cond t (Halts false ∷ own) own) y
+    by true there = there
+    by false there = there
 
-pub grant_there : (start : RunStart) (gid : Gid) (claim' : Claim) (past : List Event)
-    → Contains (own_of start past gid) (Grants claim') → Contains past (Claimed gid claim')
-grant_there start gid claim' [] there = absurd (let within = there.1 in omega (arith, within))
-grant_there start gid claim' (Called session asked now ∷ past) there =
-    behind (Called session asked now) (Claimed gid claim') past (grant_there start gid claim' past
-    (was_halted (halts_by start past (Called session asked now) asked gid) (Grants claim') (own_of start past gid) (λ is. absurd cc) there))
-grant_there start gid claim' (Opened other verified blocks now ∷ past) there =
-    behind (Opened other verified blocks now) (Claimed gid claim') past (grant_there start gid claim' past
-    (was_there (is_same_gid gid other) (Opens verified blocks now) (Grants claim') (own_of start past gid) (λ is. absurd cc) there))
-grant_there start gid claim' (Sized other id total ∷ past) there =
-    behind (Sized other id total) (Claimed gid claim') past (grant_there start gid claim' past
-    (was_there (is_same_gid gid other) (Sizes id total) (Grants claim') (own_of start past gid) (λ is. absurd cc) there))
-grant_there start gid claim' (Claimed other claim ∷ past) there = ⊎_elim
-    (λ (here : (is_same_gid gid other ≡ true) × (Grants claim ≡ Grants claim')).
-    let g : other ≡ gid = gid_is gid other here.0 in
-    let same : Grants claim ≡ Grants claim' = here.1 in
-    subst (λ (x : Event). Contains (Claimed other claim ∷ past) x)
-    (let e : Claimed other claim ≡ Claimed gid claim' = cc in e) (0, omega arith, refl))
-    (λ (was : Contains (own_of start past gid) (Grants claim')). behind (Claimed other claim) (Claimed gid claim') past (grant_there start gid claim' past was))
-    (where_there (is_same_gid gid other) (Grants claim) (Grants claim') (own_of start past gid) there)
-grant_there start gid claim' (Landed other id mirror run now ∷ past) there =
-    behind (Landed other id mirror run now) (Claimed gid claim') past (grant_there start gid claim' past
-    (was_there (is_same_gid gid other) (Lands id mirror run) (Grants claim') (own_of start past gid) (λ is. absurd cc) there))
-grant_there start gid claim' (Settled other piece right giver ∷ past) there =
-    behind (Settled other piece right giver) (Claimed gid claim') past (grant_there start gid claim' past
-    (was_there (is_same_gid gid other) (Settles piece right giver) (Grants claim') (own_of start past gid) (λ is. absurd cc) there))
-grant_there start gid claim' (Cleared other piece ∷ past) there =
-    behind (Cleared other piece) (Claimed gid claim') past (grant_there start gid claim' past
-    (was_there (is_same_gid gid other) (Clears piece) (Grants claim') (own_of start past gid) (λ is. absurd cc) there))
-grant_there start gid claim' (Lost other id mirror piece mark ∷ past) there =
-    behind (Lost other id mirror piece mark) (Claimed gid claim') past (grant_there start gid claim' past
-    (was_there (is_same_gid gid other) (Loses id mirror piece mark) (Grants claim') (own_of start past gid) (λ is. absurd cc) there))
-grant_there start gid claim' (Checked other right ∷ past) there =
-    behind (Checked other right) (Claimed gid claim') past (grant_there start gid claim' past
-    (was_there (is_same_gid gid other) (Checks right) (Grants claim') (own_of start past gid) (λ is. absurd cc) there))
-grant_there start gid claim' (Saved other now ∷ past) there =
-    behind (Saved other now) (Claimed gid claim') past (grant_there start gid claim' past
-    (was_there (is_same_gid gid other) (Saves now) (Grants claim') (own_of start past gid) (λ is. absurd cc) there))
-grant_there start gid claim' (Ended other how ∷ past) there =
-    behind (Ended other how) (Claimed gid claim') past (grant_there start gid claim' past
-    (was_there (is_same_gid gid other) (Halts true) (Grants claim') (own_of start past gid) (λ is. absurd cc) there))
-grant_there start gid claim' (Left ∷ past) there = behind Left (Claimed gid claim') past (grant_there start gid claim' past there)
-grant_there start gid claim' (Stopped ∷ past) there =
-    behind Stopped (Claimed gid claim') past (grant_there start gid claim' past
-    (was_halted true (Grants claim') (own_of start past gid) (λ is. absurd cc) there))
+-- what stands of these in the download's part of a history came
+pub told_there : (start : RunStart) (gid : Gid) (y : OwnEvent) → IsTold y → (past : List Event)
+    → Contains (own_of start past gid) y → Contains past (told_as gid y)
+told_there start gid y told [] there = absurd (let within = there.1 in omega (arith, within))
+told_there start gid y told (Called session asked now ∷ past) there =
+    halted_there gid (Called session asked now) past (halts_by start past (Called session asked now) asked gid) y
+    (own_of start past gid) told (told_there start gid y told past) there
+told_there start gid y told (Opened other verified blocks now ∷ past) there =
+    step_there gid (Opened other verified blocks now) past (is_same_gid gid other) (Opens verified blocks now) y
+    (own_of start past gid) (λ same is.
+    ap (λ (g : Gid). Opened g verified blocks now) (gid_is gid other same) ∙ ap (told_as gid) is)
+    (told_there start gid y told past) there
+told_there start gid y told (Sized other id total ∷ past) there =
+    step_there gid (Sized other id total) past (is_same_gid gid other) (Sizes id total) y (own_of start past gid)
+    (λ same is. absurd (subst IsTold (sym is) told)) (told_there start gid y told past) there
+told_there start gid y told (Claimed other claim ∷ past) there =
+    step_there gid (Claimed other claim) past (is_same_gid gid other) (Grants claim) y (own_of start past gid)
+    (λ same is.
+    ap (λ (g : Gid). Claimed g claim) (gid_is gid other same) ∙ ap (told_as gid) is)
+    (told_there start gid y told past) there
+told_there start gid y told (Landed other id mirror run now ∷ past) there =
+    step_there gid (Landed other id mirror run now) past (is_same_gid gid other) (Lands id mirror run) y (own_of start past gid)
+    (λ same is. absurd (subst IsTold (sym is) told)) (told_there start gid y told past) there
+told_there start gid y told (Settled other piece right giver ∷ past) there =
+    step_there gid (Settled other piece right giver) past (is_same_gid gid other) (Settles piece right giver) y
+    (own_of start past gid) (λ same is. absurd (subst IsTold (sym is) told)) (told_there start gid y told past) there
+told_there start gid y told (Cleared other piece ∷ past) there =
+    step_there gid (Cleared other piece) past (is_same_gid gid other) (Clears piece) y (own_of start past gid)
+    (λ same is. absurd (subst IsTold (sym is) told)) (told_there start gid y told past) there
+told_there start gid y told (Lost other id mirror piece mark ∷ past) there =
+    step_there gid (Lost other id mirror piece mark) past (is_same_gid gid other) (Loses id mirror piece mark) y
+    (own_of start past gid) (λ same is. absurd (subst IsTold (sym is) told)) (told_there start gid y told past) there
+told_there start gid y told (Checked other right ∷ past) there =
+    step_there gid (Checked other right) past (is_same_gid gid other) (Checks right) y (own_of start past gid)
+    (λ same is. absurd (subst IsTold (sym is) told)) (told_there start gid y told past) there
+told_there start gid y told (Saved other now ∷ past) there =
+    step_there gid (Saved other now) past (is_same_gid gid other) (Saves now) y (own_of start past gid)
+    (λ same is. absurd (subst IsTold (sym is) told)) (told_there start gid y told past) there
+told_there start gid y told (Ended other how ∷ past) there =
+    step_there gid (Ended other how) past (is_same_gid gid other) (Halts true) y (own_of start past gid)
+    (λ same is. absurd (subst IsTold (sym is) told)) (told_there start gid y told past) there
+told_there start gid y told (Left ∷ past) there = behind Left (told_as gid y) past (told_there start gid y told past there)
+told_there start gid y told (Stopped ∷ past) there =
+    halted_there gid Stopped past true y (own_of start past gid) told (told_there start gid y told past) there
 
 -- a claim that was granted to it
 pub granted_there : (own : List OwnEvent) (claim : Claim) → Contains (granted_claims own) claim → Contains own (Grants claim)
@@ -185,11 +148,15 @@ granted_there (Grants c ∷ own) claim there = ⊎_elim
     (λ (here : c ≡ claim). (0, omega arith, ap Grants here))
     (λ (was : Contains (granted_claims own) claim). behind (Grants c) (Grants claim) own (granted_there own claim was))
     (first_or c claim (granted_claims own) there)
-granted_there (Opens verified blocks now ∷ own) claim there = behind (Opens verified blocks now) (Grants claim) own (granted_there own claim there)
-granted_there (Lands id mirror run ∷ own) claim there = behind (Lands id mirror run) (Grants claim) own (granted_there own claim there)
-granted_there (Settles piece right giver ∷ own) claim there = behind (Settles piece right giver) (Grants claim) own (granted_there own claim there)
+granted_there (Opens verified blocks now ∷ own) claim there =
+    behind (Opens verified blocks now) (Grants claim) own (granted_there own claim there)
+granted_there (Lands id mirror run ∷ own) claim there =
+    behind (Lands id mirror run) (Grants claim) own (granted_there own claim there)
+granted_there (Settles piece right giver ∷ own) claim there =
+    behind (Settles piece right giver) (Grants claim) own (granted_there own claim there)
 granted_there (Clears piece ∷ own) claim there = behind (Clears piece) (Grants claim) own (granted_there own claim there)
-granted_there (Loses id mirror piece mark ∷ own) claim there = behind (Loses id mirror piece mark) (Grants claim) own (granted_there own claim there)
+granted_there (Loses id mirror piece mark ∷ own) claim there =
+    behind (Loses id mirror piece mark) (Grants claim) own (granted_there own claim there)
 granted_there (Sizes id told ∷ own) claim there = behind (Sizes id told) (Grants claim) own (granted_there own claim there)
 granted_there (Saves now ∷ own) claim there = behind (Saves now) (Grants claim) own (granted_there own claim there)
 granted_there (Checks right ∷ own) claim there = behind (Checks right) (Grants claim) own (granted_there own claim there)
@@ -215,7 +182,8 @@ found_behind x own b f = record {
 }
 
 -- what nobody gave an opening found
-pub unknown_found : (alive : ℕ → Bool) (p b : ℕ) (own : List OwnEvent) → source_by alive p b own ≡ Unknown → FindsBlock own b
+pub unknown_found : (alive : ℕ → Bool) (p b : ℕ) (own : List OwnEvent) → source_by alive p b own ≡ Unknown
+    → FindsBlock own b
 unknown_found alive p b [] is = absurd cc
 unknown_found alive p b (Opens verified blocks now ∷ own) is = by (slice_index_or blocks b false) refl is
   where
@@ -237,8 +205,10 @@ unknown_found alive p b (Clears piece ∷ own) is = by (piece == p) (unknown_fou
     by true was same = absurd cc
     by false was same = found_behind (Clears piece) own b (was same)
 unknown_found alive p b (Grants claim ∷ own) is = found_behind (Grants claim) own b (unknown_found alive p b own is)
-unknown_found alive p b (Settles piece right giver ∷ own) is = found_behind (Settles piece right giver) own b (unknown_found alive p b own is)
-unknown_found alive p b (Loses id mirror piece mark ∷ own) is = found_behind (Loses id mirror piece mark) own b (unknown_found alive p b own is)
+unknown_found alive p b (Settles piece right giver ∷ own) is =
+    found_behind (Settles piece right giver) own b (unknown_found alive p b own is)
+unknown_found alive p b (Loses id mirror piece mark ∷ own) is =
+    found_behind (Loses id mirror piece mark) own b (unknown_found alive p b own is)
 unknown_found alive p b (Sizes id told ∷ own) is = found_behind (Sizes id told) own b (unknown_found alive p b own is)
 unknown_found alive p b (Saves now ∷ own) is = found_behind (Saves now) own b (unknown_found alive p b own is)
 unknown_found alive p b (Checks right ∷ own) is = found_behind (Checks right) own b (unknown_found alive p b own is)

@@ -1,4 +1,5 @@
--- The file of the only download of a run, where it has no metainfo file, all its mirrors bring a payload's own bytes, and it is complete.
+-- The file of a run's only download, where it has no metainfo file, all its mirrors bring a payload's own bytes, and it is
+-- complete.
 use Rattle.std.proofs.Common.{◌≡◌, ⊎_elim, ℕ, ◌+◌, ◌*◌, ◌/◌, ◌%◌, ◌<◌, ◌≤◌, Bool, true, false, Option, Some, None, List, [], ◌∷◌, ◌++◌, length, get_or, slice_get, refl, sym, ap, ◌∙◌, subst, arith}
 use Rattle.std.specs.Prelude.{◌&&◌, Contains, IsSome, IsSomeAnd, slice_index_or}
 use Rattle.std.specs.List.{concat}
@@ -14,7 +15,7 @@ use Rattle.control_file.specs.declared.want.Want.{Want}
 use Rattle.dl_disk.specs.Files.{Files, file_bytes}
 use Rattle.dl_disk.specs.State.{DiskState}
 use Rattle.dl_history.proofs.Bools.{or_right, true_not_false}
-use Rattle.dl_history.specs.OwnEvents.{OwnEvent}
+use Rattle.dl_history.specs.OwnEvents.{Grants, Opens, OwnEvent}
 use Rattle.dl_history.specs.OwnLegal.{LegalOwn}
 use Rattle.dl_history.specs.PayloadParts.{is_alive, is_ended, is_landed_in, is_opened, is_verified_in, source_in, verifies}
 use Rattle.dl_kinds.specs.Plan.{IsPlan, piece_end, piece_of, piece_start, pieces_of}
@@ -58,7 +59,7 @@ use Rattle.blameless_mirrors.specs.LoneUris.{HasFile, IsUnlistedServed, Unlisted
 use Rattle.blameless_mirrors.proofs.Completions.{complete_opened}
 use Rattle.blameless_mirrors.proofs.Findings.{come_of, split_at}
 use Rattle.blameless_mirrors.proofs.Marks.{behind}
-use Rattle.blameless_mirrors.proofs.OwnThere.{OpensIt, grant_there, granted_there, opening_event, opens_there, unknown_found}
+use Rattle.blameless_mirrors.proofs.OwnThere.{OpensIt, granted_there, opening_event, told_there, unknown_found}
 use Rattle.blameless_mirrors.proofs.PayloadBytes.{block_at}
 use Rattle.blameless_mirrors.proofs.Refusals.{Fresh, first_same, fresh_before, so_before}
 use Rattle.blameless_mirrors.proofs.UriBlocks.{unlisted_read, wants_one}
@@ -81,8 +82,8 @@ nothing_resumed want contents b none resumed = ⊎_elim
     (λ hashed. never_some want.info_hash none hashed.0) whole.1.1)
     (λ flight. flight.1) resumed
 
-nothing_opened : (want : Want) (files : Files) (c : Bool) (b : ℕ) → want.info_hash ≡ None → files (control_name want) ≡ None
-    → OpensBlock (is_compared want c) want files b → ⊥
+nothing_opened : (want : Want) (files : Files) (c : Bool) (b : ℕ) → want.info_hash ≡ None
+    → files (control_name want) ≡ None → OpensBlock (is_compared want c) want files b → ⊥
 nothing_opened want files c b none lacks opens =
     nothing_resumed want (files_in want files) b none
     (subst (λ (f : Found). BlockResumed want f (files_in want files) b) (ap (found want) lacks)
@@ -123,7 +124,8 @@ piece_at total len at some inside =
     (p, known, omega (arith, cut), omega (arith, cut, rest, next, inside))
 
 -- lists of the same bytes
-same_bytes : (xs ys : List ℕ) → length xs ≡ length ys → ((at : ℕ) → at < length xs → slice_get xs at ≡ slice_get ys at) → xs ≡ ys
+same_bytes : (xs ys : List ℕ) → length xs ≡ length ys
+    → ((at : ℕ) → at < length xs → slice_get xs at ≡ slice_get ys at) → xs ≡ ys
 same_bytes xs ys long same =
     same_lists xs ys long (λ k d inside.
     let one : Some (get_or xs k d) ≡ Some (get_or ys k d) =
@@ -153,12 +155,12 @@ verified_on start e past gid piece is =
 all_wanted : (d : Download) (uris : List (List ℕ)) (l : PayloadLengths) (piece : ℕ) → d.subject ≡ Unlisted uris
     → piece < pieces_of l.total l.piece_len → slice_index_or (wanted_pieces d l) piece false ≡ true
 all_wanted d uris l piece subject inside =
-    get_or-map-range_with_len (wanted_by d.subject (text_of_word d.options SelectFile) l) 0 (pieces_of l.total l.piece_len) piece piece
-    false inside (omega arith)
+    get_or-map-range_with_len (wanted_by d.subject (text_of_word d.options SelectFile) l) 0 (pieces_of l.total l.piece_len) piece
+    piece false inside (omega arith)
     ∙ ap (λ (s : Subject). wanted_by s (text_of_word d.options SelectFile) l piece) subject
 
-module _ (laws : RunFollows) (plans : OpenedHavePlans) (start : RunStart) (gid : Gid) (download : Download) (uris : List (List ℕ))
-    (subject : download.subject ≡ Unlisted uris) where
+module _ (laws : RunFollows) (plans : OpenedHavePlans) (start : RunStart) (gid : Gid) (download : Download)
+    (uris : List (List ℕ)) (subject : download.subject ≡ Unlisted uris) where
   abbrev IsIt : List Event → Type 0
   IsIt past = (d : Download) → download_in start past gid ≡ Some d → d ≡ download
 
@@ -204,8 +206,8 @@ module _ (laws : RunFollows) (plans : OpenedHavePlans) (start : RunStart) (gid :
       (all_wanted d uris l piece of inside)))
 
   -- once it ended as complete each of its pieces is verified
-  verified_all : (past : List Event) (l : PayloadLengths) → IsLegal start past → IsIt past → Contains past (Ended gid Complete)
-      → is_opened (own_of start past gid) ≡ true → payload_lengths_of start past gid ≡ Some l
+  verified_all : (past : List Event) (l : PayloadLengths) → IsLegal start past → IsIt past
+      → Contains past (Ended gid Complete) → is_opened (own_of start past gid) ≡ true → payload_lengths_of start past gid ≡ Some l
       → (piece : ℕ) → piece < pieces_of l.total l.piece_len → is_verified_in (own_of start past gid) piece ≡ true
   verified_all [] l legal same there opened known piece inside = absurd (let within = there.1 in omega (arith, within))
   verified_all (e ∷ past) l legal same there opened known piece inside = ⊎_elim
@@ -310,8 +312,8 @@ module _ (laws : RunFollows) (plans : OpenedHavePlans) (start : RunStart) (gid :
         let there_none : Contains [] e = subst (λ (l : List RunTurn). Contains (history_of l) e) empty was in
         absurd (let within = there_none.1 in omega (arith, within)))
         (λ (time : first_time (t ∷ before) ≡ first_time before).
-        never_found before (fresh_before laws start disk gid download t before f) (lacks_before t before f time lacks) verified blocks
-        now was b has)
+        never_found before (fresh_before laws start disk gid download t before f) (lacks_before t before f time lacks)
+        verified blocks now was b has)
         (first_same laws start disk gid download t before))
         (come_of (history_of before) t.events e there)
 
@@ -367,7 +369,8 @@ module _ (laws : RunFollows) (plans : OpenedHavePlans) (follow : BlocksFollow) (
 
   verified : (piece : ℕ) → piece < pieces_of total len → is_verified_in (own_of start past gid) piece ≡ true
   verified piece inside =
-      verified_all laws plans start gid d uris is.lone.subject past has.lengths is.run.legal same there opened has.known piece
+      verified_all laws plans start gid d uris is.lone.subject past has.lengths is.run.legal same there opened has.known
+      piece
       (subst (λ (l : PayloadLengths). piece < pieces_of l.total l.piece_len) plan_is inside)
 
   -- a block is from one of its mirrors
@@ -387,13 +390,13 @@ module _ (laws : RunFollows) (plans : OpenedHavePlans) (follow : BlocksFollow) (
             only = is.lone.only;
             same = same;
           }) (λ w w_has. (is.fresh w w_has).absent) f.verified f.blocks f.now
-          (opens_there start gid f.verified f.blocks f.now past f.there) b f.has)
+          (told_there start gid (Opens f.verified f.blocks f.now) tt past f.there) b f.has)
       by (From mirror) source =
           let own = own_of start past gid in
           let granted = laws.sound.givers total len own b mirror legal_own source in
           let low : mirror < length uris =
           subst (λ (m : ℕ). m < length uris) granted.2
-          (is.claims granted.0 (grant_there start gid granted.0 past (granted_there own granted.0 granted.1))) in
+          (is.claims granted.0 (told_there start gid (Grants granted.0) tt past (granted_there own granted.0 granted.1))) in
           unlisted_read laws plans follow state start t before disk gid mirror uris want payload is.run is.lone has
           (is.faithful mirror low) b source
 
@@ -404,7 +407,8 @@ module _ (laws : RunFollows) (plans : OpenedHavePlans) (follow : BlocksFollow) (
   byte_read at inside =
       let p = piece_at total len at want.plan.is_plan.some (omega (arith, inside, long)) in
       let found = block_at total len p.0 at numbered want.plan.is_plan p.1 p.2 p.3 in
-      let full = laws.sound.verified total len (own_of start past gid) p.0 want.plan.is_plan legal_own p.1 (verified p.0 p.1) in
+      let full = laws.sound.verified total len (own_of start past gid) p.0 want.plan.is_plan legal_own p.1
+      (verified p.0 p.1) in
       block_read found.0 (full found.0 found.1.within found.1.of) at (record { from = found.1.from; before = found.1.before })
 
   of : has.download.subject ≡ Unlisted uris
@@ -426,7 +430,8 @@ module _ (laws : RunFollows) (plans : OpenedHavePlans) (follow : BlocksFollow) (
       let at_len = All-head Is (record { path = want.base ∷ []; len = has.lengths.total }) []
       (subst (λ (fs : List FileLen). HasFiles want.dir fs files) layout whole) in
       file_is (files (payload_name want)) payload
-      (subst (λ (n : ℕ). IsSomeAnd (files (payload_name want)) (λ bytes. length bytes ≡ n)) (is.lengths has.lengths has.known) at_len)
+      (subst (λ (n : ℕ). IsSomeAnd (files (payload_name want)) (λ bytes. length bytes ≡ n))
+      (is.lengths has.lengths has.known) at_len)
       (λ at inside.
       ap (λ (fs : List FileLen). slice_get (payload_in want.dir fs files) at) (sym layout)
       ∙ byte_read at inside)

@@ -54,8 +54,8 @@ pub record IsUnlistedBrought (start : RunStart) (told : List RunTurn) (disk : Di
   pub free : IsFreeFirst start told disk gid
   pub faultless : HasNoDiskFault (history_of told)
 
--- Each of its mirrors brings just the payload's bytes to it, and each of its claims is at one of them. Each length that was told of it
--- is the payload's; memory sufficed, and as the run began no control file of it stood.
+-- Each of its mirrors brings just the payload's bytes to it, and each of its claims is at one of them. Each length that was told
+-- of it is the payload's; memory sufficed, and as the run began no control file of it stood.
 pub record IsUnlistedServed (start : RunStart) (told : List RunTurn) (disk : DiskState) (gid : Gid) (uris : List (List ℕ))
     (payload : List ℕ) : Type 0 where
   pub run : IsToldRun start told disk
