@@ -1,0 +1,33 @@
+-- Mirrors in memory that hold a piece of a payload, and how many bad answers are left of them.
+use Rattle.std.specs.Prelude.{◌≡◌, ◌<◌, ◌+◌, ◌^◌, ℕ, Bool, List, length, count_by, take}
+use Rattle.dl_kinds.specs.Plan.{piece_end, piece_start}
+use Rattle.link_source.specs.Mirrors.{Content}
+use Rattle.memory_serving_laws.specs.Leads.{Leads}
+use Rattle.memory_serving_laws.specs.Serving.{UrlLeadsAmong}
+use Rattle.metainfo.specs.Jobs.{len_of_file}
+use Rattle.metainfo.specs.Urls.{seed_url_of}
+use Rattle.metainfo.specs.declared.meta.Meta.{Meta}
+use Rattle.request_chain.specs.Redirects.{redirect_limit}
+use Rattle.served_claims.specs.Serving.{file_bytes}
+use Rattle.span_map.specs.Layout.{total_of}
+use Rattle.paid_marks.specs.Paid.{HasPiece}
+
+-- the piece has bytes of the file of this number
+pub record IsTouched (meta : Meta) (piece file : ℕ) : Type 0 where
+  pub from : total_of (take file meta.layout) < piece_end meta.plan.total meta.plan.piece_len piece
+  pub to : piece_start meta.plan.piece_len piece < total_of (take file meta.layout) + len_of_file meta.layout file
+
+-- For each file of which the piece has bytes, the mirror's URL leads within 20 redirects to a resource of that file's length, through
+-- some of these mirrors in memory alone; and the bytes of the piece that are held there have its digest.
+pub record HoldsPiece (content : Content) (meta : Meta) (base held : List ℕ) (among : ℕ → Bool) (piece : ℕ) : Type 0 where
+  pub has : HasPiece meta held piece
+  pub laid : total_of meta.layout ≡ meta.plan.total
+  pub small : length held < 2 ^ 63
+  pub leads : (file : ℕ) → IsTouched meta piece file
+      → Leads content redirect_limit (seed_url_of meta.layout base file) (file_bytes meta.layout held file)
+  pub through : (file : ℕ) → IsTouched meta piece file
+      → UrlLeadsAmong content among (seed_url_of meta.layout base file)
+
+-- how many bad answers these mirrors have still to give
+abbrev pub bad_among : (ℕ → Bool) → Content → ℕ
+bad_among among content = count_by (λ bad. among bad.mirror) content.bad
