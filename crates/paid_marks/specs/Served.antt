@@ -10,7 +10,7 @@ use Rattle.engine_turns.specs.NextRows.{mirror_url}
 use Rattle.engine_turns.specs.Told.{RunTurn, history_of}
 use Rattle.link_source.specs.Mirrors.{Content}
 use Rattle.machine_core.specs.RunLegal.{mirrors_by, tries_in}
-use Rattle.machine_core.specs.Starts.{Download, RunStart}
+use Rattle.machine_core.specs.Starts.{RunStart, Subject}
 use Rattle.machine_core.specs.declared.ends.End.{End}
 use Rattle.machine_core.specs.declared.ends.End.TheVariants.{Complete, Dead}
 use Rattle.machine_core.specs.declared.events.Event.TheVariants.{Ended}
@@ -34,15 +34,15 @@ pub record IsWorkedOver (tells : Bool) (told : List RunTurn) (old : LinkAt) : Ty
   pub before : (t : RunTurn) → Contains first t → ¬ UsesClaim t.op
   pub behind : (t : RunTurn) → Contains last t → ¬ UsesClaim t.op
 
--- A mirror of the download holds the piece, and fewer bad answers are left of the mirrors in memory that its URLs lead through than it
--- has tries.
-pub record IsServedPiece (content : Content) (download : Download) (meta : Meta) (piece : ℕ) : Type 0 where
+-- A mirror of what is downloaded holds the piece, and fewer bad answers are left of the mirrors in memory that its URLs lead through
+-- than it has tries.
+pub record IsServedPiece (content : Content) (subject : Subject) (tries : ℕ) (meta : Meta) (piece : ℕ) : Type 0 where
   pub mirror : ℕ
-  pub known : mirror < mirrors_by download.subject
+  pub known : mirror < mirrors_by subject
   pub held : List ℕ
   pub among : ℕ → Bool
-  pub holds : HoldsPiece content meta (mirror_url download.subject mirror) held among piece
-  pub fewer : bad_among among content < tries_in download
+  pub holds : HoldsPiece content meta (mirror_url subject mirror) held among piece
+  pub fewer : bad_among among content < tries
 
 module _ {D : Type 0} (state : D → DiskState) where
   -- then the piece is never dead, unless the link failed
@@ -50,7 +50,8 @@ module _ {D : Type 0} (state : D → DiskState) where
   ServedNeverDie =
       (tells : Bool) (start : RunStart) (told : List RunTurn) (disk : D) (gid : Gid) (meta : Meta) (want : Want) (old : LinkAt)
       → IsTrue tells → (is : IsListedRun start told (state disk) gid meta want) → IsWorkedOver tells told old
-      → (piece : ℕ) → (served : IsServedPiece old.state.content is.listed.download meta piece)
+      → (piece : ℕ)
+      → (served : IsServedPiece old.state.content is.listed.download.subject (tries_in is.listed.download) meta piece)
       → ¬ HasFailedLink (history_of told) gid served.mirror
       → (mark : Mark) → ¬ Contains (history_of told) (Ended gid (Dead piece mark))
 
@@ -60,7 +61,7 @@ module _ {D : Type 0} (state : D → DiskState) where
       (tells : Bool) (start : RunStart) (told : List RunTurn) (disk : D) (gid : Gid) (meta : Meta) (want : Want) (old : LinkAt)
       → IsTrue tells → (is : IsListedRun start told (state disk) gid meta want) → IsWorkedOver tells told old
       → ((piece : ℕ) → piece < pieces_of meta.plan.total meta.plan.piece_len
-      → IsServedPiece old.state.content is.listed.download meta piece)
+      → IsServedPiece old.state.content is.listed.download.subject (tries_in is.listed.download) meta piece)
       → ((mirror : ℕ) → ¬ HasFailedLink (history_of told) gid mirror) → IsOnly start (history_of told) gid
       → LacksControlFirst told (state disk) want
       → (other : Gid) (how : End) → Contains (history_of told) (Ended other how) → (other ≡ gid) × (how ≡ Complete)

@@ -13,6 +13,7 @@ use Rattle.run_frame.specs.Begins.{is_no_memory, start_of_line}
 use Rattle.run_frame.specs.LinkCauses.{LostAsTold, SizedAsTold}
 use Rattle.run_frame.specs.Stops.{ends_short}
 use Rattle.run_frame.specs.declared.ended.Ended.{Ended}
+use Rattle.served_pieces.specs.Pieces.{IsRunOverOne}
 use Rattle.solo_run.specs.LinkCauses.{ShowsLink}
 use Rattle.solo_run.specs.Runs.{RanOver, RunsOver}
 use Rattle.solo_run.proofs.Framed.{framed}
@@ -95,6 +96,20 @@ module _ {D L K O : Type 0} {says : DiskSays D} {links : LinkSays L} {sinks : Si
       → IsRunOver says sinks links words gids 0 disk (pair ∷ []) out ended (pair' ∷ []) out'
   over (inl never) = inl never.0
   over (inr ran) = inr (over_one ran)
+
+  -- .. by the turns of its worker, in order
+  pub over_its_one : RunsOver says links sinks words gids disk pair.0 out ended pair'.0 out'
+      → IsRunOverOne says sinks links words gids 0 disk pair out ended pair' out'
+  unfolding over_one
+  over_its_one (inl never) = inl never.0
+  over_its_one (inr ran) = inr (record {
+    over = over_one ran;
+    from = ran.begun.desk;
+    to = ran.goes.works.mid;
+    came = ran.goes.works.came;
+    its = ran.goes.works.worked;
+    order = refl;
+  })
 
 -- what links show that are one link, it shows
 pub shows_one : {L K : Type 0} {links : LinkSays L} {words : List (List ℕ)} {gids : ℕ} (events : List Event)

@@ -9,6 +9,7 @@ ghost use Rattle.run_frame.specs.Histories.{IsHistory};
 ghost use Rattle.run_frame.specs.Printing.{PrintsText};
 ghost use Rattle.run_frame.specs.Results.{ended_of};
 ghost use Rattle.run_frame.specs.Survivals.{SurvivesRun};
+ghost use Rattle.served_pieces.specs.Pieces.{CompletesPieces};
 ghost use Rattle.solo_run.specs.Headline.{DoesAlone};
 ghost use Rattle.solo_run.specs.LinkCauses.{ShowsFirstLink};
 ghost use Rattle.solo_run.specs.Untouched.{LeavesUnused};
@@ -27,6 +28,7 @@ use run_frame::{
     runs_leave_other_files, runs_print_one_text, runs_show_their_disk, runs_survive_crashes,
     unbegun_runs_only_read,
 };
+use served_pieces::runs_complete_served_pieces;
 use std::alloc::Global;
 
 /// The run of these words, which stand behind the program's name, over the first link. Doors aren't used. `gids` is what the ids
@@ -66,7 +68,11 @@ pub fn run_alone<D: Disk, L: Links, K: Clock, A, O: Sink>(
     ensures completes { IsTrue D.tells → IsTrue L.tells → CompletesServed D.Disk L.Links O.Sink
         (map string_bytes words.now) disk (take 1 links.items) out.old (ended_of result)
         (take 1 result.links.items) out.new }
-    // So it does without a metainfo file, where all mirrors lead alike to one resource and no file stands in its folder; and
+    // So it is where each piece has a mirror that holds it, with fewer bad answers left than tries.
+    ensures completes_pieces { IsTrue D.tells → IsTrue L.tells → CompletesPieces D.Disk L.Links O.Sink
+        (map string_bytes words.now) disk (take 1 links.items) out.old (ended_of result)
+        (take 1 result.links.items) out.new }
+    // So it is without a metainfo file, where all mirrors lead alike to one resource and no file stands in its folder; and
     // then its file has just the resource's bytes.
     ensures completes_uris { IsTrue D.tells → IsTrue L.tells → CompletesUris D.Disk L.Links O.Sink
         (map string_bytes words.now) disk (take 1 links.items) out.old (ended_of result)
@@ -87,6 +93,7 @@ pub fn run_alone<D: Disk, L: Links, K: Clock, A, O: Sink>(
     runs_show_their_links::<D, L, K, O>();
     runs_spare_serving_mirrors::<D, L, K, O>();
     runs_complete_what_is_served::<D, L, K, O>();
+    runs_complete_served_pieces::<D, L, K, O>();
     runs_complete_uris::<D, L, K, O>();
     runs_survive_crashes::<D, O>();
     unbegun_runs_only_read::<D, O>();

@@ -3,9 +3,10 @@ use Rattle.std.specs.Prelude.{IsTrue, map, string_bytes}
 use Rattle.brought_runs.specs.Completes.{CompletesServed}
 use Rattle.brought_runs.specs.CompletesUris.{CompletesUris}
 use Rattle.brought_runs.specs.Served.{SparesServing}
+use Rattle.served_pieces.specs.Pieces.{CompletesPieces}
 use Rattle.solo_run.specs.Runs.{RunsOver}
 use Rattle.solo_run.proofs.Framed.{whole}
-use Rattle.solo_run.proofs.OneLink.{of_first_alone, over, shows_one}
+use Rattle.solo_run.proofs.OneLink.{of_first_alone, over, over_its_one, shows_one}
 use Rattle.solo_run.proofs.Used.{leaves_unused, of_first, unused_pair}
 use Rattle.solo_run.proofs.run.run_alone.Goals as goal
 
@@ -76,6 +77,17 @@ returns-clause-completes g c =
     (c.runs_complete_what_is_served.ensures _ _ _ _ _ _ _ _ _
     (over pair (c.run_over-ending.new.link, c.run_over-ending.new.clock) c.run_over-ending.ensures.runs)
     (omega arith))
+
+pub returns-clause-completes_pieces : goal.returns-clause-completes_pieces
+returns-clause-completes_pieces g c =
+    let pair = c.index_mut.result.now in
+    of_first_alone
+    (λ olds news. IsTrue g.D.Disk.tells → IsTrue g.L.Links.tells → CompletesPieces g.D.Disk g.L.Links g.O.Sink
+    (map string_bytes c.args.words.now) c.args.disk olds c.args.out.now c.run_over-ending.result news
+    c.run_over-ending.new.out)
+    _ pair (c.run_over-ending.new.link, c.run_over-ending.new.clock) c.requires c.index_mut.ensures.value
+    (c.runs_complete_served_pieces.ensures _ _ _ _ _ _ _ _ _
+    (over_its_one pair (c.run_over-ending.new.link, c.run_over-ending.new.clock) c.run_over-ending.ensures.runs))
 
 pub returns-clause-completes_uris : goal.returns-clause-completes_uris
 returns-clause-completes_uris g c =

@@ -1,0 +1,3 @@
+pub mod Unbegun
+pub mod Worked
+pub mod Pieced
