@@ -34,9 +34,10 @@ pub record IsWorkedOver (tells : Bool) (told : List RunTurn) (old : LinkAt) : Ty
   pub before : (t : RunTurn) → Contains first t → ¬ UsesClaim t.op
   pub behind : (t : RunTurn) → Contains last t → ¬ UsesClaim t.op
 
--- A mirror of what is downloaded holds the piece, and fewer bad answers are left of the mirrors in memory that its URLs lead through
--- than it has tries.
-pub record IsServedPiece (content : Content) (subject : Subject) (tries : ℕ) (meta : Meta) (piece : ℕ) : Type 0 where
+-- A mirror of what is downloaded holds the piece, and fewer bad answers are left of the mirrors in
+-- memory that its URLs lead through than it has tries.
+pub record IsServedPiece (content : Content) (subject : Subject) (tries : ℕ) (meta : Meta)
+    (piece : ℕ) : Type 0 where
   pub mirror : ℕ
   pub known : mirror < mirrors_by subject
   pub held : List ℕ
@@ -51,7 +52,8 @@ module _ {D : Type 0} (state : D → DiskState) where
       (tells : Bool) (start : RunStart) (told : List RunTurn) (disk : D) (gid : Gid) (meta : Meta) (want : Want) (old : LinkAt)
       → IsTrue tells → (is : IsListedRun start told (state disk) gid meta want) → IsWorkedOver tells told old
       → (piece : ℕ)
-      → (served : IsServedPiece old.state.content is.listed.download.subject (tries_in is.listed.download) meta piece)
+      → (served : IsServedPiece old.state.content is.listed.download.subject
+      (tries_in is.listed.download) meta piece)
       → ¬ HasFailedLink (history_of told) gid served.mirror
       → (mark : Mark) → ¬ Contains (history_of told) (Ended gid (Dead piece mark))
 
@@ -61,7 +63,8 @@ module _ {D : Type 0} (state : D → DiskState) where
       (tells : Bool) (start : RunStart) (told : List RunTurn) (disk : D) (gid : Gid) (meta : Meta) (want : Want) (old : LinkAt)
       → IsTrue tells → (is : IsListedRun start told (state disk) gid meta want) → IsWorkedOver tells told old
       → ((piece : ℕ) → piece < pieces_of meta.plan.total meta.plan.piece_len
-      → IsServedPiece old.state.content is.listed.download.subject (tries_in is.listed.download) meta piece)
+      → IsServedPiece old.state.content is.listed.download.subject
+      (tries_in is.listed.download) meta piece)
       → ((mirror : ℕ) → ¬ HasFailedLink (history_of told) gid mirror) → IsOnly start (history_of told) gid
       → LacksControlFirst told (state disk) want
       → (other : Gid) (how : End) → Contains (history_of told) (Ended other how) → (other ≡ gid) × (how ≡ Complete)

@@ -1,4 +1,4 @@
--- A run over one link, whose mirrors hold the pieces of a metainfo file's payload between them, is done, where nothing cuts it short.
+-- A run over one link, whose mirrors hold the pieces of a payload between them, is done, where nothing cuts it short.
 use Rattle.std.proofs.Common.{◌≡◌, ◌⊎◌, inl, inr, ⊎_elim, ℕ, IsTrue, List, [], ◌∷◌, Some, refl, sym, ap, ◌∙◌, subst, arith}
 use Rattle.std.specs.Prelude.{◌<◌, ◌++◌, reverse}
 use Rattle.blameless_mirrors.specs.Blameless.{IsListedAlone}
@@ -46,7 +46,8 @@ use Rattle.served_pieces.proofs.Unbegun.{never_began}
 use Rattle.served_pieces.proofs.Worked.{worked_over}
 
 -- what is known of every run
-pub record Laws {D O L : Type 0} (K : Type 0) (says : DiskSays D) (sinks : SinkSays O) (links : LinkSays L) : Type 0 where
+pub record Laws {D O L : Type 0} (K : Type 0) (says : DiskSays D) (sinks : SinkSays O) (links : LinkSays L)
+    : Type 0 where
   pub append : TurnsAppend
   pub stay : DownloadsStay
   pub lines : LinesAreOne
@@ -59,7 +60,8 @@ pub record Laws {D O L : Type 0} (K : Type 0) (says : DiskSays D) (sinks : SinkS
 
 module _ {D O L K : Type 0} {says : DiskSays D} {sinks : SinkSays O} {links : LinkSays L} {words : List (List ℕ)}
     {gids doors : ℕ} {disk : D} {old : L × K} {out : O} {ended : Ended D} {new : L × K} {out' : O} where
-  module _ (laws : Laws K says sinks links) (run : RanOverOne says sinks links words gids doors disk old out ended new out')
+  module _ (laws : Laws K says sinks links)
+      (run : RanOverOne says sinks links words gids doors disk old out ended new out')
       (tells : IsTrue says.tells) (link_tells : IsTrue links.tells)
       (named : CommandLine) (meta : Meta) (uris : List (List ℕ))
       (is : IsServedByPieces says links sinks words disk (old ∷ []) out ended (new ∷ []) out' named meta uris) where
@@ -102,13 +104,20 @@ module _ {D O L K : Type 0} {says : DiskSays D} {sinks : SinkSays O} {links : Li
       gid = one.download.gid
 
       lone : IsLoneListed start past gid meta
-      lone = record { download = one.download; added = one.there; uris = uris; subject = one.subject_is; only = one.only }
+      lone = record {
+        download = one.download;
+        added = one.there;
+        uris = uris;
+        subject = one.subject_is;
+        only = one.only;
+      }
 
       abbrev want : Want
       want = want_of one.download meta
 
       listed : IsListedAlone start told gid meta want
-      listed = laws.alone start told gid meta want lone (has_want start past gid one.download meta uris one.there one.subject_is)
+      listed = laws.alone start told gid meta want lone
+          (has_want start past gid one.download meta uris one.there one.subject_is)
 
       download_is : listed.download ≡ one.download
       download_is = let both : Some listed.download ≡ Some one.download = sym listed.added ∙ one.there in cc
@@ -137,28 +146,32 @@ module _ {D O L K : Type 0} {says : DiskSays D} {sinks : SinkSays O} {links : Li
         run = told_run ran tells;
         listed = listed;
         memory = one.memory;
-        well = faultless says sinks laws.disk words gids doors disk out ended out' ran gid is.well.of_disk.0 is.well.of_disk.1;
+        well = faultless says sinks laws.disk words gids doors disk out ended out' ran gid is.well.of_disk.0
+            is.well.of_disk.1;
       }
 
       ends : OnlyCompletes says sinks ended.journal.events.items gid × EndsUnfailed ended.ending
       ends = ends_here says sinks laws.disk words gids doors disk out ended out' ran gid
           (laws.complete links.tells start told ended.disk gid meta want (link_at links old.0) link_tells listed_run
           (worked_over run asked_call.its asked_call.is) serves
-          (no_failed_link it (laws.shows words gids doors disk (old ∷ []) out ended (new ∷ []) out' (inr it)) is.well gid)
+          (no_failed_link it (laws.shows words gids doors disk (old ∷ []) out ended (new ∷ []) out' (inr it)) is.well
+          gid)
           one.only lacks)
 
       done : IsDone ended ⊎ (ended.ending ≡ NoMemory)
-      done = comes {links = links} {olds = old ∷ []} {news = new ∷ []} ran laws.shown is.well (Listed meta uris) laws.done one
-          ends.0 ends.1
+      done = comes {links = links} {olds = old ∷ []} {news = new ∷ []} ran laws.shown is.well (Listed meta uris)
+          laws.done one ends.0 ends.1
 
     completes_here : IsDone ended ⊎ (ended.ending ≡ NoMemory) ⊎ WasCutShort D links (old ∷ []) (new ∷ [])
     completes_here = ⊎_elim
         (λ (one : RanOne ran (Listed meta uris)). ⊎_elim (λ (well : IsDone ended). inl well)
         (λ (starved : ended.ending ≡ NoMemory). inr (inl starved)) (done one))
         (λ more. inr more)
-        (ran_one laws.append laws.stay it asked_call.its asked_call.is (Listed meta uris) asked_call.adds usual (omega arith))
+        (ran_one laws.append laws.stay it asked_call.its asked_call.is (Listed meta uris) asked_call.adds usual
+        (omega arith))
 
-  pub completes_pieces : Laws K says sinks links → IsRunOverOne says sinks links words gids doors disk old out ended new out'
+  pub completes_pieces : Laws K says sinks links
+      → IsRunOverOne says sinks links words gids doors disk old out ended new out'
       → IsTrue says.tells → IsTrue links.tells
       → CompletesPieces says links sinks words disk (old ∷ []) out ended (new ∷ []) out'
   completes_pieces laws (inl never) tells link_tells named meta uris is =

@@ -1,4 +1,5 @@
--- A run whose words name a metainfo file with mirrors, over a disk that does not fail, ends before it begins for want of memory alone.
+-- A run whose words name a metainfo file with mirrors ends before it begins for want of memory alone, where the disk
+-- did not fail.
 use Rattle.std.proofs.Common.{◌≡◌, ⊎_elim, ℕ, IsTrue, List, Some, None, Ok, Err, length, refl, sym, ap, ◌∙◌, subst, arith}
 use Rattle.std.specs.Prelude.{◌+◌, ◌≤◌, ◌<◌}
 use Rattle.command_line.specs.LineLaws.{LinesAreOne}
@@ -28,7 +29,8 @@ use Rattle.brought_runs.proofs.Unbegun.{not_risen}
 
 -- ---- a run that didn't begin
 
-refused_words : (words : List (List ℕ)) (ending : RunEnding) (line : CommandLine) → IsLine words line → RefusesWords words ending → ending ≡ NoMemory
+refused_words : (words : List (List ℕ)) (ending : RunEnding) (line : CommandLine) → IsLine words line
+    → RefusesWords words ending → ending ≡ NoMemory
 refused_words words NoMeaning line means refuses = absurd (refuses line means)
 refused_words words NoMemory line means refuses = refl
 refused_words words other line means refuses = absurd refuses
@@ -38,8 +40,8 @@ no_memory_printed : {O : Type 0} (sinks : SinkSays O) (out out' : O) (refusal en
 no_memory_printed {O} sinks out out' refusal ending at prints =
     (subst (λ (r : RunEnding). PrintsRefusal sinks r out out' ending) at prints).0
 
-refused_source : (words : List (List ℕ)) (seen : Files) (line : CommandLine) (meta : Meta) (uris : List (List ℕ)) (error : SourceErr)
-    → (names : NamesPayload words seen line meta uris) → 1 ≤ length meta.seeds + length uris → (error ≡ Fault → ⊥)
+refused_source : (words : List (List ℕ)) (seen : Files) (line : CommandLine) (meta : Meta) (uris : List (List ℕ))
+    (error : SourceErr) → (names : NamesPayload words seen line meta uris) → 1 ≤ length meta.seeds + length uris → (error ≡ Fault → ⊥)
     → RefusesSource seen (source.Metainfo names.file uris) error → ending_of_source error ≡ NoMemory
 refused_source words seen line meta uris Missing names some unfailed refuses =
     absurd (let never : None ≡ Some names.says.bytes = sym refuses ∙ names.says.has.holds in cc)
@@ -64,10 +66,10 @@ refused_source words seen line meta uris (Mirrors count) names some unfailed ref
     (λ (many : MAX_MIRRORS < count). omega (arith, counts, many, few)) refuses.wrong)
 refused_source words seen line meta uris Starved names some unfailed refuses = refl
 
-module _ {D O : Type 0} {says : DiskSays D} {sinks : SinkSays O} {words : List (List ℕ)} {disk : D} {out : O} {ended : Ended D}
-    {out' : O} where
-  pub never_began : LinesAreOne → IsTrue says.tells → NeverBegan says sinks words disk out ended out' → (named : CommandLine)
-      (meta : Meta) (uris : List (List ℕ)) → NamesPayload words (says.state disk).seen named meta uris
+module _ {D O : Type 0} {says : DiskSays D} {sinks : SinkSays O} {words : List (List ℕ)} {disk : D}
+    {out : O} {ended : Ended D} {out' : O} where
+  pub never_began : LinesAreOne → IsTrue says.tells → NeverBegan says sinks words disk out ended out'
+      → (named : CommandLine) (meta : Meta) (uris : List (List ℕ)) → NamesPayload words (says.state disk).seen named meta uris
       → 1 ≤ length meta.seeds + length uris → HadNoFault (says.faults disk) (says.faults ended.disk)
       → ended.ending ≡ NoMemory
   never_began lines tells never named meta uris its some well =

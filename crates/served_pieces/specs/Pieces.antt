@@ -1,4 +1,4 @@
--- What a run over one link comes to, where each piece of a metainfo file's payload has a mirror in memory that holds it.
+-- What a run over one link comes to, where each piece of a payload has a mirror in memory.
 use Rattle.std.specs.Prelude.{◌≡◌, ◌⊎◌, ◌<◌, ◌≤◌, ◌+◌, ◌++◌, ℕ, IsTrue, codes, None, Some, List, [], ◌∷◌, Result, length, slice_get}
 use Rattle.brought_runs.specs.Completes.{HadNoFaults, IsDone, NamesPayload, WasCutShort}
 use Rattle.brought_runs.specs.CompletesUris.{own_options}
@@ -22,18 +22,22 @@ use Rattle.run_report.specs.declared.endings.RunEnding.TheVariants.{NoMemory}
 
 -- ---- what is given
 
--- Over each link, as it was given, each piece has a mirror that holds it, and has fewer bad answers left than tries.
-abbrev pub AllServePieces : {L K : Type 0} → LinkSays L → List (L × K) → Meta → List (List ℕ) → ℕ → Type 0
+-- Over each link, as it was given, each piece has a mirror that holds it, with fewer bad answers
+-- left than tries.
+abbrev pub AllServePieces : {L K : Type 0} → LinkSays L → List (L × K) → Meta → List (List ℕ) → ℕ
+    → Type 0
 AllServePieces {L} {K} links olds meta uris tries =
     (place : ℕ) (old : L × K) → slice_get olds place ≡ Some old → (piece : ℕ)
     → piece < pieces_of meta.plan.total meta.plan.piece_len
     → IsServedPiece (links.state old.0).content (Listed meta uris) tries meta piece
 
-module _ {D L K O : Type 0} (says : DiskSays D) (links : LinkSays L) (sinks : SinkSays O) (words : List (List ℕ)) (disk : D)
-    (olds : List (L × K)) (out : O) (ended : Ended D) (news : List (L × K)) (out' : O) where
-  -- The line names a metainfo file, and there is a mirror. Each piece is served so, with the tries that the line says. No control
-  -- file stands, and nothing fails.
-  pub record IsServedByPieces (line : CommandLine) (meta : Meta) (uris : List (List ℕ)) : Type 0 where
+module _ {D L K O : Type 0} (says : DiskSays D) (links : LinkSays L) (sinks : SinkSays O)
+    (words : List (List ℕ)) (disk : D) (olds : List (L × K)) (out : O) (ended : Ended D)
+    (news : List (L × K)) (out' : O) where
+  -- The line names a metainfo file, and there is a mirror. Each piece is served so, with the tries
+  -- that the line says. No control file stands, and nothing fails.
+  pub record IsServedByPieces (line : CommandLine) (meta : Meta) (uris : List (List ℕ)) : Type 0
+    where
     pub names : NamesPayload words (says.state disk).seen line meta uris
     pub some : 1 ≤ length meta.seeds + length uris
     pub serve : AllServePieces links olds meta uris (number_value (own_options line) MaxTries)
@@ -51,10 +55,12 @@ module _ {D L K O : Type 0} (says : DiskSays D) (links : LinkSays L) (sinks : Si
 -- ---- runs over one link
 
 module _ {D O L K : Type 0} (says : DiskSays D) (sinks : SinkSays O) (links : LinkSays L) where
-  -- a run in which all between the line's own call and the last stop are the turns of one worker over this link, in order
-  pub record RanOverOne (words : List (List ℕ)) (gids doors : ℕ) (disk : D) (old : L × K) (out : O) (ended : Ended D)
-      (new : L × K) (out' : O) : Type 0 where
-    pub over : RanOverLinks says sinks links words gids doors disk (old ∷ []) out ended (new ∷ []) out'
+  -- a run in which all between the line's own call and the last stop are the turns of one worker
+  -- over this link, in order
+  pub record RanOverOne (words : List (List ℕ)) (gids doors : ℕ) (disk : D) (old : L × K) (out : O)
+      (ended : Ended D) (new : L × K) (out' : O) : Type 0 where
+    pub over : RanOverLinks says sinks links words gids doors disk (old ∷ []) out ended (new ∷ [])
+        out'
     pub from : RunSight D
     pub to : RunSight D
     pub came : Result WorkEnd Spent
@@ -62,14 +68,19 @@ module _ {D O L K : Type 0} (says : DiskSays D) (sinks : SinkSays O) (links : Li
     pub order : over.ran.stops.middle ≡ its.worked ++ its.stop
 
   -- it ended before it began, or ran so
-  abbrev pub IsRunOverOne : List (List ℕ) → (gids doors : ℕ) → D → L × K → O → Ended D → L × K → O → Type 0
+  abbrev pub IsRunOverOne : List (List ℕ) → (gids doors : ℕ) → D → L × K → O → Ended D → L × K → O
+      → Type 0
   IsRunOverOne words gids doors disk old out ended new out' =
-      NeverBegan says sinks words disk out ended out' ⊎ RanOverOne words gids doors disk old out ended new out'
+      NeverBegan says sinks words disk out ended out'
+      ⊎ RanOverOne words gids doors disk old out ended new out'
 
-module _ {D O L : Type 0} (K : Type 0) (says : DiskSays D) (sinks : SinkSays O) (links : LinkSays L) where
+module _ {D O L : Type 0} (K : Type 0) (says : DiskSays D) (sinks : SinkSays O)
+    (links : LinkSays L) where
   -- what is served piece by piece comes
   abbrev pub RunsCompletePieces : Type 0
   RunsCompletePieces =
-      (words : List (List ℕ)) (gids doors : ℕ) (disk : D) (old : L × K) (out : O) (ended : Ended D) (new : L × K) (out' : O)
-      → IsRunOverOne says sinks links words gids doors disk old out ended new out' → IsTrue says.tells → IsTrue links.tells
+      (words : List (List ℕ)) (gids doors : ℕ) (disk : D) (old : L × K) (out : O) (ended : Ended D)
+      (new : L × K) (out' : O)
+      → IsRunOverOne says sinks links words gids doors disk old out ended new out'
+      → IsTrue says.tells → IsTrue links.tells
       → CompletesPieces says links sinks words disk (old ∷ []) out ended (new ∷ []) out'

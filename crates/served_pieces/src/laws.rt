@@ -12,8 +12,8 @@ use machine_core::downloads_stay;
 use paid_marks::served_downloads_only_complete;
 use run_frame::{runs_end_as_shown, runs_show_their_disk};
 
-/// What is served piece by piece comes: a run over one link is done, if each piece of the metainfo file has a mirror there that holds it and
-/// has fewer bad answers left than tries, unless it was cut short.
+/// What is served piece by piece comes: a run over one link is done, if each piece of the metainfo file has a mirror
+/// there that holds it, with fewer bad answers left than tries, unless it was cut short.
 pub fn runs_complete_served_pieces<D: Disk, L: Links, K, O: Sink>()
     ensures { RunsCompletePieces K D.Disk O.Sink L.Links }
 {

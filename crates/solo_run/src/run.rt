@@ -69,8 +69,8 @@ pub fn run_alone<D: Disk, L: Links, K: Clock, A, O: Sink>(
         (map string_bytes words.now) disk (take 1 links.items) out.old (ended_of result)
         (take 1 result.links.items) out.new }
     // So it is where each piece has a mirror that holds it, with fewer bad answers left than tries.
-    ensures completes_pieces { IsTrue D.tells → IsTrue L.tells → CompletesPieces D.Disk L.Links O.Sink
-        (map string_bytes words.now) disk (take 1 links.items) out.old (ended_of result)
+    ensures completes_pieces { IsTrue D.tells → IsTrue L.tells → CompletesPieces D.Disk L.Links
+        O.Sink (map string_bytes words.now) disk (take 1 links.items) out.old (ended_of result)
         (take 1 result.links.items) out.new }
     // So it is without a metainfo file, where all mirrors lead alike to one resource and no file stands in its folder; and
     // then its file has just the resource's bytes.
