@@ -38,11 +38,11 @@ module _ {D L K O : Type 0} (says : DiskSays D) (links : LinkSays L) (sinks : Si
   -- that the line says. No control file stands, and nothing fails.
   pub record IsServedByPieces (line : CommandLine) (meta : Meta) (uris : List (List ℕ)) : Type 0
     where
-    pub names : NamesPayload words (says.state disk).seen line meta uris
-    pub some : 1 ≤ length meta.seeds + length uris
-    pub serve : AllServePieces links olds meta uris (number_value (own_options line) MaxTries)
-    pub fresh : (name : List ℕ) → (says.state disk).seen (name ++ codes ".aria2") ≡ None
-    pub well : HadNoFaults says links sinks words disk olds out ended news out'
+      pub names : NamesPayload words (says.state disk).seen line meta uris
+      pub some : 1 ≤ length meta.seeds + length uris
+      pub serve : AllServePieces links olds meta uris (number_value (own_options line) MaxTries)
+      pub fresh : (name : List ℕ) → (says.state disk).seen (name ++ codes ".aria2") ≡ None
+      pub well : HadNoFaults says links sinks words disk olds out ended news out'
 
   -- ---- what comes
 
