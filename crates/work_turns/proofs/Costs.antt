@@ -13,7 +13,7 @@ use Rattle.conn_worker.specs.Sound.{NoGrant}
 use Rattle.conn_worker.specs.Table.{FollowsAnswer, FollowsDelivery, FollowsFetch, FollowsGrant, FollowsKept, FollowsMore, LeavesFetch, LeavesNothing, StepsOn, goes_on_by}
 use Rattle.conn_worker.specs.declared.hands.Gain.{Gain}
 use Rattle.conn_worker.specs.declared.hands.Gain.TheVariants.{Lost, Open, Ready, Starved}
-use Rattle.work_turns.specs.Receiving.{received_over}
+use Rattle.work_turns.proofs.Receiving.{received_over}
 use Rattle.work_turns.proofs.Followed.{fetch_followed, grant_followed, nothing_followed, probe_followed, seal_followed}
 
 -- ---- bytes

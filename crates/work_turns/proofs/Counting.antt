@@ -14,7 +14,7 @@ use Rattle.conn_worker.specs.Sound.{AnswersAreSound}
 use Rattle.conn_worker.specs.Table.{end_behind, end_of_hand}
 use Rattle.conn_worker.specs.Works.{EndsOrGoesOn, turn_moment}
 use Rattle.conn_worker.specs.declared.ends.WorkEnd.{WorkEnd}
-use Rattle.work_turns.specs.Receiving.{DoesOnward, WorksOnward, received_over}
+use Rattle.work_turns.proofs.Receiving.{DoesOnward, WorksOnward, received_over}
 use Rattle.work_turns.specs.TurnBounds.{ComeAfter, CountsBlocks, DeliveriesCount, HoldsOnce, NeverIdle, SealsAreTaken, IsSealTaken, TurnsAreBounded, is_hold}
 use Rattle.work_turns.proofs.Appending.{EndsBy, answered}
 use Rattle.work_turns.proofs.Costs.{MeasuredHand, answer_measured, cost_of, gained_received}

@@ -1,3 +1,4 @@
+pub mod Receiving
 pub mod Appending
 pub mod Followed
 pub mod Costs

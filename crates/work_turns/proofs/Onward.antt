@@ -13,7 +13,7 @@ use Rattle.conn_worker.specs.Works.{EndsOrGoesOn, Works}
 use Rattle.conn_worker.specs.declared.ends.WorkEnd.{WorkEnd}
 use Rattle.conn_worker.specs.declared.hands.Gain.{Gain}
 use Rattle.conn_worker.specs.declared.hands.Gain.TheVariants.{Lost, Open, Ready, Starved}
-use Rattle.work_turns.specs.Receiving.{WorksOnward, received_over}
+use Rattle.work_turns.proofs.Receiving.{WorksOnward, received_over}
 use Rattle.work_turns.proofs.Costs.{IsMeasured, MeasuredBy, MeasuredHand, answer_measured, gained_received}
 use Rattle.work_turns.proofs.Followed.{fetch_followed, grant_followed, nothing_followed, probe_followed, seal_followed}
 

@@ -23,7 +23,7 @@ use Rattle.conn_worker.specs.declared.hands.Gain.{Gain}
 use Rattle.conn_worker.specs.declared.hands.Gain.TheVariants.{Lost, Open, Ready, Starved}
 use Rattle.conn_worker.specs.declared.hands.ProbeEnd.{ProbeEnd}
 use Rattle.conn_worker.specs.declared.hands.ProbeEnd.TheVariants.{Told, Missed, Lacking}
-use Rattle.work_turns.specs.Receiving.{received_over}
+use Rattle.work_turns.proofs.Receiving.{received_over}
 use Rattle.work_turns.specs.TurnBounds.{CountsBlocks, IsSealTaken, is_hold}
 use Rattle.work_turns.proofs.Appending.{AppendsOrEnds, AppendsOrVoid, ComesOfMore, ComesOfNext, EndsBy, Hashes, kept_counts, lose_row, more_row, next_row, of_claim, seal_row, sized_row}
 use Rattle.work_turns.proofs.Costs.{IsMeasured, MeasuredBy, MeasuredHand, cost_few, cost_of, gain_cost, gain_measured}

@@ -1,4 +1,3 @@
-pub mod Receiving
 pub mod TurnBounds
 pub mod Alone
 pub mod Reads
