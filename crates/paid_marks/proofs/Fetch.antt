@@ -192,10 +192,10 @@ module _ (laws : PayingLaws) (tells : Bool) (true_is : IsTrue tells) (first : Co
       (slice_of meta.layout (run_start job.plan job.run) (run_end job.plan job.run - run_start job.plan job.run))))
       (subst (λ (parts : List JobPart). AreKnownOf since.state.content among parts (known_of meta held piece job)) (sym parts_are)
       (known_slice since.state.content among meta.layout base held low high total_is
-      (λ file from to. laws.leads first since.state.content redirect_limit _ _ same
-      (holds.leads file (record { from = from; to = to })))
-      (λ file from to. laws.among first since.state.content among _ same
-      (holds.through file (record { from = from; to = to })))
+      (λ file some from to. laws.leads first since.state.content redirect_limit _ _ same
+      (holds.leads file (record { some = some; from = from; to = to })))
+      (λ file some from to. laws.among first since.state.content among _ same
+      (holds.through file (record { some = some; from = from; to = to })))
       laws.hold (run_start job.plan job.run) (run_end job.plan job.run - run_start job.plan job.run)))
       fetched
 
@@ -219,8 +219,8 @@ module _ (laws : PayingLaws) (tells : Bool) (true_is : IsTrue tells) (first : Co
       let within : at + k < meta.plan.total = below_right (at + k) ((piece + 1) * meta.plan.piece_len) meta.plan.total before in
       let laid = holds.laid in
       known_byte first among meta.layout (mirror_url (Listed meta uris) mirror) held low high total_is
-      (λ file from to. holds.leads file (record { from = from; to = to }))
-      (λ file from to. holds.through file (record { from = from; to = to }))
+      (λ file some from to. holds.leads file (record { some = some; from = from; to = to }))
+      (λ file some from to. holds.through file (record { some = some; from = from; to = to }))
       at (run_end job.plan job.run - run_start job.plan job.run) k r (omega (arith, short, less)) (omega (arith, within, laid)) from
       before is
 

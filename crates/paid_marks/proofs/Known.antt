@@ -212,9 +212,9 @@ file_within (f ∷ fs) (suc n) =
 
 module _ (content : Content) (among : ℕ → Bool) (files : List FileLen) (base held : List ℕ) (low high : ℕ)
     (total : total_of files ≡ length held)
-    (leads : (file : ℕ) → total_of (take file files) < high → low < total_of (take file files) + len_of_file files file
+    (leads : (file : ℕ) → 0 < len_of_file files file → total_of (take file files) < high → low < total_of (take file files) + len_of_file files file
     → Leads content redirect_limit (seed_url_of files base file) (file_bytes files held file))
-    (through : (file : ℕ) → total_of (take file files) < high → low < total_of (take file files) + len_of_file files file
+    (through : (file : ℕ) → 0 < len_of_file files file → total_of (take file files) < high → low < total_of (take file files) + len_of_file files file
     → UrlLeadsAmong content among (seed_url_of files base file)) where
   file_long : (n : ℕ) → length (file_bytes files held n) ≡ len_of_file files n
   file_long n =
@@ -232,17 +232,20 @@ module _ (content : Content) (among : ℕ → Bool) (files : List FileLen) (base
       let end : ℕ = start + len_of_file files part.file in
       let p = and_left (nat_lt start high) (nat_lt low end) both in
       let q = and_right (nat_lt start high) (nat_lt low end) both in
+      let within = part_within files part is in
+      let bytes = is.some in
+      let some : 0 < len_of_file files part.file = omega (arith, within, bytes) in
       let from : start < high = grind (arith, nat_tests) in
       let to : low < end = grind (arith, nat_tests) in
       inl (
         part_at (file_bytes files held part.file) part.at part.len,
         record {
           resource = file_bytes files held part.file;
-          leads = leads part.file from to;
+          leads = leads part.file some from to;
           size = file_long part.file;
           bytes_are = refl;
         },
-        through part.file from to,
+        through part.file some from to,
         decoded_part (file_bytes files held part.file) part.at part.len,
       )
   known_part part false is both = inr (none_part (len_of_file files part.file) part.at part.len (part_within files part is))

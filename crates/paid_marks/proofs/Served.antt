@@ -23,7 +23,7 @@ use Rattle.served_claims.proofs.Histories.{may_at}
 use Rattle.served_claims.proofs.Working.{StandsBehind, stands_first}
 use Rattle.paid_marks.specs.Holding.{HoldsPiece, bad_among}
 use Rattle.paid_marks.specs.Paid.{AffordedNeverDie, CostAtMost, IsRightFor}
-use Rattle.paid_marks.specs.Served.{IsWorkedOver, ServedNeverDie}
+use Rattle.paid_marks.specs.Served.{IsWorkOfOne, ServedNeverDie}
 use Rattle.paid_marks.proofs.Fetch.{PayingLaws}
 use Rattle.paid_marks.proofs.Opened.{Opens, opens_end, opens_next}
 use Rattle.paid_marks.proofs.Over.{onto, works_pay}
@@ -76,7 +76,7 @@ module _ (laws : PayingLaws) (stay : DownloadsStay) (lengths_stay : LengthsStay)
             (λ u there. none u (suc there.0, (let w = there.1 in omega (arith, w)), there.2)) n cost,
       )
 
-  pub cost_of : (over : IsWorkedOver tells told old) → EndsKnown old tells gid meta mirror piece told
+  pub cost_of : (over : IsWorkOfOne tells told old) → EndsKnown old tells gid meta mirror piece told
       → (k : ℕ) × CostAtMost gid mirror meta held piece told k × (k ≤ bad_among among old.state.content)
   cost_of over known =
       let cut : told ≡ over.last ++ onto over.first over.worked =

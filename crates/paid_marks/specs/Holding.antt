@@ -13,19 +13,21 @@ use Rattle.span_map.specs.Layout.{total_of}
 use Rattle.paid_marks.specs.Paid.{HasPiece}
 
 -- the piece has bytes of the file of this number
-pub record IsTouched (meta : Meta) (piece file : ℕ) : Type 0 where
+pub record IsFileOfPiece (meta : Meta) (piece file : ℕ) : Type 0 where
+  pub some : 0 < len_of_file meta.layout file
   pub from : total_of (take file meta.layout) < piece_end meta.plan.total meta.plan.piece_len piece
   pub to : piece_start meta.plan.piece_len piece < total_of (take file meta.layout) + len_of_file meta.layout file
 
--- For each file of which the piece has bytes, the mirror's URL leads within 20 redirects to a resource of that file's length, through
--- some of these mirrors in memory alone; and the bytes of the piece that are held there have its digest.
+-- For each file of which the piece has bytes, the mirror's URL leads within 20 redirects to a resource of that
+-- file's length, through some of these mirrors in memory alone; and the bytes of the piece that are held there
+-- have its digest.
 pub record HoldsPiece (content : Content) (meta : Meta) (base held : List ℕ) (among : ℕ → Bool) (piece : ℕ) : Type 0 where
   pub has : HasPiece meta held piece
   pub laid : total_of meta.layout ≡ meta.plan.total
   pub small : length held < 2 ^ 63
-  pub leads : (file : ℕ) → IsTouched meta piece file
+  pub leads : (file : ℕ) → IsFileOfPiece meta piece file
       → Leads content redirect_limit (seed_url_of meta.layout base file) (file_bytes meta.layout held file)
-  pub through : (file : ℕ) → IsTouched meta piece file
+  pub through : (file : ℕ) → IsFileOfPiece meta piece file
       → UrlLeadsAmong content among (seed_url_of meta.layout base file)
 
 -- how many bad answers these mirrors have still to give

@@ -1,4 +1,5 @@
--- Mirrors that hold a piece of a payload, and what it costs to have marks held against them for it. The newest turn is the first.
+-- Mirrors that hold a piece of a payload, and what it costs to have marks held against them for it. The newest
+-- turn is the first.
 use Rattle.std.specs.Prelude.{◌≡◌, ◌⊎◌, ◌<◌, ◌≤◌, ◌-◌, ℕ, suc, Some, Contains, List, [], ◌∷◌, length, count_by, slice_get}
 use Rattle.control_file.specs.declared.want.Want.{Want}
 use Rattle.dl_disk.specs.State.{DiskState}
@@ -51,8 +52,8 @@ HasRightBytes lengths held piece run bytes =
 
 -- ---- what marks cost
 
--- The turn brings nothing wrong from the mirror for the piece: where blocks of its claim land, the bytes of the piece among those
--- that were delivered are the held ones; and no claim at it is lost for the piece.
+-- The turn brings nothing wrong from the mirror for the piece: where blocks of its claim land, the bytes of the
+-- piece among those that were delivered are the held ones; and no claim at it is lost for the piece.
 pub record IsRightFor (gid : Gid) (mirror : ℕ) (meta : Meta) (held : List ℕ) (piece : ℕ) (t : RunTurn) : Type 0 where
   pub landed : (claim : ℕ) (run part : Run) (bytes : List ℕ) (now at : Moment) → t.op ≡ Deliver claim run bytes now
       → Contains t.events (Landed gid claim mirror part at)
@@ -78,7 +79,8 @@ pub record IsListedRun (start : RunStart) (told : List RunTurn) (disk : DiskStat
   pub memory : HaveMemory told
   pub well : HasNoDiskFault (history_of told)
 
--- A mirror of the download holds the piece, and fewer turns than it has tries bring something wrong from it for the piece.
+-- A mirror of the download holds the piece, and fewer turns than it has tries bring something wrong from it for
+-- the piece.
 pub record IsAffordable (told : List RunTurn) (gid : Gid) (meta : Meta) (mirrors tries piece : ℕ) : Type 0 where
   pub mirror : ℕ
   pub known : mirror < mirrors

@@ -1,4 +1,5 @@
--- Runs whose work is one worker's over one link, and mirrors in memory that hold their pieces. The newest turn is the first.
+-- Runs whose work is one worker's over one link, and mirrors in memory that hold their pieces. The newest turn is
+-- the first.
 use Rattle.std.specs.Prelude.{◌≡◌, ◌<◌, ◌++◌, ℕ, Bool, IsTrue, Contains, List, reverse}
 use Rattle.control_file.specs.declared.want.Want.{Want}
 use Rattle.conn_worker.specs.Hands.{LinkAt}
@@ -22,8 +23,9 @@ use Rattle.served_claims.specs.Laws.{UsesClaim}
 use Rattle.paid_marks.specs.Holding.{HoldsPiece, bad_among}
 use Rattle.paid_marks.specs.Paid.{IsListedRun}
 
--- Among these turns are all those of one worker over its link, which was so at first; no turn before them or behind them uses a claim.
-pub record IsWorkedOver (tells : Bool) (told : List RunTurn) (old : LinkAt) : Type 0 where
+-- Among these turns are all those of one worker over its link, which was so at first; no turn before them or
+-- behind them uses a claim.
+pub record IsWorkOfOne (tells : Bool) (told : List RunTurn) (old : LinkAt) : Type 0 where
   pub worker : ℕ
   pub first : List RunTurn
   pub worked : List RunTurn
@@ -50,7 +52,7 @@ module _ {D : Type 0} (state : D → DiskState) where
   abbrev pub ServedNeverDie : Type 0
   ServedNeverDie =
       (tells : Bool) (start : RunStart) (told : List RunTurn) (disk : D) (gid : Gid) (meta : Meta) (want : Want) (old : LinkAt)
-      → IsTrue tells → (is : IsListedRun start told (state disk) gid meta want) → IsWorkedOver tells told old
+      → IsTrue tells → (is : IsListedRun start told (state disk) gid meta want) → IsWorkOfOne tells told old
       → (piece : ℕ)
       → (served : IsServedPiece old.state.content is.listed.download.subject
       (tries_in is.listed.download) meta piece)
@@ -61,7 +63,7 @@ module _ {D : Type 0} (state : D → DiskState) where
   abbrev pub ServedOnlyComplete : Type 0
   ServedOnlyComplete =
       (tells : Bool) (start : RunStart) (told : List RunTurn) (disk : D) (gid : Gid) (meta : Meta) (want : Want) (old : LinkAt)
-      → IsTrue tells → (is : IsListedRun start told (state disk) gid meta want) → IsWorkedOver tells told old
+      → IsTrue tells → (is : IsListedRun start told (state disk) gid meta want) → IsWorkOfOne tells told old
       → ((piece : ℕ) → piece < pieces_of meta.plan.total meta.plan.piece_len
       → IsServedPiece old.state.content is.listed.download.subject
       (tries_in is.listed.download) meta piece)

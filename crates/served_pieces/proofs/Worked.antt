@@ -11,7 +11,7 @@ use Rattle.dl_kinds.specs.declared.outside.Sink.{Ghosts as SinkSays}
 use Rattle.engine_turns.specs.Told.{RunTurn}
 use Rattle.link_source.specs.declared.Links.{Ghosts as LinkSays}
 use Rattle.machine_core.specs.declared.calls.Call.{Call}
-use Rattle.paid_marks.specs.Served.{IsWorkedOver}
+use Rattle.paid_marks.specs.Served.{IsWorkOfOne}
 use Rattle.run_frame.specs.Begins.{IsOwnCall}
 use Rattle.run_frame.specs.Finishes.{Ran}
 use Rattle.run_frame.specs.Stops.{all_turns}
@@ -64,7 +64,7 @@ module _ {D O L K : Type 0} {says : DiskSays D} {sinks : SinkSays O} {links : Li
       (from_reverse one.its.stop t stopped)) uses)
       (first_or_later ran.stops.last (reverse one.its.stop) t there)
 
-  pub worked_over : IsWorkedOver links.tells (reverse (all_turns says ran.stops)) (link_at links old.0)
+  pub worked_over : IsWorkOfOne links.tells (reverse (all_turns says ran.stops)) (link_at links old.0)
   worked_over = record {
     worker = 0;
     first = reverse ran.begun.desk.own;
