@@ -1,5 +1,5 @@
 -- A run over links that lead to all that a metainfo file lists is done, where nothing cuts it short.
-use Rattle.std.proofs.Common.{◌≡◌, ◌⊎◌, inl, inr, ⊎_elim, ℕ, IsTrue, List, Some, length, sym, ap, ◌∙◌, subst}
+use Rattle.std.proofs.Common.{◌≡◌, ◌⊎◌, inl, inr, ⊎_elim, ℕ, IsTrue, List, Some, length, sym, ap, ◌∙◌, subst, arith}
 use Rattle.std.specs.Prelude.{◌≤◌, ◌<◌, reverse}
 use Rattle.blameless_mirrors.specs.Blameless.{IsListedAlone}
 use Rattle.blameless_mirrors.specs.Lone.{IsLoneListed, LoneAreAlone}
@@ -146,6 +146,7 @@ module _ {D O L K : Type 0} {says : DiskSays D} {sinks : SinkSays O} {links : Li
       → 1 ≤ length olds → IsTrue says.tells → IsTrue links.tells
       → CompletesServed says links sinks words disk olds out ended news out'
   completes_served laws (inl never) links_are tells link_tells named meta uris mirror payload is =
-      inr (inl (never_began laws.lines tells never named meta uris mirror payload is))
+      let known = is.known in
+      inr (inl (never_began laws.lines tells never named meta uris is.names (omega (arith, known)) is.well.of_disk))
   completes_served laws (inr it) links_are tells link_tells named meta uris mirror payload is =
       completes_here laws it tells link_tells named meta uris mirror payload is links_are

@@ -1,4 +1,5 @@
--- A run whose words name a served payload ends before it begins for want of memory alone.
+-- A run whose words name a metainfo file with mirrors, or URIs, ends before it begins for want of memory alone, where the disk
+-- did not fail.
 use Rattle.std.proofs.Common.{◌≡◌, ⊎_elim, ℕ, IsTrue, List, Some, None, Ok, Err, length, refl, sym, ap, ◌∙◌, subst, arith}
 use Rattle.std.specs.Prelude.{◌+◌, ◌-◌, ◌≤◌, ◌<◌, ◌^◌}
 use Rattle.command_line.specs.LineLaws.{LinesAreOne}
@@ -14,7 +15,6 @@ use Rattle.dl_words.specs.Counts.{Rose}
 use Rattle.first_call.specs.Sources.{RefusesSource}
 use Rattle.first_call.specs.declared.refusals.SourceErr.{SourceErr}
 use Rattle.first_call.specs.declared.refusals.SourceErr.TheVariants.{Fault, Meta as MetaError, Mirrors, Missing, NoMemory as Starved, TooLarge}
-use Rattle.link_source.specs.declared.Links.{Ghosts as LinkSays}
 use Rattle.metainfo.specs.Info.{Info, info_of}
 use Rattle.metainfo.specs.Rules.{metainfo_of}
 use Rattle.metainfo.specs.declared.meta.Meta.{Meta}
@@ -24,7 +24,7 @@ use Rattle.run_frame.specs.Finishes.{NeverBegan, PrintsRefusal}
 use Rattle.run_frame.specs.declared.ended.Ended.{Ended}
 use Rattle.run_report.specs.declared.endings.RunEnding.{RunEnding}
 use Rattle.run_report.specs.declared.endings.RunEnding.TheVariants.{NoMeaning, NoMemory}
-use Rattle.brought_runs.specs.Completes.{IsServedWhole, NamesPayload}
+use Rattle.brought_runs.specs.Completes.{HadNoFault, NamesPayload}
 use Rattle.brought_runs.proofs.FileCalls.{says_one}
 
 -- ---- counts
@@ -73,31 +73,28 @@ refused_source words seen line meta uris (Mirrors count) names some unfailed ref
     (λ (many : MAX_MIRRORS < count). omega (arith, counts, many, few)) refuses.wrong)
 refused_source words seen line meta uris Starved names some unfailed refuses = refl
 
-module _ {D L K O : Type 0} {says : DiskSays D} {links : LinkSays L} {sinks : SinkSays O} {words : List (List ℕ)}
-    {disk : D} {olds : List (L × K)} {out : O} {ended : Ended D} {news : List (L × K)} {out' : O} where
-  pub never_began : LinesAreOne → IsTrue says.tells → NeverBegan says sinks words disk out ended out' → (named : CommandLine)
-      (meta : Meta) (uris : List (List ℕ)) (mirror : ℕ) (payload : List ℕ)
-      → IsServedWhole says links sinks words disk olds out ended news out' named meta uris mirror payload
+module _ {D O : Type 0} {says : DiskSays D} {sinks : SinkSays O} {words : List (List ℕ)} {disk : D}
+    {out : O} {ended : Ended D} {out' : O} where
+  pub never_began : LinesAreOne → IsTrue says.tells → NeverBegan says sinks words disk out ended out'
+      → (named : CommandLine) (meta : Meta) (uris : List (List ℕ)) → NamesPayload words (says.state disk).seen named meta uris
+      → 1 ≤ length meta.seeds + length uris → HadNoFault (says.faults disk) (says.faults ended.disk)
       → ended.ending ≡ NoMemory
-  never_began lines tells never named meta uris mirror payload is =
+  never_began lines tells never named meta uris its some well =
       no_memory_printed sinks out out' never.refusal ended.ending (⊎_elim
       (λ (wrong : RefusesWords words never.refusal × (ended.disk ≡ disk)).
-      refused_words words never.refusal named is.names.means wrong.0)
+      refused_words words never.refusal named its.means wrong.0)
       (λ more. ⊎_elim
       (λ (lacks : LacksCall says words disk ended.disk never.refusal).
       let names : NamesPayload words (says.state disk).seen lacks.line meta uris =
       subst (λ (l : CommandLine). NamesPayload words (says.state disk).seen l meta uris)
-      (lines words named lacks.line is.names.means lacks.means) is.names in
-      let known = is.known in
-      lacks.ending_is ∙ refused_source words (says.state disk).seen lacks.line meta uris lacks.error names (omega (arith, known))
-      (λ fault. not_risen (says.faults disk) (says.faults ended.disk) (says.faults ended.disk) is.well.of_disk.0 is.well.of_disk.1
+      (lines words named lacks.line its.means lacks.means) its in
+      lacks.ending_is ∙ refused_source words (says.state disk).seen lacks.line meta uris lacks.error names some
+      (λ fault. not_risen (says.faults disk) (says.faults ended.disk) (says.faults ended.disk) well.0 well.1
       (lacks.fault fault) (omega arith))
       (subst (λ (s : Source). RefusesSource (says.state disk).seen s lacks.error) names.named (lacks.told tells)))
       (λ (starved : never.refusal ≡ NoMemory). starved) more) never.ends) never.prints
 
--- .. nor where they name URIs
-module _ {D O : Type 0} {says : DiskSays D} {sinks : SinkSays O} {words : List (List ℕ)} {disk : D} {out : O} {ended : Ended D}
-    {out' : O} where
+  -- .. nor where they name URIs
   pub never_began_uris : LinesAreOne → IsTrue says.tells → NeverBegan says sinks words disk out ended out' → (named : CommandLine)
       (uris : List (List ℕ)) → IsLine words named → named.source ≡ source.Mirrors uris → ended.ending ≡ NoMemory
   never_began_uris lines tells never named uris means is =

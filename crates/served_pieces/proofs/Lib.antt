@@ -1,3 +1,2 @@
-pub mod Unbegun
 pub mod Worked
 pub mod Pieced

@@ -42,7 +42,7 @@ use Rattle.run_frame.specs.declared.ended.Ended.{Ended}
 use Rattle.run_frame.proofs.Ran as ran_facts
 use Rattle.run_report.specs.declared.endings.RunEnding.TheVariants.{NoMemory}
 use Rattle.served_pieces.specs.Pieces.{CompletesPieces, IsRunOverOne, IsServedByPieces, RanOverOne}
-use Rattle.served_pieces.proofs.Unbegun.{never_began}
+use Rattle.brought_runs.proofs.Unbegun.{never_began}
 use Rattle.served_pieces.proofs.Worked.{worked_over}
 
 -- what is known of every run
