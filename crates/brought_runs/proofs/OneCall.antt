@@ -1,21 +1,17 @@
 -- A run whose only call adds a download has that one alone.
 use Rattle.std.proofs.Common.{◌≡◌, ℕ, Bool, true, false, cond, Some, None, List, [], ◌∷◌, ◌++◌, refl, sym, ap, ◌∙◌, arith}
-use Rattle.std.specs.Prelude.{box_value, reverse}
-use Rattle.std.proofs.lemmas.Bool.{eq-eqb}
+use Rattle.std.specs.Prelude.{reverse}
 use Rattle.std.proofs.lemmas.List.{reverse-append}
 use Rattle.dl_kinds.specs.declared.gid.Gid.{Gid}
 use Rattle.dl_kinds.specs.declared.runs.Moment.{Moment}
 use Rattle.machine_core.proofs.Parts.{gid_is}
-use Rattle.machine_core.specs.Replays.{download_of, is_same_gid, next_gid, replay_of, with_settings}
+use Rattle.machine_core.specs.Replays.{download_of, is_same_gid, replay_of}
 use Rattle.machine_core.specs.RunLegal.{download_in}
-use Rattle.machine_core.specs.Starts.{Download, Listed, RunStart}
+use Rattle.machine_core.specs.Starts.{Download, RunStart}
 use Rattle.machine_core.specs.declared.calls.Call.{Call}
-use Rattle.machine_core.specs.declared.calls.Call.TheVariants as call
 use Rattle.machine_core.specs.declared.events.Event.{Event}
 use Rattle.machine_core.specs.declared.events.Event.TheVariants.{Called, Checked, Claimed, Cleared, Ended, Landed, Left, Lost, Opened, Saved, Settled, Sized, Stopped}
-use Rattle.metainfo.specs.declared.meta.Meta.{Meta}
-use Rattle.blameless_mirrors.specs.Lone.{IsLoneListed}
-use Rattle.brought_runs.specs.Ends.{HasNoCall, OneCallAddsOne}
+use Rattle.brought_runs.specs.Ends.{HasNoCall}
 use Rattle.brought_runs.proofs.Done.{no_call_reversed}
 use Rattle.brought_runs.proofs.Finishing.{no_call_behind}
 
@@ -53,25 +49,3 @@ module _ (start : RunStart) (session : ℕ) (now : Moment) (rest : List Event) (
   pub only_one : (other : Gid) (e : Download) → download_in start whole other ≡ Some e → other ≡ d.gid
   only_one other e added = lone_found d e other (is_same_gid other d.gid) refl
       (sym (ap (λ (ds : List Download). download_of ds other) alone_after) ∙ added)
-
-  lone_after : (meta : Meta) (uris : List (List ℕ)) → d.subject ≡ Listed meta uris
-      → (gid : Gid) × IsLoneListed start whole gid meta
-  lone_after meta uris subject = (
-    d.gid,
-    record {
-      download = d;
-      added = ap (λ (ds : List Download). download_of ds d.gid) alone_after
-          ∙ ap (λ (t : Bool). cond t (Some d) None) (eq-eqb d.gid.0 d.gid.0 refl);
-      uris = uris;
-      subject = subject;
-      only = only_one;
-    },
-  )
-
-pub adds_one : OneCallAddsOne
-adds_one start session (call.AddTorrent m uris options position) now rest meta is none =
-    let chosen = with_settings start.global options in
-    let d : Download = record { gid = next_gid start [] chosen; subject = Listed (box_value m) uris; options = chosen } in
-    lone_after start session now rest none (call.AddTorrent m uris options position) d refl meta uris
-    (ap (λ (x : Meta). Listed x uris) is)
-adds_one start session asked now rest meta is none = absurd is

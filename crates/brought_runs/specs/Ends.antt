@@ -1,8 +1,8 @@
 -- How runs end to which a mirror brings all that a metainfo file lists.
-use Rattle.std.specs.Prelude.{◌≡◌, ◌⊎◌, ◌-◌, ◌^◌, ◌<◌, ◌≤◌, ℕ, false, None, Contains, IsTrue, List, [], ◌∷◌, ◌++◌, box_value, reverse}
+use Rattle.std.specs.Prelude.{◌≡◌, ◌⊎◌, ◌-◌, ◌^◌, ◌<◌, ◌≤◌, ℕ, false, None, Contains, IsTrue, List, [], ◌∷◌, ◌++◌, reverse}
 use Rattle.std.specs.List.{list_any}
 use Rattle.blameless_mirrors.specs.Blameless.{HasFailedLink, IsListedAlone, IsPayloadOf, IsToldRun}
-use Rattle.blameless_mirrors.specs.Lone.{HaveMemory, IsLoneListed, IsOnly}
+use Rattle.blameless_mirrors.specs.Lone.{HaveMemory, IsOnly}
 use Rattle.control_file.specs.declared.want.Want.{Want}
 use Rattle.dl_disk.specs.declared.disk.Disk.{Ghosts as DiskSays}
 use Rattle.dl_kinds.specs.declared.gid.Gid.{Gid}
@@ -14,7 +14,6 @@ use Rattle.machine_core.specs.Replays.{queue_in, replay_of}
 use Rattle.machine_core.specs.RunLegal.{is_stop, mirrors_by, tries_in}
 use Rattle.machine_core.specs.Starts.{RunStart}
 use Rattle.machine_core.specs.declared.calls.Call.{Call}
-use Rattle.machine_core.specs.declared.calls.Call.TheVariants.{AddTorrent}
 use Rattle.machine_core.specs.declared.ends.End.{End}
 use Rattle.machine_core.specs.declared.ends.End.TheVariants.{Complete}
 use Rattle.machine_core.specs.declared.events.Event.{Event}
@@ -36,17 +35,6 @@ EndsUnfailed ending = (ending ≡ Done) ⊎ (ending ≡ Unfinished) ⊎ (ending 
 -- no call is among the events
 abbrev pub HasNoCall : List Event → Type 0
 HasNoCall events = (session : ℕ) (call : Call) (now : Moment) → ¬ Contains events (Called session call now)
-
--- the call adds a download of this metainfo file
-abbrev pub IsAddingOf : Call → Meta → Type 0
-IsAddingOf (AddTorrent meta uris options position) its = box_value meta ≡ its
-IsAddingOf call its = ⊥
-
--- where it is the only one, the run has one download, which is of that file
-abbrev pub OneCallAddsOne : Type 0
-OneCallAddsOne =
-    (start : RunStart) (session : ℕ) (call : Call) (now : Moment) (rest : List Event) (meta : Meta) → IsAddingOf call meta
-    → HasNoCall rest → (gid : Gid) × IsLoneListed start (reverse (Called session call now ∷ rest)) gid meta
 
 module _ {D O : Type 0} (says : DiskSays D) (sinks : SinkSays O) where
   -- what the run went by, and its turns, of which the newest is the first

@@ -1,5 +1,5 @@
 // How runs end to which a mirror brings a payload's own bytes.
-ghost use Rattle.brought_runs.specs.Ends.{BroughtRunsEndWell, FinishedAreDone, OneCallAddsOne, RunsAreTold};
+ghost use Rattle.brought_runs.specs.Ends.{BroughtRunsEndWell, FinishedAreDone, RunsAreTold};
 
 use blameless_mirrors::brought_downloads_only_complete;
 use dl_disk::Disk;
@@ -21,9 +21,4 @@ pub fn brought_runs_end_well<D: Disk, O: Sink>()
 /// unfinished. It does nothing when it runs.
 pub fn finished_runs_are_done<D: Disk, O: Sink>()
     ensures { FinishedAreDone D.Disk O.Sink }
-{}
-
-/// A run whose only call adds a download of a metainfo file has that download alone. It does nothing when it runs.
-pub fn one_call_adds_one_download()
-    ensures { OneCallAddsOne }
 {}

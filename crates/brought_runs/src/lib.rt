@@ -4,7 +4,7 @@
 mod laws;
 mod over;
 
-pub use laws::{brought_runs_end_well, finished_runs_are_done, one_call_adds_one_download};
+pub use laws::{brought_runs_end_well, finished_runs_are_done};
 pub use over::{
     runs_complete_uris, runs_complete_what_is_served, runs_show_their_links,
     runs_spare_serving_mirrors,
