@@ -10,7 +10,7 @@ use Rattle.dl_kinds.specs.declared.gid.Gid.{Gid}
 use Rattle.dl_kinds.specs.declared.outside.Sink.{Ghosts as SinkSays}
 use Rattle.dl_kinds.specs.declared.runs.Moment.{Moment}
 use Rattle.dl_words.specs.Counts.{Rose}
-use Rattle.engine_core.specs.TurnReads.{FitsFiles, IsFoundRight, OfItsWant, OpensAsRead, TakesAsRead}
+use Rattle.engine_core.specs.TurnReads.{ChecksAsRead, FitsFiles, IsFoundRight, OfItsWant, OpensAsRead, TakesAsRead}
 use Rattle.engine_turns.specs.Phases.{IsRisen}
 use Rattle.engine_turns.specs.RunTurns.{turn_start}
 use Rattle.engine_turns.specs.TurnLaws.{TurnsAppend}
@@ -18,10 +18,12 @@ use Rattle.engine_turns.specs.Told.{RunTurn, history_of}
 use Rattle.engine_turns.specs.declared.operations.Operation.{Operation}
 use Rattle.machine_core.specs.RunLegal.{download_in, info_hash_by, is_listed}
 use Rattle.machine_core.specs.Starts.{Download, RunStart, Subject, Listed, Unlisted}
+use Rattle.machine_core.specs.declared.ends.End.{End}
 use Rattle.machine_core.specs.declared.ends.End.TheVariants as end
 use Rattle.machine_core.specs.declared.events.Event.{Event}
 use Rattle.machine_core.specs.declared.events.Event.TheVariants as event
 use Rattle.piece_table.specs.declared.giver.Giver.{Giver}
+use Rattle.stored_run.specs.Refused.{IsRefusalEnd, RefusesAsRead}
 use Rattle.turn_desk.specs.Turns.{events_of}
 use Rattle.turn_desk.specs.declared.turn.Stamp.{Stamp}
 use Rattle.run_frame.specs.DiskCauses.{CameAsRead, ShowsDisk, StandsBehind}
@@ -155,6 +157,46 @@ module _ {D O : Type 0} {says : DiskSays D} {sinks : SinkSays O} {words : List (
         (⊎_elim (λ seals. sealed_right before by.turn files _ by.turn.op gid piece right giver refl fits by.there seals)
         (λ counts. found_unlisted (ran_facts.start ran) (history_of before) gid right piece files counts) found)
 
+    -- the disk read so at the mark behind the turn, too
+    read_behind : IsTrue says.tells → (e : Event) → (by : BroughtBy (ran_facts.turns ran) e)
+        → ReadSince (says.state ended.disk) (says.state disk).moment
+        ((says.state ended.disk).seen_at by.turn.after.time)
+    read_behind tells e by =
+        let within = ran_facts.between ran by.earlier by.turn by.later by.cut in
+        let fits = ran_facts.fits ran tells by.earlier by.turn by.later by.cut in
+        let first : (says.state disk).moment ≤ (says.state ran.begins.read).moment =
+        (ran.begins.is_read.passes tells).later in
+        let mark = ran_facts.mark_time ran tells in
+        let from = within.from.0 in
+        (by.turn.after.time, omega (arith, first, mark, from, fits.later), fits.within, refl)
+
+    refused_as_read : TurnsAppend → IsTrue says.tells → (gid : Gid) (how : End)
+        → Contains ended.journal.events.items (event.Ended gid how) → IsRefusalEnd how
+        → CameAsRead says words gids doors disk ended (event.Ended gid how)
+        (λ past. RefusesAsRead (ran_facts.start ran) past gid how)
+    refused_as_read append tells gid how there refusal =
+        let e = event.Ended gid how in
+        let by = ran_facts.event_brought ran e there in
+        let fits = (ran_facts.fits ran tells by.earlier by.turn by.later by.cut).fits in
+        came_as_read append tells e (λ past. RefusesAsRead (ran_facts.start ran) past gid how) by
+        (fits.refused gid how by.there refusal)
+
+    checked_as_read : TurnsAppend → IsTrue says.tells → (gid : Gid) (right : Bool)
+        → Contains ended.journal.events.items (event.Checked gid right)
+        → CameAsRead says words gids doors disk ended (event.Checked gid right)
+        (λ past. ChecksAsRead (ran_facts.start ran) past gid right)
+    checked_as_read append tells gid right there =
+        let e = event.Checked gid right in
+        let by = ran_facts.event_brought ran e there in
+        let fits = (ran_facts.fits ran tells by.earlier by.turn by.later by.cut).fits in
+        record {
+          past = history_of (reverse by.earlier);
+          behind = behind append e by;
+          files = (says.state ended.disk).seen_at by.turn.after.time;
+          read = read_behind tells e by;
+          so = fits.checked gid right by.there;
+        }
+
   pub shows_disk : TurnsAppend → IsWholeRun says sinks words gids doors disk out ended out'
       → ShowsDisk says words gids doors disk ended
   shows_disk append (inl never) = inl never.journal
@@ -164,4 +206,6 @@ module _ {D O : Type 0} {says : DiskSays D} {sinks : SinkSays O} {words : List (
     faults = fault_rose ran;
     opened = opened_as_read ran append;
     settled = settled_as_read ran append;
+    refused = refused_as_read ran append;
+    checked = checked_as_read ran append;
   })

@@ -10,10 +10,11 @@ use Rattle.dl_kinds.specs.declared.gid.Gid.{Gid}
 use Rattle.dl_kinds.specs.declared.runs.Moment.{Moment}
 use Rattle.dl_words.specs.Counts.{Rose}
 use Rattle.engine_core.specs.Askings.{IsAsked}
-use Rattle.engine_core.specs.TurnReads.{IsFoundRight, IsUntouched, OfItsWant, OpensAsRead}
+use Rattle.engine_core.specs.TurnReads.{ChecksAsRead, IsFoundRight, IsUntouched, OfItsWant, OpensAsRead}
 use Rattle.engine_turns.specs.Told.{RunTurn, history_of}
 use Rattle.machine_core.specs.DownloadWants.{HasWant}
 use Rattle.machine_core.specs.Starts.{RunStart}
+use Rattle.machine_core.specs.declared.ends.End.{End}
 use Rattle.machine_core.specs.declared.ends.End.TheVariants as end
 use Rattle.machine_core.specs.declared.events.Event.{Event}
 use Rattle.machine_core.specs.declared.events.Event.TheVariants as event
@@ -21,6 +22,7 @@ use Rattle.machine_core.specs.declared.journal.Journal.{Journal}
 use Rattle.piece_table.specs.declared.giver.Giver.{Giver}
 use Rattle.resume_core.specs.Sharing.{names_of_want}
 use Rattle.resume_core.specs.Steps.{SameFor}
+use Rattle.stored_run.specs.Refused.{IsRefusalEnd, RefusesAsRead}
 use Rattle.run_frame.specs.Begins.{start_of_line}
 use Rattle.run_frame.specs.declared.ended.Ended.{Ended}
 
@@ -53,8 +55,8 @@ module _ {D : Type 0} (says : DiskSays D) (words : List (List ℕ)) (gids doors 
     pub read : ReadSince (says.state ended.disk) (says.state disk).moment files
     pub so : IsSo past files
 
-  -- A fault of the disk that ended a download rose in this run, to its count. Each opening, and each finding of a piece,
-  -- was as the disk read at a moment of it.
+  -- A fault of the disk that ended a download rose in this run, to its count. Each opening, each opening that was refused,
+  -- each finding of a piece and each whole check was as the disk read at a moment of it.
   pub record DiskCauses : Type 0 where
     pub line : CommandLine
     pub means : IsLine words line
@@ -68,6 +70,14 @@ module _ {D : Type 0} (says : DiskSays D) (words : List (List ℕ)) (gids doors 
         → Contains ended.journal.events.items (event.Settled gid piece right giver)
         → CameAsRead (event.Settled gid piece right giver)
         (λ past files. OfItsWant (start_of_line gids doors line.globals) past gid (IsFoundRight right piece files))
+    pub refused : IsTrue says.tells → (gid : Gid) (how : End)
+        → Contains ended.journal.events.items (event.Ended gid how) → IsRefusalEnd how
+        → CameAsRead (event.Ended gid how)
+        (λ past. RefusesAsRead (start_of_line gids doors line.globals) past gid how)
+    pub checked : IsTrue says.tells → (gid : Gid) (right : Bool)
+        → Contains ended.journal.events.items (event.Checked gid right)
+        → CameAsRead (event.Checked gid right)
+        (λ past. ChecksAsRead (start_of_line gids doors line.globals) past gid right)
 
   abbrev pub ShowsDisk : Type 0
   ShowsDisk = (ended.journal.events.items ≡ []) ⊎ DiskCauses
