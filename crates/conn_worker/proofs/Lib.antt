@@ -7,4 +7,5 @@ pub mod Sounds
 pub mod Allowing
 pub mod Later
 pub mod Bringing
+pub mod Asked
 pub mod TakingTurns

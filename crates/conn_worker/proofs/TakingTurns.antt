@@ -12,12 +12,13 @@ use Rattle.engine_turns.specs.declared.operations.Said.{Said}
 use Rattle.link_source.specs.declared.Links.{Ghosts as LinkSays}
 use Rattle.turn_desk.specs.Laws.{NoTurnsChangeNothing, TurnsAddUp}
 use Rattle.turn_desk.specs.Sights.{Took, Went}
+use Rattle.conn_worker.specs.Clocks.{ReadsClockForEach, clock_at}
 use Rattle.conn_worker.specs.Ends.{end_of_said, is_finished, moment_behind, pause_of}
 use Rattle.conn_worker.specs.Hands.{Hand, LinkAt, WorkerAt, fresh, link_at}
 use Rattle.conn_worker.specs.Holding.{HasOutcome, EndsAs, IsInHand, IsInHandOf, IsNewState, IsWaiting, MakesTurn, StandsAs, StaysWaiting}
 use Rattle.conn_worker.specs.Sound.{AnswersAreSound, IsSoundAnswer}
 use Rattle.conn_worker.specs.Table.{FollowsAnswer, due_op, end_behind}
-use Rattle.conn_worker.specs.Works.{ComesOut, Does, EndsRun, RunSight, StandsIn, StopsAt, StopsUnlessFinished, Worked, Workplace, Works, WorksOn, WorksOnce, turn_moment, workplace}
+use Rattle.conn_worker.specs.Works.{ComesOut, Does, EndsRun, RunSight, StandsIn, StopsAt, StopsUnlessFinished, WorkedByClock, WorkedWithin, Workplace, Works, WorksOn, WorksOnWithin, WorksOnce, clock_in, turn_moment, workplace}
 use Rattle.conn_worker.specs.declared.ends.Spent.{Spent}
 use Rattle.conn_worker.specs.declared.ends.WorkEnd.{WorkEnd}
 use Rattle.conn_worker.specs.declared.ends.WorkEnd.TheVariants as end
@@ -25,6 +26,7 @@ use Rattle.conn_worker.specs.declared.hands.InHand.{InHand}
 use Rattle.conn_worker.specs.declared.hands.Waiting.{Waiting}
 use Rattle.conn_worker.specs.declared.state.WorkState.{WorkState}
 use Rattle.conn_worker.specs.declared.working.TheConstants.{MAX_TURNS}
+use Rattle.conn_worker.proofs.Asked.{asked_more}
 use Rattle.conn_worker.proofs.Turns.{one_more}
 
 -- ---- one turn
@@ -111,6 +113,7 @@ module _ {D L K : Type 0} (links : LinkSays L) (clocks : ClockSays K) where
     pub worked : List RunTurn
     pub count : length worked ≡ turns
     pub went : Went ties_run old.sight worked new.sight
+    pub asked : ReadsClockForEach clocks worked (clock_in links clocks old) (clock_in links clocks new)
     pub worker : new.state.worker ≡ old.state.worker
     pub does : (a : WorkerAt) → StandsIn links clocks old a → (b : WorkerAt)
         × Works links.tells old.state.worker worked a b None × StandsIn links clocks new b
@@ -120,6 +123,7 @@ module _ {D L K : Type 0} (links : LinkSays L) (clocks : ClockSays K) where
     worked = [];
     count = refl;
     went = none p.sight;
+    asked = refl;
     worker = refl;
     does = λ a st. (a, (refl, refl), st);
   }
@@ -133,6 +137,7 @@ module _ {D L K : Type 0} (links : LinkSays L) (clocks : ClockSays K) where
     worked : List RunTurn
     count : length worked ≡ turns
     went : Went ties_run old.sight worked new.sight
+    asked : ReadsClockForEach clocks worked (clock_in links clocks old) (clock_in links clocks new)
     worker : new.state.worker ≡ old.state.worker
     does : (a : WorkerAt) → StandsIn links clocks old a → (b : WorkerAt)
         × Works links.tells old.state.worker worked a b by × StandsIn links clocks new b
@@ -143,6 +148,8 @@ module _ {D L K : Type 0} (links : LinkSays L) (clocks : ClockSays K) where
     worked = goes.worked ++ once.turn ∷ [];
     count = (let count = goes.count in let len = length-append goes.worked (once.turn ∷ []) in omega (arith, count, len));
     went = more old.sight mid.sight new.sight goes.worked (once.turn ∷ []) goes.went once.went;
+    asked = asked_more clocks goes.worked once.turn once.told (clock_in links clocks old) (clock_in links clocks mid)
+        (clock_in links clocks new) goes.asked once.asked;
     worker = once.worker ∙ goes.worker;
     does = λ a st.
         let d = goes.does a st in
@@ -158,33 +165,42 @@ module _ {D L K : Type 0} (links : LinkSays L) (clocks : ClockSays K) where
       → GoesOn old mid turns → WorksOnce links clocks mid new by → GoesOn old new (turns + 1)
   goes_further old mid new turns by none more goes once =
       let r = subst (λ (e : Option WorkEnd). Adds old new (turns + 1) e) none (adds old mid new turns by more goes once) in
-      record { worked = r.worked; count = r.count; went = r.went; worker = r.worker; does = r.does }
+      record { worked = r.worked; count = r.count; went = r.went; asked = r.asked; worker = r.worker; does = r.does }
 
+  -- the last of so many turns ended the work
   pub ends_so : (old mid new : Workplace D L K) (turns : ℕ) (by : Option WorkEnd) (e : WorkEnd) → by ≡ Some e
+      → TurnsAddUp (ties_run {D = D}) → GoesOn old mid turns → WorksOnce links clocks mid new by
+      → (its : WorksOn links clocks old new (Ok e)) × (length its.worked ≡ turns + 1)
+  ends_so old mid new turns by e some more goes once =
+      let r = adds old mid new turns by more goes once in (
+        record {
+          worked = r.worked;
+          went = r.went;
+          asked = r.asked;
+          worker = r.worker;
+          does = λ a st. let d = r.does a st in (d.0, record { end = by; works = d.1; is = some }, d.2);
+        },
+        r.count,
+      )
+
+  pub ends_within : (old mid new : Workplace D L K) (turns : ℕ) (by : Option WorkEnd) (e : WorkEnd) → by ≡ Some e
       → turns < MAX_TURNS → TurnsAddUp (ties_run {D = D}) → GoesOn old mid turns → WorksOnce links clocks mid new by
-      → WorksOn links clocks old new (Ok e)
-  ends_so old mid new turns by e some few more goes once =
-      let r = adds old mid new turns by more goes once in
-      let count = r.count in record {
-        worked = r.worked;
-        went = r.went;
-        worker = r.worker;
-        does = λ a st.
-            let d = r.does a st in (
-              d.0,
-              record { end = by; works = d.1; is = (some, omega (arith, few, count)) },
-              d.2,
-            );
-      }
+      → WorksOnWithin links clocks old new (Ok e)
+  ends_within old mid new turns by e some few more goes once =
+      let ends = ends_so old mid new turns by e some more goes once in
+      let count = ends.1 in record { its = ends.0; few = omega (arith, few, count) }
 
   pub all_spent : (old new : Workplace D L K) (turns : ℕ) (spent : Spent) → turns ≡ MAX_TURNS → GoesOn old new turns
-      → WorksOn links clocks old new (Err spent)
+      → WorksOnWithin links clocks old new (Err spent)
   all_spent old new turns spent all goes = record {
-    worked = goes.worked;
-    went = goes.went;
-    worker = goes.worker;
-    does = λ a st.
-        let d = goes.does a st in (d.0, record { end = None; works = d.1; is = (refl, goes.count ∙ all) }, d.2);
+    its = record {
+      worked = goes.worked;
+      went = goes.went;
+      asked = goes.asked;
+      worker = goes.worker;
+      does = λ a st. let d = goes.does a st in (d.0, record { end = None; works = d.1; is = refl }, d.2);
+    };
+    few = goes.count ∙ all;
   }
 
 -- ---- the end of a run
@@ -204,30 +220,55 @@ finished (Ok end.NoMemory) moment s is none = (let no : false ≡ true = is in c
 finished (Err spent) moment s is none = (let no : false ≡ true = is in cc)
 
 module _ {D L K : Type 0} (links : LinkSays L) (clocks : ClockSays K) where
-  pub worked : (s s' : RunSight D) (state : WorkState) (link : L) (clock : K) (worker : ℕ) (mid : Workplace D L K)
-      (result : Result WorkEnd Spent) → TurnsAddUp (ties_run {D = D}) → IsNewState worker state
-      → WorksOn links clocks (workplace s state link clock) mid result
-      → EndsRun result mid.state.moment.0 mid.sight s' → Worked links worker s link s' mid.link result
-  worked s s' state link clock worker mid result more new works ends =
-      let from = link_at links link in
-      let d = works.does (fresh from) (new.stands links.tells from) in record {
-        worked = works.worked;
-        stop = ends.0;
-        b = d.0;
-        link_is = d.2.link_is;
-        comes_out = inl (subst (λ w. ComesOut links.tells w works.worked (fresh from) d.0 result) new.worker_is d.1);
-        stops = subst (λ m. StopsUnlessFinished result m ends.0) (sym d.2.moment_is) ends.1;
-        went = more s mid.sight s' works.worked ends.0 works.went ends.2;
-      }
+  module _ (s s' : RunSight D) (state : WorkState) (link : L) (clock : K) (worker : ℕ) (mid : Workplace D L K)
+      (result : Result WorkEnd Spent) where
+    -- from a new state on
+    pub worked : TurnsAddUp (ties_run {D = D}) → IsNewState worker state
+        → WorksOn links clocks (workplace s state link clock) mid result
+        → EndsRun result mid.state.moment.0 mid.sight s'
+        → WorkedByClock links clocks worker s (link, clock) s' (mid.link, mid.clock) result
+    worked more new works ends =
+        let from = link_at links link in
+        let d = works.does (fresh from) (new.stands links.tells from) in record {
+          its = record {
+            worked = works.worked;
+            stop = ends.0;
+            b = d.0;
+            link_is = d.2.link_is;
+            comes_out = inl (subst (λ w. ComesOut links.tells w works.worked (fresh from) d.0 result) new.worker_is d.1);
+            stops = subst (λ m. StopsUnlessFinished result m ends.0) (sym d.2.moment_is) ends.1;
+            went = more s mid.sight s' works.worked ends.0 works.went ends.2;
+          };
+          asked = subst (λ (m : ℕ). ReadsClockForEach clocks works.worked (clock_at 0 clock) (clock_at m mid.clock))
+              (sym d.2.moment_is)
+              (subst (λ (m : Moment). ReadsClockForEach clocks works.worked (clock_at m.0 clock) (clock_in links clocks mid))
+              new.moment_is works.asked);
+        }
 
-  pub no_room : (s s' : RunSight D) (link : L) (worker : ℕ) → StopsAt (record { 0 = 0 }) s s'
-      → Worked links worker s link s' link (Ok end.NoMemory)
-  no_room s s' link worker stop = record {
-    worked = [];
-    stop = stop.0 ∷ [];
-    b = fresh (link_at links link);
-    link_is = refl;
-    comes_out = inr (record { none = refl; same = refl; result_is = refl });
-    stops = (stop.0, refl, stop.2);
-    went = stop.1;
+    pub worked_within : TurnsAddUp (ties_run {D = D}) → IsNewState worker state
+        → WorksOnWithin links clocks (workplace s state link clock) mid result
+        → EndsRun result mid.state.moment.0 mid.sight s'
+        → WorkedWithin links clocks worker s (link, clock) s' (mid.link, mid.clock) result
+    unfolding worked
+    worked_within more new works ends = record { its = worked more new works.its ends; few = works.few }
+
+  pub no_room : (s s' : RunSight D) (link : L) (clock : K) (worker : ℕ) → StopsAt (record { 0 = 0 }) s s'
+      → WorkedByClock links clocks worker s (link, clock) s' (link, clock) (Ok end.NoMemory)
+  no_room s s' link clock worker stop = record {
+    its = record {
+      worked = [];
+      stop = stop.0 ∷ [];
+      b = fresh (link_at links link);
+      link_is = refl;
+      comes_out = inr (record { none = refl; same = refl; result_is = refl });
+      stops = (stop.0, refl, stop.2);
+      went = stop.1;
+    };
+    asked = refl;
   }
+
+  pub no_room_within : (s s' : RunSight D) (link : L) (clock : K) (worker : ℕ) → StopsAt (record { 0 = 0 }) s s'
+      → WorkedWithin links clocks worker s (link, clock) s' (link, clock) (Ok end.NoMemory)
+  unfolding no_room
+  no_room_within s s' link clock worker stop =
+      record { its = no_room s s' link clock worker stop; few = omega arith }

@@ -13,6 +13,7 @@ use Rattle.engine_core.specs.EngineViews.{EngineStart}
 use Rattle.machine_core.specs.declared.events.Event.{Event}
 use Rattle.turn_desk.specs.Sights.{Went}
 use Rattle.turn_desk.specs.declared.turn.Sight.{Sight}
+use Rattle.conn_worker.specs.Clocks.{ClockAt, ReadsClockFor, ReadsClockForEach, clock_at}
 use Rattle.conn_worker.specs.Ends.{moment_behind, pause_of}
 use Rattle.conn_worker.specs.Hands.{WorkerAt, fresh, link_at}
 use Rattle.conn_worker.specs.Holding.{StandsAs}
@@ -50,32 +51,27 @@ Works tells worker (t ∷ ts) a b end =
     ((ts ≡ []) × (b ≡ m) × (end ≡ end_behind t.answer.said m.hand))
     (Works tells worker ts m b end)
 
--- ---- clocks
-
-abbrev pub PausesBy : {K : Type 0} → ClockSays K → K → Option ℕ → K → Type 0
-PausesBy {K} says old None new = new ≡ old
-PausesBy {K} says old (Some ms) new = says.pauses old ms new
-
--- it was asked once, and then paused so long
-abbrev pub ReadsClockOnce : {K : Type 0} → ClockSays K → K → ℕ → Option ℕ → K → Type 0
-ReadsClockOnce {K} says old told pause new = (asked : K) × says.reads old told asked × PausesBy says asked pause new
+-- ---- how work comes out
 
 abbrev pub RunSight : Type 0 → Type 0
 RunSight D = Sight (EngineStart D) Operation Answer Event
 
--- ---- how work comes out
+-- by how its last turn ended it
+abbrev pub IsOutcomeOf : Option WorkEnd → Result WorkEnd Spent → Type 0
+IsOutcomeOf end (Ok by) = end ≡ Some by
+IsOutcomeOf end (Err spent) = end ≡ None
 
--- by how its last turn ended it, and how many there were
-abbrev pub IsOutcomeOf : ℕ → Option WorkEnd → Result WorkEnd Spent → Type 0
-IsOutcomeOf turns end (Ok by) = (end ≡ Some by) × (turns ≤ MAX_TURNS)
-IsOutcomeOf turns end (Err spent) = (end ≡ None) × (turns ≡ MAX_TURNS)
+-- no more turns than a worker may take whose turns are limited, and just as many where none of them ended the work
+abbrev pub IsWithinTurns : ℕ → Result WorkEnd Spent → Type 0
+IsWithinTurns turns (Ok by) = turns ≤ MAX_TURNS
+IsWithinTurns turns (Err spent) = turns ≡ MAX_TURNS
 
--- turns of the table, until one ended the work, or as many as a worker takes
+-- turns of the table, until one ended the work, or no more were taken
 pub record ComesOut (tells : Bool) (worker : ℕ) (worked : List RunTurn) (a b : WorkerAt) (result : Result WorkEnd Spent)
     : Type 0 where
   pub end : Option WorkEnd
   pub works : Works tells worker worked a b end
-  pub is : IsOutcomeOf (length worked) end result
+  pub is : IsOutcomeOf end result
 
 -- the room of a fetch couldn't be made, and no turn of the table was taken
 pub record HasNoRoom (worked : List RunTurn) (a b : WorkerAt) (result : Result WorkEnd Spent) : Type 0 where
@@ -126,12 +122,15 @@ module _ {D L K : Type 0} (links : LinkSays L) (clocks : ClockSays K) where
   abbrev pub StandsIn : Workplace D L K → WorkerAt → Type 0
   StandsIn p a = StandsAs links.tells p.state (link_at links p.link) a
 
+  abbrev pub clock_in : Workplace D L K → ClockAt K
+  clock_in p = clock_at p.state.moment.0 p.clock
+
   -- One turn was taken, and what its answer asks was done: whatever the state stood for, it is as the table says.
   pub record WorksOnce (old new : Workplace D L K) (result : Option WorkEnd) : Type 0 where
     pub turn : RunTurn
     pub went : Went ties_run old.sight (turn ∷ []) new.sight
     pub told : ℕ
-    pub asked : ReadsClockOnce clocks old.clock told (pause_of turn.answer.said) new.clock
+    pub asked : ReadsClockFor clocks told turn (clock_in old) (clock_in new)
     pub worker : new.state.worker ≡ old.state.worker
     pub does : (a : WorkerAt) → StandsIn old a → (b : WorkerAt)
         × Does links.tells old.state.worker told turn a b
@@ -141,6 +140,24 @@ module _ {D L K : Type 0} (links : LinkSays L) (clocks : ClockSays K) where
   pub record WorksOn (old new : Workplace D L K) (result : Result WorkEnd Spent) : Type 0 where
     pub worked : List RunTurn
     pub went : Went ties_run old.sight worked new.sight
+    pub asked : ReadsClockForEach clocks worked (clock_in old) (clock_in new)
     pub worker : new.state.worker ≡ old.state.worker
     pub does : (a : WorkerAt) → StandsIn old a → (b : WorkerAt)
         × ComesOut links.tells old.state.worker worked a b result × StandsIn new b
+
+  -- .. no more of them than a limited worker may take
+  pub record WorksOnWithin (old new : Workplace D L K) (result : Result WorkEnd Spent) : Type 0 where
+    pub its : WorksOn old new result
+    pub few : IsWithinTurns (length its.worked) result
+
+  -- The worker took its turns over the link, and its clock was asked once for each of the table's, and for nothing else.
+  pub record WorkedByClock (worker : ℕ) (s : RunSight D) (edge : L × K) (s' : RunSight D) (edge' : L × K)
+      (result : Result WorkEnd Spent) : Type 0 where
+    pub its : Worked links worker s edge.0 s' edge'.0 result
+    pub asked : ReadsClockForEach clocks its.worked (clock_at 0 edge.1) (clock_at its.b.moment edge'.1)
+
+  -- .. and took no more of them than a limited worker may
+  pub record WorkedWithin (worker : ℕ) (s : RunSight D) (edge : L × K) (s' : RunSight D) (edge' : L × K)
+      (result : Result WorkEnd Spent) : Type 0 where
+    pub its : WorkedByClock worker s edge s' edge' result
+    pub few : IsWithinTurns (length its.its.worked) result

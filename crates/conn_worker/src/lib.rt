@@ -6,6 +6,7 @@ mod ends;
 mod fetching;
 mod following;
 mod hands;
+mod keeping;
 mod laws;
 mod probing;
 mod state;
@@ -13,6 +14,7 @@ mod turning;
 mod working;
 
 pub use ends::{IDLE_PAUSE, Spent, WorkEnd};
+pub use keeping::keep_work;
 pub use laws::{answers_are_sound, links_receive_what_is_allowed, turns_bring_what_came};
 pub use state::WorkState;
 pub use turning::work_once;

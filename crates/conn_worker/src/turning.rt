@@ -1,8 +1,9 @@
 // One turn of a worker, and what its answer asks.
 ghost use Rattle.std.specs.Prelude.{◌≡◌};
+ghost use Rattle.conn_worker.specs.Clocks.{PausesBy};
 ghost use Rattle.conn_worker.specs.Ends.{moment_behind};
 ghost use Rattle.conn_worker.specs.Hands.{WorkerAt};
-ghost use Rattle.conn_worker.specs.Works.{PausesBy, StandsIn, WorksOnce, turn_moment, workplace};
+ghost use Rattle.conn_worker.specs.Works.{StandsIn, WorksOnce, turn_moment, workplace};
 
 use crate::answers_are_sound;
 use crate::ends::{WorkEnd, end_of, pause_of};

@@ -1,8 +1,8 @@
-// The turns of a worker until its work ends.
+// The turns of a worker until its work ends, no more than so many.
 ghost use Rattle.std.specs.Prelude.{◌≡◌};
 ghost use Rattle.conn_worker.specs.Hands.{WorkerAt};
 ghost use Rattle.conn_worker.specs.Ends.{is_finished};
-ghost use Rattle.conn_worker.specs.Works.{EndsRun, StandsIn, StopsAt, Worked, WorksOn, workplace};
+ghost use Rattle.conn_worker.specs.Works.{EndsRun, StandsIn, StopsAt, WorkedWithin, WorksOnWithin, workplace};
 
 use crate::ends::{Spent, WorkEnd, is_finished};
 use crate::state::WorkState;
@@ -16,11 +16,11 @@ use link_source::Links;
 use std::alloc::Global;
 use turn_desk::{Desk, turns_add_up};
 
-/// The most turns of the table that a worker takes.
+/// The most turns of the table that a worker takes whose turns are limited.
 pub const MAX_TURNS: u64 = 281_474_976_710_656;
 
 /// The run is stopped.
-fn stop<D: Disk, T: Desk<Engine<D>>>(desk: &mut T, now: Moment)
+pub(crate) fn stop<D: Disk, T: Desk<Engine<D>>>(desk: &mut T, now: Moment)
     ensures stops { StopsAt now (T.sight desk.old) (T.sight desk.new) }
     ensures desk_id { T.desk_id desk.new ≡ T.desk_id desk.old }
 {
@@ -29,7 +29,7 @@ fn stop<D: Disk, T: Desk<Engine<D>>>(desk: &mut T, now: Moment)
 }
 
 /// Unless the run is finished, it is stopped.
-fn stop_unless_finished<D: Disk, T: Desk<Engine<D>>>(
+pub(crate) fn stop_unless_finished<D: Disk, T: Desk<Engine<D>>>(
     desk: &mut T,
     came: Result<WorkEnd, Spent>,
     now: Moment,
@@ -53,7 +53,7 @@ fn take_turns<L: Links, K: Clock, D: Disk, T: Desk<Engine<D>>>(
 ) -> Result<WorkEnd, Spent>
     requires { (a : WorkerAt) × StandsIn L.Links K.Clock
         (workplace (T.sight desk.old) state.old link.old clock.old) a }
-    ensures went { WorksOn L.Links K.Clock
+    ensures went { WorksOnWithin L.Links K.Clock
         (workplace (T.sight desk.old) state.old link.old clock.old)
         (workplace (T.sight desk.new) state.new link.new clock.new) result }
     ensures desk_id { T.desk_id desk.new ≡ T.desk_id desk.old }
@@ -75,8 +75,8 @@ pub fn work<L: Links, K: Clock, D: Disk, T: Desk<Engine<D>>>(
     link: &mut L,
     clock: &mut K,
 ) -> Result<WorkEnd, Spent>
-    ensures went { Worked L.Links worker (T.sight desk.old) link.old
-        (T.sight desk.new) link.new result }
+    ensures went { WorkedWithin L.Links K.Clock worker (T.sight desk.old) (link.old, clock.old)
+        (T.sight desk.new) (link.new, clock.new) result }
     ensures desk_id { T.desk_id desk.new ≡ T.desk_id desk.old }
 {
     turns_add_up::<Engine<D>>();

@@ -2,11 +2,13 @@ use Rattle.std.proofs.Common.{◌≡◌, ℕ, Option, Some, refl, sym, ap, subst
 use Rattle.std.specs.Option.{option_or}
 use Rattle.engine_turns.specs.declared.operations.Answer.{Answer}
 use Rattle.engine_turns.specs.declared.operations.Said.{Said}
+use Rattle.conn_worker.specs.Clocks.{PausesBy}
 use Rattle.conn_worker.specs.Ends.{moment_behind, pause_of}
-use Rattle.conn_worker.specs.Hands.{link_at}
-use Rattle.conn_worker.specs.Works.{PausesBy}
+use Rattle.conn_worker.specs.Hands.{WorkerAt, link_at}
+use Rattle.conn_worker.specs.Holding.{StandsAs}
 use Rattle.conn_worker.specs.declared.ends.WorkEnd.{WorkEnd}
 use Rattle.conn_worker.specs.declared.state.WorkState.{WorkState}
+use Rattle.conn_worker.proofs.Asked.{asked_for}
 use Rattle.conn_worker.proofs.TakingTurns.{Parts, once}
 use Rattle.conn_worker.proofs.turning.work_once.Goals as goal
 
@@ -41,22 +43,28 @@ returns-clause-went g c =
     } in
     let from = c.now-told.new.self in
     let to = c.pause-state.new.clock in
+    let link = link_at links c.args.link.now in
+    let link' = link_at links c.follow-next.new.link in
+    let then = λ (a : WorkerAt) (st : StandsAs links.tells old link a).
+    once links.tells old.worker told took.turn old new c.due-op.result.0 said now c.unwrap-hand.result
+    c.follow-next.result c.due-op.result.1 c.with_buffer.result c.end.result link link' a parts c.follow-next.ensures st in
+    let first = c.requires in
+    let next = then first.0 first.1 in
     record {
       turn = took.turn;
       went = c.turns_add_up.ensures.one (g.T.Desk.sight c.args.desk.now) (g.T.Desk.sight c.turn-said.new.self)
           c.due-op.result.0 c.turn-said.result took;
       told = told;
-      asked = (
-        from,
-        c.now-told.ensures.reads,
-        subst (λ (s : Said). PausesBy clocks from (pause_of s) to) (sym said_is)
-            (subst (λ (p : Option ℕ). PausesBy clocks from p to) c.pause_of.ensures c.pause-state.ensures.clock),
-      );
+      asked = asked_for clocks links.tells old.worker told took.turn old new link link' first.0 next.0
+          c.args.clock.now to next.1 first.1 next.2 (
+            from,
+            c.now-told.ensures.reads,
+            subst (λ (s : Said). PausesBy clocks from (pause_of s) to) (sym said_is)
+                (subst (λ (p : Option ℕ). PausesBy clocks from p to) c.pause_of.ensures c.pause-state.ensures.clock),
+          );
       worker = refl {a = old.worker};
       does = λ a st.
-          let r = once links.tells old.worker told took.turn old new c.due-op.result.0 said now c.unwrap-hand.result
-          c.follow-next.result c.due-op.result.1 c.with_buffer.result c.end.result (link_at links c.args.link.now)
-          (link_at links c.follow-next.new.link) a parts c.follow-next.ensures st in (
+          let r = then a st in (
             r.0,
             r.1,
             r.2,

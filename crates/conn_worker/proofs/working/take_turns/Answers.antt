@@ -1,6 +1,6 @@
 use Rattle.std.proofs.Common.{refl, ◌∙◌, arith}
 use Rattle.conn_worker.specs.Works.{workplace}
-use Rattle.conn_worker.proofs.TakingTurns.{all_spent, ends_so, goes_further, none_yet, not_some}
+use Rattle.conn_worker.proofs.TakingTurns.{all_spent, ends_within, goes_further, none_yet, not_some}
 use Rattle.conn_worker.proofs.working.take_turns.Goals as goal
 
 pub loop-init : goal.loop-init
@@ -14,7 +14,7 @@ loop-init g c = (
 pub returns-in-Some-clause-went : goal.returns-in-Some-clause-went
 returns-in-Some-clause-went g c =
     let o = c.work_once.new in
-    ends_so g.L.Links g.K.Clock
+    ends_within g.L.Links g.K.Clock
     (workplace (g.T.Desk.sight c.args.desk.now) c.args.state.now c.args.link.now c.args.clock.now)
     (workplace (g.T.Desk.sight c.loop.desk) c.loop.state c.loop.link c.loop.clock)
     (workplace (g.T.Desk.sight o.desk) o.state o.link o.clock) c.loop.counter c.work_once.result c.in-Some.end
