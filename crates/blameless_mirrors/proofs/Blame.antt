@@ -19,7 +19,7 @@ use Rattle.machine_core.specs.RunSteps.{OpenedHavePlans}
 use Rattle.blameless_mirrors.proofs.ListedLengths.{lengths_told, listed_known}
 use Rattle.std.specs.Option.{option_and_then}
 use Rattle.stored_run.specs.RunFollows.{RunFollows}
-use Rattle.blameless_mirrors.specs.Blameless.{DeliveredAreRead, HasFailedLink, IsBroughtBy, IsListedAlone, IsPayloadOf, MarksAreOfLinks, NeverEndDead, StayEligible, WrongFindingsArentTheirs}
+use Rattle.blameless_mirrors.specs.Blameless.{DeliveredAreRead, HasChosenPieces, HasFailedLink, IsBroughtBy, IsListedAlone, MarksAreOfLinks, NeverEndDead, StayEligible, WrongFindingsArentTheirs}
 use Rattle.blameless_mirrors.proofs.Delivered.{Stands, blocks_read}
 use Rattle.blameless_mirrors.proofs.Findings.{come_of, never_wrong}
 use Rattle.blameless_mirrors.proofs.Marks.{NothingMarks, mark_cause, never_dead, unmarked_eligible}
@@ -71,12 +71,13 @@ module _ (laws : RunFollows) (plans : OpenedHavePlans) (follow : BlocksFollow) (
       known = listed_known start (history_of told) gid its.download meta its.uris its.added its.subject;
     }
 
-    never_wrong_here : IsPayloadOf meta payload → (piece : ℕ) → ¬ Contains (history_of told) (Settled gid piece false (One mirror))
+    never_wrong_here : HasChosenPieces meta its.download.options payload → (piece : ℕ)
+        → ¬ Contains (history_of told) (Settled gid piece false (One mirror))
     never_wrong_here of =
         never_wrong laws plans follow numbered start disk gid mirror meta want payload its.download its.uris its.subject
         (want_told start told gid meta want its) of told stands
 
-    nothing_marks : IsPayloadOf meta payload → ¬ HasFailedLink (history_of told) gid mirror
+    nothing_marks : HasChosenPieces meta its.download.options payload → ¬ HasFailedLink (history_of told) gid mirror
         → NothingMarks (history_of told) gid mirror
     nothing_marks of none = (
       never_wrong_here of,

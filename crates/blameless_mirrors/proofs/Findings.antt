@@ -10,6 +10,7 @@ use Rattle.dl_disk.specs.Files.{Files}
 use Rattle.dl_disk.specs.State.{DiskState}
 use Rattle.dl_history.specs.OwnEvents.{Settles}
 use Rattle.dl_history.specs.OwnLegal.{MaySettle, LegalOwn}
+use Rattle.dl_history.specs.PayloadParts.{source_in}
 use Rattle.dl_kinds.specs.Plan.{blocks_of, piece_end, piece_of, piece_start, pieces_of, IsPlan}
 use Rattle.dl_kinds.specs.PlanLaws.{BlocksFollow, PlacesAreNumbered}
 use Rattle.dl_kinds.specs.declared.gid.Gid.{Gid}
@@ -27,6 +28,7 @@ use Rattle.machine_core.specs.declared.events.Event.{Event}
 use Rattle.machine_core.specs.declared.events.Event.TheVariants.{Landed, Settled}
 use Rattle.metainfo.specs.declared.meta.Meta.{Meta}
 use Rattle.payload_files.specs.Payload.{HasFiles}
+use Rattle.piece_table.specs.Changes.{From}
 use Rattle.piece_table.specs.declared.giver.Giver.TheVariants.{One}
 use Rattle.resume_core.specs.Resume.{HasDigest, piece_payload}
 use Rattle.resume_core.specs.Wants.{files_in}
@@ -36,12 +38,14 @@ use Rattle.sha1.specs.Sha1.{sha1}
 use Rattle.stored_run.proofs.Doing.{history_on}
 use Rattle.stored_run.proofs.Left.{one_of}
 use Rattle.stored_run.specs.RunFollows.{RunFollows}
-use Rattle.blameless_mirrors.specs.Blameless.{HasBlockOf, IsPayloadOf, piece_bytes}
+use Rattle.blameless_mirrors.specs.Chosen.{IsChosenPiece}
+use Rattle.blameless_mirrors.specs.Blameless.{HasBlockOf, HasChosenPieces, piece_bytes}
 use Rattle.blameless_mirrors.proofs.Delivered.{GivenIn, Stands, blocks_stood, opened_at, stood, added_at}
 use Rattle.blameless_mirrors.proofs.EventSources.{LandsAmong, WasUntouched, source_among}
 use Rattle.blameless_mirrors.proofs.Givers.{given_whole}
 use Rattle.blameless_mirrors.proofs.Parts.{IsSealOf, wrong_sealed}
 use Rattle.blameless_mirrors.proofs.PayloadBytes.{block_at, stretch_read}
+use Rattle.blameless_mirrors.proofs.Wanting.{IsWanted, given_wanted, wanted_chosen}
 use Rattle.machine_core.specs.Openings.{lengths_of_plan}
 use Rattle.std.specs.Option.{option_and_then}
 
@@ -85,7 +89,7 @@ pieces_begin total len piece plan known =
 module _ (laws : RunFollows) (plans : OpenedHavePlans) (follow : BlocksFollow) (numbered : PlacesAreNumbered) (start : RunStart) (disk : DiskState)
     (gid : Gid) (mirror : ℕ) (meta : Meta) (want : Want) (payload : List ℕ) (download : Download) (uris : List (List ℕ))
     (subject : download.subject ≡ Listed meta uris) (is_want : IsWantOf download (lengths_told meta) want)
-    (its : IsPayloadOf meta payload) where
+    (its : HasChosenPieces meta download.options payload) where
   abbrev Fine : List RunTurn → Type 0
   Fine told = Stands laws plans follow start disk gid mirror (lengths_told meta) want payload download is_want told
 
@@ -115,11 +119,12 @@ module _ (laws : RunFollows) (plans : OpenedHavePlans) (follow : BlocksFollow) (
   plan_is : (total ≡ meta.plan.total) × (len ≡ meta.plan.piece_len)
   plan_is = (ap (λ (l : PayloadLengths). l.total) is_want.plan, ap (λ (l : PayloadLengths). l.piece_len) is_want.plan)
 
-  -- a piece whose blocks are all the payload's has its digest
+  -- a piece that the options choose whose blocks are all the payload's has its digest
   piece_right : (files : Files) → HasFiles want.dir want.layout files → (piece : ℕ) → piece < pieces_of total len
+      → IsChosenPiece meta download.options piece
       → ((b : ℕ) → IsBlockOfPiece piece b → HasBlockOf want payload b files)
       → HasDigest want (files_in want files) piece
-  piece_right files has piece known blocks =
+  piece_right files has piece known chosen blocks =
       let first : ℕ = piece_start len piece in
       let last : ℕ = piece_end total len piece in
       let long : last ≤ length payload = omega (arith, its.len, plan_is.0) in
@@ -132,7 +137,7 @@ module _ (laws : RunFollows) (plans : OpenedHavePlans) (follow : BlocksFollow) (
       (piece_end (plan_is.0 i) (plan_is.1 i) piece - piece_start (plan_is.1 i) piece)) in
       let listed : want.digests ≡ meta.digests = is_want.digests ∙ ap digests_of_subject subject in
       ap (λ (ds : List (List ℕ)). slice_get ds piece) listed
-      ∙ its.digests piece (subst (λ (n : ℕ). piece < n) (λ i. pieces_of (plan_is.0 i) (plan_is.1 i)) known)
+      ∙ its.digests piece chosen
       ∙ ap (λ (bs : List ℕ). Some (sha1 bs)) (sym bytes)
 
   is_listed : IsListedWant want
@@ -186,12 +191,14 @@ module _ (laws : RunFollows) (plans : OpenedHavePlans) (follow : BlocksFollow) (
         subst (λ (l : PayloadLengths). MaySettle l.total l.piece_len (own_of start mid gid) piece (One mirror))
         (lengths_of mid mid_added) may.own.may
 
-    -- each of its blocks was the mirror's before the turn
+    -- each of its blocks is the mirror's as it is settled ..
+    given_mid : (b : ℕ) → b < blocks_of total len → piece_of len b ≡ piece → source_in len (own_of start mid gid) b ≡ From mirror
+    given_mid b within of = given_whole total len (own_of start mid gid) piece mirror b want.plan.is_plan.some settles within of
+
+    -- .. and was so before the turn
     given_before : (b : ℕ) → b < blocks_of total len → piece_of len b ≡ piece
         → GivenIn laws plans follow start disk gid mirror (lengths_told meta) want payload download is_want before b
     given_before b within of =
-        let some = want.plan.is_plan.some in
-        let given = given_whole total len (own_of start mid gid) piece mirror b some settles within of in
         ⊎_elim
         (λ (lands : LandsAmong gid b mirror split.front).
         absurd (lands_none lands.id mirror lands.run lands.now
@@ -199,7 +206,7 @@ module _ (laws : RunFollows) (plans : OpenedHavePlans) (follow : BlocksFollow) (
         (Contains-append_left split.front (e ∷ split.rest) (Landed gid lands.id mirror lands.run lands.now) lands.there))))
         (λ (was : WasUntouched start gid total len b mirror past split.front). was.0)
         (source_among start gid total len b mirror split.front past
-        (legal_of mid mid_added mid_legal.0) given)
+        (legal_of mid mid_added mid_legal.0) (given_mid b within of))
 
     -- the piece has a block
     first_block : (b : ℕ) × IsBlockOfPiece piece b
@@ -212,6 +219,20 @@ module _ (laws : RunFollows) (plans : OpenedHavePlans) (follow : BlocksFollow) (
         × HasFiles want.dir want.layout (disk.seen_at t.before.time)
     first = blocks_stood laws plans follow start disk gid mirror (lengths_told meta) want payload download is_want t before st first_block.0
         (given_before first_block.0 first_block.1.0 first_block.1.1)
+
+    -- so the options choose it
+    chosen : IsChosenPiece meta download.options piece
+    chosen =
+        let of : piece_of meta.plan.piece_len first_block.0 ≡ piece =
+        ap (λ (n : ℕ). piece_of n first_block.0) (sym plan_is.1) ∙ first_block.1.1 in
+        let added = mid_added in
+        wanted_chosen download meta uris subject piece
+        (subst (IsWanted laws plans start gid meta uris download subject) of
+        (given_wanted laws plans start gid meta uris download subject mid mid_legal.0
+        (λ d there. let both : Some d ≡ Some download = sym there ∙ added in cc)
+        added first_block.0 mirror
+        (subst (λ (n : ℕ). source_in n (own_of start mid gid) first_block.0 ≡ From mirror) plan_is.1
+        (given_mid first_block.0 first_block.1.0 first_block.1.1))))
 
     past_added : download_in start past gid ≡ Some download
     past_added =
@@ -234,7 +255,7 @@ module _ (laws : RunFollows) (plans : OpenedHavePlans) (follow : BlocksFollow) (
         subst (λ (op : Operation). TakesAsRead start before t op (disk.seen_at t.before.time)) seal.op st.fits.0.fits.takes in
         let found = reads.right false (One mirror)
         (subst (λ (p : ℕ). Contains t.events (Settled gid p false (One mirror))) (sym seal.same) there) want has is_listed in
-        let digest = piece_right (disk.seen_at t.before.time) first.1 piece settles.within
+        let digest = piece_right (disk.seen_at t.before.time) first.1 piece settles.within chosen
         (λ b of. (blocks_stood laws plans follow start disk gid mirror (lengths_told meta) want payload download is_want t before st b
         (given_before b of.0 of.1)).0) in
         absurd (let never : false ≡ true = found.1 (subst (HasDigest want (files_in want (disk.seen_at t.before.time))) (sym seal.same) digest) in cc)

@@ -4,6 +4,7 @@ pub mod Givers
 pub mod PayloadBytes
 pub mod EventSources
 pub mod Rows
+pub mod Wanting
 pub mod Marks
 pub mod Parts
 pub mod Delivered

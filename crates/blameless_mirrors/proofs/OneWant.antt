@@ -1,5 +1,5 @@
--- The wants of a download that has a metainfo file are one.
-use Rattle.std.proofs.Common.{◌≡◌, ℕ, ◌≤◌, Some, List, sym, ap, ◌∙◌, subst}
+-- The wants of a download are one.
+use Rattle.std.proofs.Common.{◌≡◌, inl, inr, ℕ, ◌≤◌, Option, None, Some, Ok, List, [], ◌∷◌, sym, ap, ◌∙◌, subst}
 use Rattle.std.proofs.Math.Bridge.{le_prop}
 use Rattle.std.proofs.Math.Nat.{ℕ_set}
 use Rattle.control_file.specs.declared.want.Want.{Want}
@@ -10,13 +10,17 @@ use Rattle.dl_kinds.specs.declared.plan.TheConstants.{MAX_PAYLOAD_LEN}
 use Rattle.engine_core.proofs.Turned.{same_download}
 use Rattle.engine_turns.specs.Told.{history_of}
 use Rattle.machine_core.specs.DownloadWants.{HasWant, digests_of_subject, files_of_subject}
-use Rattle.machine_core.specs.FileNames.{IsPayloadName, folder_in}
+use Rattle.machine_core.specs.FileNames.{IsPayloadName, IsUnlistedName, folder_in}
 use Rattle.machine_core.specs.OwnParts.{PayloadLengths}
 use Rattle.machine_core.specs.RunLegal.{info_hash_by}
-use Rattle.machine_core.specs.Starts.{Download, Listed, RunStart, Subject}
+use Rattle.machine_core.specs.Starts.{Download, Listed, RunStart, Subject, Unlisted}
 use Rattle.machine_core.specs.declared.events.Event.{Event}
-use Rattle.metainfo.specs.declared.meta.Meta.{Meta}
-use Rattle.blameless_mirrors.specs.Lone.{IsLoneListed, LoneAreAlone}
+use Rattle.option_set.specs.Values.{text_of_word}
+use Rattle.option_set.specs.declared.kinds.Word.TheVariants.{Out}
+use Rattle.percent_encoding.specs.Percent.{percent_decode}
+use Rattle.url.specs.Parts.{Parts}
+use Rattle.url_names.specs.UrlNames.{IsNameBy, IsNameOfUrl, behind_last_slash}
+use Rattle.blameless_mirrors.specs.Lone.{LoneAreAlone}
 
 -- ---- plans
 
@@ -59,39 +63,57 @@ plans_same a b total len =
     p same_pieces)
     b.piece_len b.pieces len pieces b.pieces_are b.is_plan b.bounded
 
+-- ---- names
+
+name_by_one : (segment one other : List ℕ) → IsNameBy segment one → IsNameBy segment other → one ≡ other
+name_by_one segment one other (inl a) (inl b) = a.1 ∙ sym b.1
+name_by_one segment one other (inl a) (inr b) = absurd (b.0 a.0)
+name_by_one segment one other (inr a) (inl b) = absurd (a.0 b.0)
+name_by_one segment one other (inr a) (inr b) = a.1 ∙ sym b.1
+
+-- a URL names one file
+name_one : (uri one other : List ℕ) → IsNameOfUrl uri one → IsNameOfUrl uri other → one ≡ other
+name_one uri one other a b =
+    let same : a.url ≡ b.url = (let both : Ok a.url ≡ Ok b.url = sym a.parsed ∙ b.parsed in cc) in
+    name_by_one (percent_decode (behind_last_slash b.url.path)) one other
+    (subst (λ (url : Parts). IsNameBy (percent_decode (behind_last_slash url.path)) one) same a.named) b.named
+
+unlisted_one : (out : Option (List ℕ)) (uris : List (List ℕ)) (one other : List ℕ) → IsUnlistedName out uris one
+    → IsUnlistedName out uris other → one ≡ other
+unlisted_one (Some out) uris one other a b = a ∙ sym b
+unlisted_one None [] one other a b = absurd a
+unlisted_one None (uri ∷ uris) one other a b = name_one uri one other a b
+
+payload_one : (d : Download) (subject : Subject) (one other : List ℕ) → IsPayloadName d subject one
+    → IsPayloadName d subject other → one ≡ other
+payload_one d (Listed meta uris) one other a b = a ∙ sym b
+payload_one d (Unlisted uris) one other a b = unlisted_one (text_of_word d.options Out) uris one other a b
+
 -- ---- wants
 
-module _ (start : RunStart) (past : List Event) (gid : Gid) (meta : Meta) (lone : IsLoneListed start past gid meta) where
-  pub wants_one : (v w : Want) → HasWant start past gid v → HasWant start past gid w → v ≡ w
-  wants_one v w a b =
-      let d = lone.download in
-      let it_a = same_download start past gid a.download d a.added lone.added in
-      let it_b = same_download start past gid b.download d b.added lone.added in
-      let of_a : a.download.subject ≡ Listed meta lone.uris = ap (λ (x : Download). x.subject) it_a ∙ lone.subject in
-      let of_b : b.download.subject ≡ Listed meta lone.uris = ap (λ (x : Download). x.subject) it_b ∙ lone.subject in
-      let base_a : v.base ≡ meta.name = subst (λ (s : Subject). IsPayloadName a.download s v.base) of_a a.is.base in
-      let base_b : w.base ≡ meta.name = subst (λ (s : Subject). IsPayloadName b.download s w.base) of_b b.is.base in
-      let lengths : a.lengths ≡ b.lengths =
-      let some : Some a.lengths ≡ Some b.lengths = sym a.known ∙ b.known in cc in
-      let cut = a.is.plan ∙ (lengths ∙ sym b.is.plan) in
-      let base = base_a ∙ sym base_b in
-      let dir = a.is.dir ∙ (ap folder_in (it_a ∙ sym it_b) ∙ sym b.is.dir) in
-      let layout_a : v.layout ≡ meta.layout =
-      a.is.layout ∙ ap (λ (s : Subject). files_of_subject s v.base a.lengths.total) of_a in
-      let layout_b : w.layout ≡ meta.layout =
-      b.is.layout ∙ ap (λ (s : Subject). files_of_subject s w.base b.lengths.total) of_b in
-      let layout = layout_a ∙ sym layout_b in
-      let plan = plans_same v.plan w.plan (ap (λ (l : PayloadLengths). l.total) cut) (ap (λ (l : PayloadLengths). l.piece_len) cut) in
-      let digests = a.is.digests ∙ (ap digests_of_subject (of_a ∙ sym of_b) ∙ sym b.is.digests) in
-      let hash = a.is.info_hash ∙ (ap info_hash_by (of_a ∙ sym of_b) ∙ sym b.is.info_hash) in
-      λ i. record {
-        base = base i;
-        dir = dir i;
-        layout = layout i;
-        plan = plan i;
-        digests = digests i;
-        info_hash = hash i;
-      }
+pub wants_one : (start : RunStart) (past : List Event) (gid : Gid) (v w : Want) → HasWant start past gid v
+    → HasWant start past gid w → v ≡ w
+wants_one start past gid v w a b =
+    let it = same_download start past gid a.download b.download a.added b.added in
+    let lengths : a.lengths ≡ b.lengths = (let some : Some a.lengths ≡ Some b.lengths = sym a.known ∙ b.known in cc) in
+    let cut = a.is.plan ∙ (lengths ∙ sym b.is.plan) in
+    let base : v.base ≡ w.base =
+    payload_one b.download b.download.subject v.base w.base
+    (subst (λ (d : Download). IsPayloadName d d.subject v.base) it a.is.base) b.is.base in
+    let dir = a.is.dir ∙ (ap folder_in it ∙ sym b.is.dir) in
+    let layout = a.is.layout ∙ ((λ i. files_of_subject (it i).subject (base i) (lengths i).total) ∙ sym b.is.layout) in
+    let plan = plans_same v.plan w.plan (ap (λ (l : PayloadLengths). l.total) cut)
+    (ap (λ (l : PayloadLengths). l.piece_len) cut) in
+    let digests = a.is.digests ∙ (ap (λ (d : Download). digests_of_subject d.subject) it ∙ sym b.is.digests) in
+    let hash = a.is.info_hash ∙ (ap (λ (d : Download). info_hash_by d.subject) it ∙ sym b.is.info_hash) in
+    λ i. record {
+      base = base i;
+      dir = dir i;
+      layout = layout i;
+      plan = plan i;
+      digests = digests i;
+      info_hash = hash i;
+    }
 
 pub lone_alone : LoneAreAlone
 lone_alone start told gid meta want lone has = record {
@@ -102,7 +124,7 @@ lone_alone start told gid meta want lone has = record {
   has = has;
   alone = λ g other asked other_has shared.
       let its = lone.only g other_has.download other_has.added in
-      wants_one start (history_of told) gid meta lone other want
+      wants_one start (history_of told) gid other want
       (subst (λ (h : Gid). HasWant start (history_of told) h other) its other_has) has;
   only = λ other other_has. lone.only other other_has.download other_has.added;
 }

@@ -11,9 +11,11 @@ use Rattle.dl_history.specs.OwnEvents.{OwnEvent}
 use Rattle.dl_history.specs.PayloadParts.{is_ended, is_opened}
 use Rattle.dl_kinds.specs.declared.gid.Gid.{Gid}
 use Rattle.engine_core.proofs.Promising.{download_on, legal_front, opened_on, want_on}
-use Rattle.engine_core.specs.Askings.{HasFailedIn, IsAsked, is_opened_in}
+use Rattle.engine_core.specs.Askings.{HasFailedIn, IsAsked, IsNext, is_opened_in}
 use Rattle.engine_core.specs.TurnReads.{TurnsFitDisk}
 use Rattle.engine_turns.specs.Told.{AllTurns, RunTurn, history_after, history_of}
+use Rattle.engine_turns.specs.declared.operations.Operation.{Operation}
+use Rattle.engine_turns.specs.declared.operations.Operation.TheVariants as operation
 use Rattle.engine_turns.specs.declared.operations.Said.TheVariants.{NoMemory}
 use Rattle.machine_core.specs.Claiming.{is_to_open, next_to_open}
 use Rattle.machine_core.specs.DownloadWants.{HasWant}
@@ -40,7 +42,7 @@ use Rattle.stored_run.proofs.PlainEvents.{gid_added}
 use Rattle.stored_run.specs.Refused.{IsRefusalEnd}
 use Rattle.stored_run.specs.RunFollows.{RunFollows}
 use Rattle.blameless_mirrors.specs.Blameless.{FollowsMark}
-use Rattle.blameless_mirrors.specs.Lone.{HaveMemory, IsOnly, first_time}
+use Rattle.blameless_mirrors.specs.Lone.{HaveMemory, IsOnly, IsWork, first_time}
 use Rattle.blameless_mirrors.proofs.Findings.{come_of, split_at}
 
 -- a refusal comes of a download that is to be opened
@@ -58,6 +60,10 @@ refusal_opens start past d wanted (end.TooLarge total) refuses cause = absurd re
 refusal_opens start past d wanted (end.SameFile other) refuses cause = absurd refuses
 refusal_opens start past d wanted (end.SameHash other) refuses cause = absurd refuses
 refusal_opens start past d wanted end.Checksum refuses cause = absurd refuses
+
+next_works : (op : Operation) → IsNext op → IsWork op
+next_works (operation.Next worker now) asked = tt
+next_works other asked = absurd asked
 
 -- without a control file nothing of a listed want is refused
 unrefused : (want : Want) (files : Files) → IsSome want.info_hash → files (control_name want) ≡ None
@@ -150,7 +156,7 @@ module _ (laws : RunFollows) (start : RunStart) (disk : DiskState) (gid : Gid) (
         absurd (let never : true ≡ false =
         sym still ∙ (ap (λ (p : List Event). is_ended (own_of start p gid)) (sym mid_is)
         ∙ laws.going start mid gid mid_legal opening.active) in cc))
-        (λ (starved : t.answer.said ≡ NoMemory). f.memory.0 starved) more) asks.came
+        (λ (starved : t.answer.said ≡ NoMemory). f.memory.0 (next_works t.op asks.asked) starved) more) asks.came
 
     -- so what no change of other files undoes is still so
     still_so : (Q : Files → Type 0) (want : Want) → IsKeptBy Q want → (told : List RunTurn) (later : List Event)

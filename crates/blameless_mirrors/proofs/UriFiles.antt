@@ -62,7 +62,8 @@ use Rattle.blameless_mirrors.proofs.Marks.{behind}
 use Rattle.blameless_mirrors.proofs.OwnThere.{OpensIt, granted_there, opening_event, told_there, unknown_found}
 use Rattle.blameless_mirrors.proofs.PayloadBytes.{block_at}
 use Rattle.blameless_mirrors.proofs.Refusals.{Fresh, first_same, fresh_before, so_before}
-use Rattle.blameless_mirrors.proofs.UriBlocks.{unlisted_read, wants_one}
+use Rattle.blameless_mirrors.proofs.OneWant.{wants_one}
+use Rattle.blameless_mirrors.proofs.UriBlocks.{unlisted_read}
 
 -- ---- what an opening finds
 
@@ -421,7 +422,7 @@ module _ (laws : RunFollows) (plans : OpenedHavePlans) (follow : BlocksFollow) (
   whole = is.run.fits.0.fits.lengths want gid
       (λ g other asked other_has shared.
       let its = is.lone.only g other_has.download other_has.added in
-      wants_one start past gid uris is.lone other want (subst (λ (h : Gid). HasWant start past h other) its other_has) has)
+      wants_one start past gid other want (subst (λ (h : Gid). HasWant start past h other) its other_has) has)
       (record { opened = opened; has = has })
 
   file : files (payload_name want) ≡ Some payload

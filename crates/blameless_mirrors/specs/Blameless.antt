@@ -4,7 +4,7 @@ use Rattle.control_file.specs.declared.want.Want.{Want}
 use Rattle.dl_disk.specs.Files.{Files}
 use Rattle.dl_disk.specs.State.{DiskState}
 use Rattle.dl_history.specs.PayloadParts.{source_in}
-use Rattle.dl_kinds.specs.Plan.{piece_end, piece_start, pieces_of}
+use Rattle.dl_kinds.specs.Plan.{piece_end, piece_start}
 use Rattle.dl_kinds.specs.declared.gid.Gid.{Gid}
 use Rattle.dl_kinds.specs.declared.marks.Mark.{Mark}
 use Rattle.dl_words.specs.Lists.{part_at}
@@ -23,11 +23,13 @@ use Rattle.metainfo.specs.declared.meta.Meta.{Meta}
 use Rattle.mirror_blame.specs.Marks.{IsEligible}
 use Rattle.mirror_blame.specs.declared.blame.Blame.{Blame}
 use Rattle.mirror_payloads.specs.Faithful.{IsFaithful}
+use Rattle.option_set.specs.Values.{OptionValues}
 use Rattle.piece_table.specs.Changes.{From}
 use Rattle.piece_table.specs.declared.giver.Giver.TheVariants.{One}
 use Rattle.sha1.specs.Sha1.{sha1}
 use Rattle.stored_run.specs.Settlings.{payload_of}
 use Rattle.stored_run.specs.Writings.{IsByteOfBlock}
+use Rattle.blameless_mirrors.specs.Chosen.{IsChosenPiece}
 
 -- ---- payloads
 
@@ -37,10 +39,11 @@ piece_bytes meta payload piece =
     part_at payload (piece_start meta.plan.piece_len piece)
     (piece_end meta.plan.total meta.plan.piece_len piece - piece_start meta.plan.piece_len piece)
 
--- These bytes are a metainfo file's payload: they have its length, and each piece its digest (BEP 3, `pieces`).
-pub record IsPayloadOf (meta : Meta) (payload : List ℕ) : Type 0 where
+-- These bytes are as many as a metainfo file's payload has, and each piece that the options choose has its digest (BEP 3,
+-- `pieces`).
+pub record HasChosenPieces (meta : Meta) (options : OptionValues) (payload : List ℕ) : Type 0 where
   pub len : length payload ≡ meta.plan.total
-  pub digests : (piece : ℕ) → piece < pieces_of meta.plan.total meta.plan.piece_len
+  pub digests : (piece : ℕ) → IsChosenPiece meta options piece
       → slice_get meta.digests piece ≡ Some (sha1 (piece_bytes meta payload piece))
 
 -- the files have the payload's bytes in the place of the block
@@ -99,14 +102,16 @@ module _ {D : Type 0} (state : D → DiskState) where
   abbrev pub WrongFindingsArentTheirs : Type 0
   WrongFindingsArentTheirs =
       (start : RunStart) (told : List RunTurn) (disk : D) (gid : Gid) (mirror : ℕ) (meta : Meta) (want : Want)
-      (payload : List ℕ) → IsBroughtBy start told (state disk) gid mirror meta want payload → IsPayloadOf meta payload
+      (payload : List ℕ) → (brought : IsBroughtBy start told (state disk) gid mirror meta want payload)
+      → HasChosenPieces meta brought.listed.download.options payload
       → (piece : ℕ) → ¬ Contains (history_of told) (Settled gid piece false (One mirror))
 
   -- so each mark that is held against it is that of a link that failed
   abbrev pub MarksAreOfLinks : Type 0
   MarksAreOfLinks =
       (start : RunStart) (told : List RunTurn) (disk : D) (gid : Gid) (mirror : ℕ) (meta : Meta) (want : Want)
-      (payload : List ℕ) → IsBroughtBy start told (state disk) gid mirror meta want payload → IsPayloadOf meta payload
+      (payload : List ℕ) → (brought : IsBroughtBy start told (state disk) gid mirror meta want payload)
+      → HasChosenPieces meta brought.listed.download.options payload
       → (blame : Blame) → Contains (marks_in start (history_of told) gid) blame → blame.mirror ≡ mirror
       → HasFailedLink (history_of told) gid mirror
 
@@ -114,7 +119,8 @@ module _ {D : Type 0} (state : D → DiskState) where
   abbrev pub StayEligible : Type 0
   StayEligible =
       (start : RunStart) (told : List RunTurn) (disk : D) (gid : Gid) (mirror : ℕ) (meta : Meta) (want : Want)
-      (payload : List ℕ) → IsBroughtBy start told (state disk) gid mirror meta want payload → IsPayloadOf meta payload
+      (payload : List ℕ) → (brought : IsBroughtBy start told (state disk) gid mirror meta want payload)
+      → HasChosenPieces meta brought.listed.download.options payload
       → ¬ HasFailedLink (history_of told) gid mirror
       → (tries piece : ℕ) → 1 ≤ tries → IsEligible tries (marks_in start (history_of told) gid) mirror piece
 
@@ -122,7 +128,8 @@ module _ {D : Type 0} (state : D → DiskState) where
   abbrev pub NeverEndDead : Type 0
   NeverEndDead =
       (start : RunStart) (told : List RunTurn) (disk : D) (gid : Gid) (mirror : ℕ) (meta : Meta) (want : Want)
-      (payload : List ℕ) → (brought : IsBroughtBy start told (state disk) gid mirror meta want payload) → IsPayloadOf meta payload
+      (payload : List ℕ) → (brought : IsBroughtBy start told (state disk) gid mirror meta want payload)
+      → HasChosenPieces meta brought.listed.download.options payload
       → ¬ HasFailedLink (history_of told) gid mirror → mirror < mirrors_by brought.listed.download.subject
       → 1 ≤ tries_in brought.listed.download
       → (piece : ℕ) (mark : Mark) → ¬ Contains (history_of told) (Ended gid (Dead piece mark))

@@ -1,3 +1,4 @@
 pub mod Blameless
+pub mod Chosen
 pub mod Lone
 pub mod LoneUris

@@ -4,6 +4,8 @@ use Rattle.control_file.specs.declared.want.Want.{Want}
 use Rattle.dl_disk.specs.State.{DiskState}
 use Rattle.dl_kinds.specs.declared.gid.Gid.{Gid}
 use Rattle.engine_turns.specs.Told.{AllTurns, RunTurn, history_of}
+use Rattle.engine_turns.specs.declared.operations.Operation.{Operation}
+use Rattle.engine_turns.specs.declared.operations.Operation.TheVariants as operation
 use Rattle.engine_turns.specs.declared.operations.Said.TheVariants.{NoMemory}
 use Rattle.machine_core.specs.DownloadWants.{HasWant}
 use Rattle.machine_core.specs.RunLegal.{IsLegal, download_in, mirrors_by, tries_in}
@@ -15,7 +17,7 @@ use Rattle.machine_core.specs.declared.events.Event.TheVariants.{Ended}
 use Rattle.metainfo.specs.declared.meta.Meta.{Meta}
 use Rattle.resume_core.specs.Wants.{control_name}
 use Rattle.stored_run.specs.Refused.{IsRefusalEnd}
-use Rattle.blameless_mirrors.specs.Blameless.{HasFailedLink, IsBroughtBy, IsListedAlone, IsPayloadOf, IsToldRun}
+use Rattle.blameless_mirrors.specs.Blameless.{HasChosenPieces, HasFailedLink, IsBroughtBy, IsListedAlone, IsToldRun}
 
 -- ---- one download
 
@@ -63,9 +65,17 @@ first_time [] = 0
 first_time (t ∷ []) = t.before.time
 first_time (t ∷ u ∷ older) = first_time (u ∷ older)
 
--- none of the turns was answered for want of memory
+-- what the turns of a worker's work do
+abbrev pub IsWork : Operation → Type 0
+IsWork (operation.Call session call now) = ⊥
+IsWork operation.Pulse = ⊥
+IsWork operation.Leave = ⊥
+IsWork (operation.Stop now) = ⊥
+IsWork op = Unit {0}
+
+-- none of those turns was answered for want of memory
 abbrev pub HaveMemory : List RunTurn → Type 0
-HaveMemory told = AllTurns (λ before t. ¬ (t.answer.said ≡ NoMemory)) told
+HaveMemory told = AllTurns (λ before t. IsWork t.op → ¬ (t.answer.said ≡ NoMemory)) told
 
 -- As the run began no control file of the download stood.
 pub record LacksControlFirst (told : List RunTurn) (disk : DiskState) (want : Want) : Type 0 where
@@ -90,7 +100,7 @@ module _ {D : Type 0} (state : D → DiskState) where
   BroughtOnlyComplete =
       (start : RunStart) (told : List RunTurn) (disk : D) (gid : Gid) (mirror : ℕ) (meta : Meta) (want : Want)
       (payload : List ℕ) → (brought : IsBroughtBy start told (state disk) gid mirror meta want payload)
-      → IsPayloadOf meta payload → ¬ HasFailedLink (history_of told) gid mirror
+      → HasChosenPieces meta brought.listed.download.options payload → ¬ HasFailedLink (history_of told) gid mirror
       → mirror < mirrors_by brought.listed.download.subject → 1 ≤ tries_in brought.listed.download
       → IsOnly start (history_of told) gid → HaveMemory told → LacksControlFirst told (state disk) want
       → HasNoDiskFault (history_of told)

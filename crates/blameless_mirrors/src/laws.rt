@@ -1,5 +1,6 @@
 // What follows in runs in which a mirror brings a payload's own bytes.
 ghost use Rattle.blameless_mirrors.specs.Blameless.{DeliveredAreRead, MarksAreOfLinks, NeverEndDead, StayEligible, WrongFindingsArentTheirs};
+ghost use Rattle.blameless_mirrors.specs.Chosen.{ClaimsAreOfChosen};
 ghost use Rattle.blameless_mirrors.specs.Lone.{BroughtOnlyComplete, FreshAreNeverRefused, LoneAreAlone, LoneDownloadsEndWell};
 ghost use Rattle.blameless_mirrors.specs.LoneUris.{UnlistedCompleteAreWhole, UnlistedDeliveredAreRead, UnlistedOnlyComplete};
 
@@ -7,6 +8,15 @@ use dl_disk::Disk;
 use dl_kinds::plan_laws;
 use machine_core::{accounts_match_runs, known_downloads_are_idle};
 use stored_run::runs_follow;
+
+/// Each block of a claim of a download of a metainfo file is of a piece that the download's options choose. It does nothing when it
+/// runs.
+pub fn claims_are_of_chosen_pieces()
+    ensures { ClaimsAreOfChosen }
+{
+    accounts_match_runs();
+    runs_follow();
+}
 
 /// Each block that is there and came from the mirror reads as the payload's bytes, behind each turn. It does nothing when it
 /// runs.
@@ -18,9 +28,9 @@ pub fn delivered_blocks_are_read<D: Disk>()
     runs_follow();
 }
 
-/// Where each piece of the payload has its listed digest, no piece that the mirror alone gave is found wrong, so a mark that
-/// is held against it is that of a link that failed; and where none did, it is eligible for each piece, and the download
-/// never ends as dead. It does nothing when it runs.
+/// Where each piece of the payload that the options choose has its listed digest, no piece that the mirror alone gave is found
+/// wrong, so a mark that is held against it is that of a link that failed; and where none did, it is eligible for each piece, and
+/// the download never ends as dead. It does nothing when it runs.
 pub fn faithful_mirrors_are_blameless<D: Disk>()
     ensures findings { WrongFindingsArentTheirs D.state }
     ensures marks { MarksAreOfLinks D.state }

@@ -2,7 +2,7 @@
 use Rattle.std.proofs.Common.{◌≡◌, ℕ, refl, subst}
 use Rattle.std.specs.Prelude.{Contains}
 use Rattle.dl_disk.specs.State.{DiskState}
-use Rattle.dl_kinds.specs.PlanLaws.{BlocksAreOfPieces}
+use Rattle.dl_kinds.specs.PlanLaws.{PlacesAreNumbered}
 use Rattle.dl_kinds.specs.declared.gid.Gid.{Gid}
 use Rattle.dl_kinds.specs.declared.marks.Mark.{Mark}
 use Rattle.engine_core.proofs.Turned.{same_download}
@@ -16,7 +16,7 @@ use Rattle.stored_run.specs.Refused.{IsRefusalEnd}
 use Rattle.stored_run.specs.RunFollows.{RunFollows}
 use Rattle.blameless_mirrors.specs.Lone.{FreshAreNeverRefused, IsLoneEnd, IsLoneListed, LoneDownloadsEndWell}
 use Rattle.paid_marks.specs.Served.{ServedNeverDie, ServedOnlyComplete}
-use Rattle.paid_marks.proofs.Dying.{dead_within}
+use Rattle.paid_marks.proofs.Dying.{dead_wanted}
 
 only_complete : (how : End) → IsLoneEnd how → ((piece : ℕ) (mark : Mark) → how ≡ end.Dead piece mark → ⊥)
     → ((count : ℕ) → how ≡ end.Disk count → ⊥) → (IsRefusalEnd how → ⊥) → how ≡ end.Complete
@@ -33,7 +33,7 @@ only_complete (end.SameFile other) lone dead fault refused = absurd lone
 only_complete (end.SameHash other) lone dead fault refused = absurd lone
 only_complete end.Checksum lone dead fault refused = absurd lone
 
-module _ (laws : RunFollows) (plans : OpenedHavePlans) (idle : KnownAreIdle) (of_pieces : BlocksAreOfPieces) {D : Type 0}
+module _ (laws : RunFollows) (plans : OpenedHavePlans) (idle : KnownAreIdle) (numbered : PlacesAreNumbered) {D : Type 0}
     (state : D → DiskState) (never : ServedNeverDie state) (ends : LoneDownloadsEndWell) (refused : FreshAreNeverRefused state) where
   pub served_only_complete : ServedOnlyComplete state
   served_only_complete tells start told disk gid meta want old true_is is over served links only lacks other how there =
@@ -46,9 +46,9 @@ module _ (laws : RunFollows) (plans : OpenedHavePlans) (idle : KnownAreIdle) (of
             (λ piece mark dead.
             let here = subst (λ (g : Gid). Contains (history_of told) (Ended g (end.Dead piece mark))) so.0
             (subst (λ (h : End). Contains (history_of told) (Ended other h)) dead there) in
-            let within = dead_within laws plans idle of_pieces start gid meta l.uris l.download l.subject (history_of told) piece mark
+            let wanted = dead_wanted laws plans idle numbered start gid meta l.uris l.download l.subject (history_of told) piece mark
             is.run.legal (λ d added. same_download start (history_of told) gid d l.download added l.added) here in
-            let by = served piece within in
+            let by = served piece wanted in
             never tells start told disk gid meta want old true_is is over piece by (links by.mirror) mark here)
             (λ count fault. is.well other count (subst (λ (h : End). Contains (history_of told) (Ended other h)) fault there))
             (refused start told disk gid meta want is.run lone l.has is.memory lacks other how there),

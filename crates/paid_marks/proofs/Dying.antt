@@ -1,5 +1,5 @@
--- A piece that is dead is one of the payload.
-use Rattle.std.proofs.Common.{◌≡◌, ⊎_elim, ℕ, zero, suc, ◌<◌, Bool, true, false, cond, List, [], ◌∷◌, Option, Some, None, refl, sym, ap, subst, ◌∙◌, arith}
+-- A piece that is dead is a wanted one.
+use Rattle.std.proofs.Common.{◌≡◌, ⊎_elim, ℕ, zero, suc, Bool, true, false, cond, List, [], ◌∷◌, Option, Some, None, refl, sym, ap, subst, ◌∙◌, arith}
 use Rattle.std.specs.Prelude.{Contains, ◌||◌, ◌==◌, find, nat_lt, not}
 use Rattle.std.specs.List.{list_any}
 use Rattle.std.specs.Option.{is_some, option_and_then, option_map}
@@ -8,11 +8,11 @@ use Rattle.std.proofs.lemmas.Option.{none-some}
 use Rattle.dl_history.proofs.Bools.{and_right}
 use Rattle.dl_history.proofs.Early.{not_false}
 use Rattle.dl_history.proofs.Members.{has_filter, has_from}
-use Rattle.dl_history.specs.OwnLegal.{MayBeLost}
-use Rattle.dl_history.specs.PayloadParts.{is_opened}
+use Rattle.dl_history.specs.OwnLegal.{MayBeLost, MaySettle}
+use Rattle.dl_history.specs.PayloadParts.{is_opened, source_in}
 use Rattle.dl_history.specs.StandingClaims.{blocks_in, ends_claim, first_open_since, granted_claims, grants_claim, is_open_since, is_probe, is_standing, piece_of_first, since, standing_claims}
-use Rattle.dl_kinds.specs.Plan.{piece_of, pieces_of}
-use Rattle.dl_kinds.specs.PlanLaws.{BlocksAreOfPieces}
+use Rattle.dl_kinds.specs.Plan.{IsPlan, piece_of, piece_start}
+use Rattle.dl_kinds.specs.PlanLaws.{PlacesAreNumbered}
 use Rattle.dl_kinds.specs.declared.claims.Claim.{Claim}
 use Rattle.dl_kinds.specs.declared.gid.Gid.{Gid}
 use Rattle.dl_kinds.specs.declared.marks.Mark.{Mark}
@@ -26,12 +26,17 @@ use Rattle.machine_core.specs.declared.events.Event.TheVariants.{Ended, Lost, Se
 use Rattle.metainfo.specs.declared.meta.Meta.{Meta}
 use Rattle.mirror_blame.specs.Marks.{counted, last_mark_of, tries_of}
 use Rattle.mirror_blame.specs.declared.blame.Blame.{Blame}
+use Rattle.piece_table.specs.Changes.{From}
 use Rattle.piece_table.specs.declared.giver.Giver.TheVariants.{One}
 use Rattle.stored_run.proofs.Left.{one_of}
 use Rattle.stored_run.proofs.PlainEvents.{gid_added}
 use Rattle.stored_run.specs.RunFollows.{RunFollows}
+use Rattle.blameless_mirrors.proofs.Givers.{given_whole}
 use Rattle.blameless_mirrors.proofs.ListedLengths.{known_listed, lengths_told}
 use Rattle.blameless_mirrors.proofs.Marks.{mark_cause}
+use Rattle.blameless_mirrors.proofs.PayloadBytes.{block_at}
+use Rattle.paid_marks.proofs.Found.{pieces_begin}
+use Rattle.blameless_mirrors.proofs.Wanting.{AreSame, IsWanted, given_wanted, open_wanted, same_before}
 
 -- ---- what is found
 
@@ -84,30 +89,25 @@ some_of (Some b) is = (b, refl)
 
 -- ---- pieces that are marked
 
-module _ (laws : RunFollows) (plans : OpenedHavePlans) (idle : KnownAreIdle) (of_pieces : BlocksAreOfPieces) (start : RunStart)
+module _ (laws : RunFollows) (plans : OpenedHavePlans) (idle : KnownAreIdle) (numbered : PlacesAreNumbered) (start : RunStart)
     (gid : Gid) (meta : Meta) (uris : List (List ℕ)) (download : Download) (subject : download.subject ≡ Listed meta uris) where
-  abbrev IsWithin : ℕ → Type 0
-  IsWithin piece = piece < pieces_of meta.plan.total meta.plan.piece_len
+  abbrev Wanted : ℕ → Type 0
+  Wanted = IsWanted laws plans start gid meta uris download subject
 
-  abbrev AreSame : List Event → Type 0
-  AreSame past = (d : Download) → download_in start past gid ≡ Some d → d ≡ download
+  abbrev Same : List Event → Type 0
+  Same = AreSame laws plans start gid meta uris download subject
 
-  -- a piece of the lengths that are known
-  within_by : (past : List Event) → download_in start past gid ≡ Some download → (piece : ℕ)
-      → piece < pieces_of (known_lengths start past gid).total (known_lengths start past gid).piece_len → IsWithin piece
-  within_by past added piece is =
-      subst (λ (l : PayloadLengths). piece < pieces_of l.total l.piece_len)
-      (known_listed start past gid download meta uris added subject) is
+  before_same : (e : Event) (past : List Event) → Same (e ∷ past) → Same past
+  before_same = same_before laws plans start gid meta uris download subject
 
-  lost_within : (past : List Event) (id mirror piece : ℕ) (mark : Mark) → IsLegal start past → AreSame past
-      → MayFollow start past (Lost gid id mirror piece mark) → IsWithin piece
-  lost_within past id mirror piece mark legal same may =
+  lost_wanted : (past : List Event) (id mirror piece : ℕ) (mark : Mark) → IsLegal start past → Same past
+      → MayFollow start past (Lost gid id mirror piece mark) → Wanted piece
+  lost_wanted past id mirror piece mark legal same may =
       let added : download_in start past gid ≡ Some download = may.added ∙ ap (λ (d : Download). Some d) (same may.download may.added) in
       let own = own_of start past gid in
       let lengths = known_lengths start past gid in
       let its : MayBeLost lengths.piece_len own id mirror piece = may.may in
       let c : Claim = its.claim in
-      let legal_own = laws.legal start past gid legal in
       let known : payload_lengths_of start past gid ≡ Some (lengths_told meta) =
       ap (option_and_then (λ (d : Download). lengths_by d d.subject own)) added
       ∙ ap (λ (s : Subject). lengths_by download s own) subject in
@@ -118,55 +118,71 @@ module _ (laws : RunFollows) (plans : OpenedHavePlans) (idle : KnownAreIdle) (of
       let standing = (has_filter (is_standing own) (granted_claims own) c
       (has_from (standing_claims own) c its.stands.0 its.stands.1 its.stands.2)).1 in
       let some = some_of (first_open_since own c) (or_rest (is_probe c) (is_some (first_open_since own c))
-      (and_right (not (list_any (ends_claim c.id) (since (grants_claim c.id) own))) (is_probe c || is_some (first_open_since own c)) standing)
-      ((laws.sound.probes lengths.total lengths.piece_len own c legal_own its.stands).blocks opened)) in
-      let b : ℕ = some.0 in
-      let is_open = (find_true (is_open_since own c) (blocks_in c.run) b some.1).1 in
-      let unlanded = laws.sound.open_blocks lengths.total lengths.piece_len own c b legal_own its.stands is_open in
-      let of = of_pieces lengths.total lengths.piece_len b (plans start past gid legal opened) unlanded.within in
-      let same_piece : piece_of lengths.piece_len b ≡ piece =
-      sym (ap (piece_of_first lengths.piece_len) some.1) ∙ its.piece_is in
-      within_by past added piece (subst (λ (p : ℕ). p < pieces_of lengths.total lengths.piece_len) same_piece of.piece)
+      (and_right (not (list_any (ends_claim c.id) (since (grants_claim c.id) own))) (is_probe c || is_some (first_open_since own c))
+      standing) ((laws.sound.probes lengths.total lengths.piece_len own c (laws.legal start past gid legal) its.stands).blocks opened)) in
+      let is_open = (find_true (is_open_since own c) (blocks_in c.run) some.0 some.1).1 in
+      let len : lengths.piece_len ≡ meta.plan.piece_len =
+      ap (λ (l : PayloadLengths). l.piece_len) (known_listed start past gid download meta uris added subject) in
+      let same_piece : piece_of meta.plan.piece_len some.0 ≡ piece =
+      ap (λ (n : ℕ). piece_of n some.0) (sym len) ∙ sym (ap (piece_of_first lengths.piece_len) some.1) ∙ its.piece_is in
+      subst Wanted same_piece
+      (open_wanted laws plans start gid meta uris download subject past legal same c its.stands some.0 is_open)
 
-  found_within : (past : List Event) (mirror piece : ℕ) → AreSame past
-      → MayFollow start past (Settled gid piece false (One mirror)) → IsWithin piece
-  found_within past mirror piece same may =
+  given_piece : (past : List Event) (mirror piece b : ℕ) → IsLegal start past → Same past
+      → download_in start past gid ≡ Some download → piece_of meta.plan.piece_len b ≡ piece
+      → source_in meta.plan.piece_len (own_of start past gid) b ≡ From mirror → Wanted piece
+  given_piece past mirror piece b legal same added of given =
+      subst Wanted of
+      (given_wanted laws plans start gid meta uris download subject past legal same added b mirror given)
+
+  -- a piece that is found wrong and was given by one mirror has a block that this mirror gave
+  found_wanted : (past : List Event) (mirror piece : ℕ) → IsLegal start past → Same past
+      → MayFollow start past (Settled gid piece false (One mirror)) → Wanted piece
+  found_wanted past mirror piece legal same may =
       let added : download_in start past gid ≡ Some download =
       may.own.added ∙ ap (λ (d : Download). Some d) (same may.own.download may.own.added) in
-      within_by past added piece may.own.may.within
+      let lengths : known_lengths start past gid ≡ lengths_told meta =
+      known_listed start past gid download meta uris added subject in
+      let own = own_of start past gid in
+      let settles : MaySettle meta.plan.total meta.plan.piece_len own piece (One mirror) =
+      subst (λ (l : PayloadLengths). MaySettle l.total l.piece_len own piece (One mirror)) lengths may.own.may in
+      let plan : IsPlan meta.plan.total meta.plan.piece_len =
+      subst (λ (l : PayloadLengths). IsPlan l.total l.piece_len) lengths (plans start past gid legal settles.opened) in
+      let block = block_at meta.plan.total meta.plan.piece_len piece (piece_start meta.plan.piece_len piece) numbered plan
+      settles.within (omega arith) (pieces_begin meta.plan.total meta.plan.piece_len piece plan settles.within) in
+      let given = given_whole meta.plan.total meta.plan.piece_len own piece mirror block.0 plan.some settles block.1.within
+      block.1.of in
+      given_piece past mirror piece block.0 legal same added block.1.of given
 
-  before_same : (e : Event) (past : List Event) → AreSame (e ∷ past) → AreSame past
-  before_same e past same d added = same d (laws.downloads start past e gid d added)
-
-  lost_in : (past : List Event) (id mirror piece : ℕ) (mark : Mark) → IsLegal start past → AreSame past
-      → Contains past (Lost gid id mirror piece mark) → IsWithin piece
+  lost_in : (past : List Event) (id mirror piece : ℕ) (mark : Mark) → IsLegal start past → Same past
+      → Contains past (Lost gid id mirror piece mark) → Wanted piece
   lost_in [] id mirror piece mark legal same there = absurd (let within = there.1 in omega (arith, within))
   lost_in (e ∷ past) id mirror piece mark legal same there = ⊎_elim
       (λ (here : e ≡ Lost gid id mirror piece mark).
-      lost_within past id mirror piece mark legal.0 (before_same e past same) (subst (MayFollow start past) here legal.1))
+      lost_wanted past id mirror piece mark legal.0 (before_same e past same) (subst (MayFollow start past) here legal.1))
       (λ (was : Contains past (Lost gid id mirror piece mark)).
       lost_in past id mirror piece mark legal.0 (before_same e past same) was)
       (one_of e (Lost gid id mirror piece mark) past there)
 
-  found_in : (past : List Event) (mirror piece : ℕ) → IsLegal start past → AreSame past
-      → Contains past (Settled gid piece false (One mirror)) → IsWithin piece
+  found_in : (past : List Event) (mirror piece : ℕ) → IsLegal start past → Same past
+      → Contains past (Settled gid piece false (One mirror)) → Wanted piece
   found_in [] mirror piece legal same there = absurd (let within = there.1 in omega (arith, within))
   found_in (e ∷ past) mirror piece legal same there = ⊎_elim
       (λ (here : e ≡ Settled gid piece false (One mirror)).
-      found_within past mirror piece (before_same e past same) (subst (MayFollow start past) here legal.1))
+      found_wanted past mirror piece legal.0 (before_same e past same) (subst (MayFollow start past) here legal.1))
       (λ (was : Contains past (Settled gid piece false (One mirror))).
       found_in past mirror piece legal.0 (before_same e past same) was)
       (one_of e (Settled gid piece false (One mirror)) past there)
 
-  dead_here : (past : List Event) (piece : ℕ) (mark : Mark) → IsLegal start past → AreSame past
-      → MayBeEnded start past gid (Dead piece mark) → IsWithin piece
+  dead_here : (past : List Event) (piece : ℕ) (mark : Mark) → IsLegal start past → Same past
+      → MayBeEnded start past gid (Dead piece mark) → Wanted piece
   dead_here past piece mark legal same may =
       let d = may.own.download in
       let dead : IsDeadIn start past d piece mark = may.cause in
       let its : d.gid ≡ gid = gid_added start past gid d may.own.added in
       let last = last_there (tries_in d) (marks_in start past d.gid) piece mark dead.last in
       let blame : Blame = last.0 in
-      subst IsWithin last.2
+      subst Wanted last.2
       (⊎_elim
       (λ (found : Contains past (Settled gid blame.piece false (One blame.mirror))).
       found_in past blame.mirror blame.piece legal same found)
@@ -174,12 +190,12 @@ module _ (laws : RunFollows) (plans : OpenedHavePlans) (idle : KnownAreIdle) (of
       lost_in past lost.0 blame.mirror blame.piece blame.mark legal same lost.1)
       (mark_cause start gid blame past (subst (λ (g : Gid). Contains (marks_in start past g) blame) its last.1)))
 
-  pub dead_within : (past : List Event) (piece : ℕ) (mark : Mark) → IsLegal start past → AreSame past
-      → Contains past (Ended gid (Dead piece mark)) → IsWithin piece
-  dead_within [] piece mark legal same there = absurd (let within = there.1 in omega (arith, within))
-  dead_within (e ∷ past) piece mark legal same there = ⊎_elim
+  pub dead_wanted : (past : List Event) (piece : ℕ) (mark : Mark) → IsLegal start past → Same past
+      → Contains past (Ended gid (Dead piece mark)) → Wanted piece
+  dead_wanted [] piece mark legal same there = absurd (let within = there.1 in omega (arith, within))
+  dead_wanted (e ∷ past) piece mark legal same there = ⊎_elim
       (λ (here : e ≡ Ended gid (Dead piece mark)).
       dead_here past piece mark legal.0 (before_same e past same) (subst (MayFollow start past) here legal.1))
       (λ (was : Contains past (Ended gid (Dead piece mark))).
-      dead_within past piece mark legal.0 (before_same e past same) was)
+      dead_wanted past piece mark legal.0 (before_same e past same) was)
       (one_of e (Ended gid (Dead piece mark)) past there)

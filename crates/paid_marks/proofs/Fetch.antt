@@ -14,7 +14,7 @@ use Rattle.dl_history.specs.StandingClaims.{blocks_in}
 use Rattle.piece_table.specs.Changes.{is_in}
 use Rattle.conn_worker.specs.Facts.{HasUsed, IsFetchingAt, IsReady}
 use Rattle.conn_worker.specs.Hands.{Fetching, LinkAt}
-use Rattle.dl_kinds.specs.Plan.{block_end, block_start, blocks_of, piece_end, piece_of, piece_start, place_of}
+use Rattle.dl_kinds.specs.Plan.{block_end, block_start, blocks_of, piece_end, piece_of, piece_start}
 use Rattle.dl_kinds.specs.PlanLaws.{BlocksFollow}
 use Rattle.dl_kinds.specs.declared.plan.Plan.{Plan}
 use Rattle.dl_kinds.specs.declared.runs.Run.{Run}
@@ -41,6 +41,7 @@ use Rattle.span_map.specs.declared.files.Part.{Part}
 use Rattle.span_map.specs.declared.jobs.Job.{Job}
 use Rattle.span_map.specs.declared.jobs.JobPart.{JobPart}
 use Rattle.stored_run.proofs.PartBytes.{starts_rise}
+use Rattle.served_claims.proofs.Chosen.{below_right, byte_of_piece}
 use Rattle.paid_marks.specs.Holding.{HoldsPiece}
 use Rattle.paid_marks.specs.Paid.{HasRightBytes, lengths_of_meta}
 use Rattle.paid_marks.proofs.Differs.{differing_none, next_at}
@@ -142,20 +143,6 @@ known_of meta held piece job =
     (concat
     (coded (piece_start meta.plan.piece_len piece) (piece_end meta.plan.total meta.plan.piece_len piece) meta.layout 0 held))
     (run_start job.plan job.run) (run_end job.plan job.run - run_start job.plan job.run))
-
-above : (a b c : ℕ) → a + b ≤ c → a ≤ c
-above a b c le = omega arith
-
-below_right : (a b c : ℕ) → a < min b c → a < c
-below_right a b c less = omega arith
-
--- a byte of a block is one of its piece
-pub byte_of_piece : (total len b at : ℕ) → block_start len b ≤ at → at < block_end total len b
-    → (piece_start len (piece_of len b) ≤ at) × (at < piece_end total len (piece_of len b))
-byte_of_piece total len b at from before = (
-  above (piece_start len (piece_of len b)) (place_of len b * 16384) at from,
-  below_right at (block_start len b + 16384) (piece_end total len (piece_of len b)) before,
-)
 
 module _ (laws : PayingLaws) (tells : Bool) (true_is : IsTrue tells) (first : Content) (meta : Meta) (uris : List (List ℕ))
     (mirror : ℕ) (held : List ℕ) (among : ℕ → Bool) (piece : ℕ)

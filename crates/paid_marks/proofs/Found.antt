@@ -47,7 +47,7 @@ use Rattle.machine_core.specs.Openings.{lengths_of_plan}
 use Rattle.std.specs.Option.{option_and_then}
 
 -- a piece begins before the end of the download
-pieces_begin : (total len piece : ℕ) → IsPlan total len → piece < pieces_of total len
+pub pieces_begin : (total len piece : ℕ) → IsPlan total len → piece < pieces_of total len
     → piece_start len piece < piece_end total len piece
 pieces_begin total len piece plan known =
     let top : pieces_of total len * len < total + len = (div_ceil_times total len plan.some).1 in

@@ -40,7 +40,7 @@ use Rattle.stored_run.proofs.Doing.{history_on, own_grows_on}
 use Rattle.stored_run.proofs.Left.{one_of}
 use Rattle.stored_run.proofs.PlainEvents.{gid_added}
 use Rattle.stored_run.specs.RunFollows.{RunFollows}
-use Rattle.blameless_mirrors.specs.Lone.{HasNoDiskFault, HaveMemory}
+use Rattle.blameless_mirrors.specs.Lone.{HasNoDiskFault, HaveMemory, IsWork}
 use Rattle.blameless_mirrors.proofs.EventSources.{LandsAmong, WasUntouched, source_among}
 use Rattle.blameless_mirrors.proofs.ListedLengths.{lengths_told}
 use Rattle.blameless_mirrors.proofs.Parts.{IsSealOf, wrong_sealed}
@@ -184,7 +184,7 @@ module _ (laws : RunFollows) (plans : OpenedHavePlans) (follow : BlocksFollow) (
 
     -- ---- a finding
 
-    module _ (memory : ¬ (t.answer.said ≡ said.NoMemory)) (none : NoFault t.events)
+    module _ (memory : IsWork t.op → ¬ (t.answer.said ≡ said.NoMemory)) (none : NoFault t.events)
         (there : Contains t.events (Settled gid piece false (One mirror))) where
       seal : IsSealOf start before t gid piece
       seal = wrong_sealed start before t st.ties.0 gid piece (One mirror) there
@@ -198,8 +198,8 @@ module _ (laws : RunFollows) (plans : OpenedHavePlans) (follow : BlocksFollow) (
       clears = ⊎_elim
           (λ (empty : t.events ≡ []). none_here t.events (Settled gid piece false (One mirror)) empty there)
           (λ is. subst (λ (p : ℕ). ClearsAmong gid p t.events) seal.same
-          (seal_clears (turn_start start before t) (standing_after start before) gid seal.sealed t.events t.answer.said is memory
-          none (One mirror)
+          (seal_clears (turn_start start before t) (standing_after start before) gid seal.sealed t.events t.answer.said is
+          (memory (subst IsWork (sym seal.op) tt)) none (One mirror)
           (subst (λ (p : ℕ). Contains t.events (Settled gid p false (One mirror))) (sym seal.same) there)))
           (row (operation.Seal gid seal.sealed seal.now) seal.op)
 
@@ -244,7 +244,7 @@ module _ (laws : RunFollows) (plans : OpenedHavePlans) (follow : BlocksFollow) (
 
     -- ---- a turn that brings nothing wrong
 
-    module _ (memory : ¬ (t.answer.said ≡ said.NoMemory)) (none : NoFault t.events)
+    module _ (memory : IsWork t.op → ¬ (t.answer.said ≡ said.NoMemory)) (none : NoFault t.events)
         (right : IsRightFor gid mirror meta held piece t) where
       unmarked_step : (n : ℕ) → marks_now ≡ 0 → Ledger before n → Ledger (t ∷ before) n
       unmarked_step n zero_is (inl less) = let all = counted in inl (omega (arith, all, zero_is, less))

@@ -1,22 +1,14 @@
 -- Mirrors in memory that hold a piece of a payload, and how many bad answers are left of them.
-use Rattle.std.specs.Prelude.{◌≡◌, ◌<◌, ◌+◌, ◌^◌, ℕ, Bool, List, length, count_by, take}
-use Rattle.dl_kinds.specs.Plan.{piece_end, piece_start}
+use Rattle.std.specs.Prelude.{◌≡◌, ◌<◌, ◌^◌, ℕ, Bool, List, length, count_by}
 use Rattle.link_source.specs.Mirrors.{Content}
 use Rattle.memory_serving_laws.specs.Leads.{Leads}
 use Rattle.memory_serving_laws.specs.Serving.{UrlLeadsAmong}
-use Rattle.metainfo.specs.Jobs.{len_of_file}
 use Rattle.metainfo.specs.Urls.{seed_url_of}
 use Rattle.metainfo.specs.declared.meta.Meta.{Meta}
 use Rattle.request_chain.specs.Redirects.{redirect_limit}
-use Rattle.served_claims.specs.Serving.{file_bytes}
+use Rattle.served_claims.specs.Serving.{IsFileOfPiece, file_bytes}
 use Rattle.span_map.specs.Layout.{total_of}
 use Rattle.paid_marks.specs.Paid.{HasPiece}
-
--- the piece has bytes of the file of this number
-pub record IsFileOfPiece (meta : Meta) (piece file : ℕ) : Type 0 where
-  pub some : 0 < len_of_file meta.layout file
-  pub from : total_of (take file meta.layout) < piece_end meta.plan.total meta.plan.piece_len piece
-  pub to : piece_start meta.plan.piece_len piece < total_of (take file meta.layout) + len_of_file meta.layout file
 
 -- For each file of which the piece has bytes, the mirror's URL leads within 20 redirects to a resource of that
 -- file's length, through some of these mirrors in memory alone; and the bytes of the piece that are held there

@@ -71,7 +71,8 @@ CostAtMost gid mirror meta held piece (t ∷ before) most =
 abbrev pub marks_for : RunStart → List RunTurn → Gid → ℕ → ℕ → ℕ
 marks_for start told gid mirror piece = count_by (is_of mirror piece) (marks_in start (history_of told) gid)
 
--- The turns of a run, none short of memory and none ended by the disk, and its download of this metainfo file.
+-- The turns of a run, none of its work short of memory and none ended by the disk, and its download of this metainfo
+-- file.
 pub record IsListedRun (start : RunStart) (told : List RunTurn) (disk : DiskState) (gid : Gid) (meta : Meta) (want : Want)
     : Type 0 where
   pub run : IsToldRun start told disk

@@ -1,10 +1,9 @@
 -- Runs whose work is one worker's over one link, and mirrors in memory that hold their pieces. The newest turn is
 -- the first.
-use Rattle.std.specs.Prelude.{◌≡◌, ◌<◌, ◌++◌, ℕ, Bool, IsTrue, Contains, List, reverse}
+use Rattle.std.specs.Prelude.{◌≡◌, ◌<◌, ◌++◌, ℕ, Bool, true, false, IsTrue, Contains, List, reverse, slice_index_or}
 use Rattle.control_file.specs.declared.want.Want.{Want}
 use Rattle.conn_worker.specs.Hands.{LinkAt}
 use Rattle.dl_disk.specs.State.{DiskState}
-use Rattle.dl_kinds.specs.Plan.{pieces_of}
 use Rattle.dl_kinds.specs.declared.gid.Gid.{Gid}
 use Rattle.dl_kinds.specs.declared.marks.Mark.{Mark}
 use Rattle.engine_turns.specs.NextRows.{mirror_url}
@@ -12,6 +11,7 @@ use Rattle.engine_turns.specs.Told.{RunTurn, history_of}
 use Rattle.link_source.specs.Mirrors.{Content}
 use Rattle.machine_core.specs.RunLegal.{mirrors_by, tries_in}
 use Rattle.machine_core.specs.Starts.{RunStart, Subject}
+use Rattle.machine_core.specs.Wanted.{wanted_pieces}
 use Rattle.machine_core.specs.declared.ends.End.{End}
 use Rattle.machine_core.specs.declared.ends.End.TheVariants.{Complete, Dead}
 use Rattle.machine_core.specs.declared.events.Event.TheVariants.{Ended}
@@ -21,7 +21,7 @@ use Rattle.blameless_mirrors.specs.Lone.{IsOnly, LacksControlFirst}
 use Rattle.served_claims.specs.Answering.{WorksOver}
 use Rattle.served_claims.specs.Laws.{UsesClaim}
 use Rattle.paid_marks.specs.Holding.{HoldsPiece, bad_among}
-use Rattle.paid_marks.specs.Paid.{IsListedRun}
+use Rattle.paid_marks.specs.Paid.{IsListedRun, lengths_of_meta}
 
 -- Among these turns are all those of one worker over its link, which was so at first; no turn before them or
 -- behind them uses a claim.
@@ -59,12 +59,12 @@ module _ {D : Type 0} (state : D → DiskState) where
       → ¬ HasFailedLink (history_of told) gid served.mirror
       → (mark : Mark) → ¬ Contains (history_of told) (Ended gid (Dead piece mark))
 
-  -- so where each piece is served and the link doesn't fail, the only download ends by being complete alone
+  -- so where each wanted piece is served and the link doesn't fail, the only download ends by being complete alone
   abbrev pub ServedOnlyComplete : Type 0
   ServedOnlyComplete =
       (tells : Bool) (start : RunStart) (told : List RunTurn) (disk : D) (gid : Gid) (meta : Meta) (want : Want) (old : LinkAt)
       → IsTrue tells → (is : IsListedRun start told (state disk) gid meta want) → IsWorkOfOne tells told old
-      → ((piece : ℕ) → piece < pieces_of meta.plan.total meta.plan.piece_len
+      → ((piece : ℕ) → slice_index_or (wanted_pieces is.listed.download (lengths_of_meta meta)) piece false ≡ true
       → IsServedPiece old.state.content is.listed.download.subject
       (tries_in is.listed.download) meta piece)
       → ((mirror : ℕ) → ¬ HasFailedLink (history_of told) gid mirror) → IsOnly start (history_of told) gid

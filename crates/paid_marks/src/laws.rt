@@ -34,7 +34,7 @@ pub fn served_pieces_never_die<D: Disk>()
     plan_laws();
 }
 
-/// Where it is so of each piece, the only download of such a run, if no control file of it stood as the run began, and neither memory was
+/// Where it is so of each wanted piece, the only download of such a run, if no control file of it stood as the run began, and neither memory was
 /// wanting nor the disk failed, ends by being complete alone.
 pub fn served_downloads_only_complete<D: Disk>()
     ensures { ServedOnlyComplete D.state }

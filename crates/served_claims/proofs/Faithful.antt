@@ -2,6 +2,8 @@
 use Rattle.std.proofs.Common.{◌≡◌, ◌<◌, ◌∷◌, ◌++◌, ⊎_elim, ℕ, List, [], length, Option, Some, refl, sym, ap, subst, ◌∙◌, arith}
 use Rattle.std.specs.Prelude.{Contains, unwrap_or}
 use Rattle.std.proofs.lemmas.List.Elements.{Contains-append_right}
+use Rattle.blameless_mirrors.specs.Chosen.{ClaimsAreOfChosen}
+use Rattle.dl_kinds.specs.PlanLaws.{BlocksFollow}
 use Rattle.dl_kinds.specs.declared.claims.Claim.{Claim}
 use Rattle.dl_kinds.specs.declared.gid.Gid.{Gid}
 use Rattle.dl_kinds.specs.declared.marks.Mark.{Mark}
@@ -21,11 +23,13 @@ use Rattle.machine_core.specs.Starts.{Download, RunStart, Subject, Listed, Unlis
 use Rattle.machine_core.specs.declared.events.Event.{Event}
 use Rattle.machine_core.specs.declared.events.Event.TheVariants.{Claimed, Landed, Lost}
 use Rattle.mirror_payloads.specs.Faithful.{IsFaithful, IsFaithfulTurn, run_bytes}
+use Rattle.option_set.specs.Values.{OptionValues}
 use Rattle.span_map.specs.declared.jobs.Job.{Job}
 use Rattle.run_frame.proofs.Claims.{claims_one, standing_came}
 use Rattle.run_frame.proofs.Rows.{turn_brings}
-use Rattle.served_claims.specs.Laws.{IsToldRight, ServedClaimsAreFaithful, UsesClaim}
+use Rattle.served_claims.specs.Laws.{IsChosenJob, IsToldRight, ServedClaimsAreFaithful, UsesClaim}
 use Rattle.served_claims.specs.Serving.{ServesPayload}
+use Rattle.served_claims.proofs.Chosen.{job_chosen}
 use Rattle.served_claims.proofs.Histories.{CameAt, brought_there, deliver_home, granted_at, landed_came, legal_on, lengths_known, lengths_on, listed_known, may_at, probe_unlisted, there_on}
 use Rattle.served_claims.proofs.Owned.{RightFetchLoss, RightProbeLoss, RightTurn, right_turn}
 use Rattle.served_claims.proofs.Rightly.{ServingLaws}
@@ -45,27 +49,27 @@ same_known one other lengths is also = ap (λ (o : Option PayloadLengths). unwra
 
 -- the length that is known is the payload's
 total_by : (start : RunStart) (past : List Event) (gid : Gid) (download : Download) (subject : Subject)
-    (payload : List ℕ) (content : Content) (mirror : ℕ) (lengths : PayloadLengths)
+    (options : OptionValues) (payload : List ℕ) (content : Content) (mirror : ℕ) (lengths : PayloadLengths)
     → payload_lengths_of start past gid ≡ lengths_by download subject (own_of start past gid)
-    → payload_lengths_of start past gid ≡ Some lengths → ServesPayload content subject mirror payload
+    → payload_lengths_of start past gid ≡ Some lengths → ServesPayload content subject options mirror payload
     → IsToldRight start past gid payload subject → lengths.total ≡ length payload
-total_by start past gid download (Listed meta uris) payload content mirror lengths by known serves told =
+total_by start past gid download (Listed meta uris) options payload content mirror lengths by known serves told =
     let same : Some (record { total = meta.plan.total; piece_len = meta.plan.piece_len }) ≡ Some lengths = sym by ∙ known in
     let one : record { total = meta.plan.total; piece_len = meta.plan.piece_len } ≡ lengths = cc in
     sym (ap (λ (l : PayloadLengths). l.total) one) ∙ sym serves.total
-total_by start past gid download (Unlisted uris) payload content mirror lengths by known serves told = told lengths known
+total_by start past gid download (Unlisted uris) options payload content mirror lengths by known serves told = told lengths known
 
 total_known : (known : Option PayloadLengths) (lengths : PayloadLengths) (size : ℕ) → known ≡ Some lengths → lengths.total ≡ size
     → (unwrap_or known no_lengths).total ≡ size
 total_known known lengths size is size_is = ap (λ (o : Option PayloadLengths). (unwrap_or o no_lengths).total) is ∙ size_is
 
-module _ (stay : DownloadsStay) (lengths_stay : LengthsStay) (start : RunStart)
+module _ (stay : DownloadsStay) (lengths_stay : LengthsStay) (follow : BlocksFollow) (claims : ClaimsAreOfChosen) (start : RunStart)
     (told : List RunTurn) (gid : Gid) (download : Download) (mirror : ℕ) (payload : List ℕ)
     (legal : IsLegal start (history_of told)) (ties : AllTurns (MayComeAfter start) told)
     (added : download_in start (history_of told) gid ≡ Some download)
     (right : IsToldRight start (history_of told) gid payload download.subject)
     (served : (t : RunTurn) → Contains told t → UsesClaim t.op
-    → RightTurn told download.subject mirror payload t) where
+    → RightTurn told download.subject download.options mirror payload t) where
   abbrev lengths : PayloadLengths
   lengths = known_lengths start (history_of told) gid
 
@@ -94,12 +98,17 @@ module _ (stay : DownloadsStay) (lengths_stay : LengthsStay) (start : RunStart)
       let same : job.run.count ≡ at.claim.run.count = ap (λ (r : Run). r.count) at.is.run_is in
       omega (arith, some, same)
 
-  total_is : (content : Content) → ServesPayload content download.subject mirror payload → (claim : Claim)
+  chosen_job : (id : ℕ) (job : Job) → (at : JobAt id job)
+      → IsChosenJob download.options lengths download.subject mirror at.claim.run job
+  chosen_job id job at =
+      job_chosen follow claims start (history_of told) gid download legal added mirror at.claim job at.came at.is
+
+  total_is : (content : Content) → ServesPayload content download.subject download.options mirror payload → (claim : Claim)
       → Contains (history_of told) (Claimed gid claim) → 0 < claim.run.count → lengths.total ≡ length payload
   total_is content serves claim came some =
       let known = lengths_known lengths_stay start (history_of told) gid claim legal came some in
       total_known (payload_lengths_of start (history_of told) gid) known.0 (length payload) known.1
-      (total_by start (history_of told) gid download download.subject payload content mirror known.0
+      (total_by start (history_of told) gid download download.subject download.options payload content mirror known.0
       (listed_known start (history_of told) gid download added) known.1 serves right)
 
   -- ---- one place
@@ -155,7 +164,7 @@ module _ (stay : DownloadsStay) (lengths_stay : LengthsStay) (start : RunStart)
         let b = one.blocks id run bytes now op in
         let job = job_at id b.granted its b.by.turn (one.within b.by.turn b.by.there) b.by.said_is b.claim_is in
         let some = has_blocks id b.granted.job job in
-        b.right lengths job.claim.run (total_is one.content one.serves job.claim job.came some) job.is
+        b.right lengths job.claim.run (total_is one.content one.serves job.claim job.came some) (chosen_job id b.granted.job job)
         ∙ ap (λ (l : PayloadLengths). run_bytes l payload run)
         (same_lengths id run bytes now e job.claim op there job.came job.id_is some)
 
@@ -173,11 +182,11 @@ module _ (stay : DownloadsStay) (lengths_stay : LengthsStay) (start : RunStart)
         } in
         let one = served t t_there (subst UsesClaim (sym op) tt) in
         ⊎_elim
-        (λ (l : RightFetchLoss one.before download.subject mirror payload id mark).
+        (λ (l : RightFetchLoss one.before download.subject download.options mirror payload id mark).
         let job = job_at id l.granted its l.by.turn (one.within l.by.turn l.by.there) l.by.said_is l.claim_is in
         l.right lengths job.claim.run
-        (total_is one.content one.serves job.claim job.came (has_blocks id l.granted.job job)) job.is)
-        (λ (l : RightProbeLoss one.before download.subject mirror payload id mark).
+        (total_is one.content one.serves job.claim job.came (has_blocks id l.granted.job job)) (chosen_job id l.granted.job job))
+        (λ (l : RightProbeLoss one.before download.subject download.options mirror payload id mark).
         let granted_there = one.within l.by.turn l.by.there in
         let g = granted_at stay lengths_stay start told legal ties gid download added id mirror its l.by.turn
         (grant.Probe id l.gid l.url) granted_there l.by.said_is refl in
@@ -193,7 +202,8 @@ module _ (stay : DownloadsStay) (lengths_stay : LengthsStay) (start : RunStart)
   pub faithful : IsFaithful start gid mirror payload told
   faithful = all_at_places (IsFaithfulTurn start gid mirror payload) told faithful_turn
 
-pub served_faithfully : ServingLaws → DownloadsStay → LengthsStay → ServedClaimsAreFaithful
-served_faithfully laws stay lengths_stay tells start told gid download mirror payload true_is legal ties added right served =
-    faithful stay lengths_stay start told gid download mirror payload legal ties added right
-    (λ t there uses. right_turn laws tells true_is told download.subject mirror payload t (served t there uses))
+pub served_faithfully : ServingLaws → DownloadsStay → LengthsStay → BlocksFollow → ClaimsAreOfChosen → ServedClaimsAreFaithful
+served_faithfully laws stay lengths_stay follow claims tells start told gid download mirror payload true_is legal ties added right
+    served =
+    faithful stay lengths_stay follow claims start told gid download mirror payload legal ties added right
+    (λ t there uses. right_turn laws tells true_is told download.subject download.options mirror payload t (served t there uses))

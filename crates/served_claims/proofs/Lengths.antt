@@ -149,7 +149,7 @@ module _ (laws : ServingLaws) (stay : DownloadsStay) (lengths_stay : LengthsStay
     (legal : IsLegal start (history_of told)) (ties : AllTurns (MayComeAfter start) told)
     (added : download_in start (history_of told) gid ≡ Some download)
     (served : (t : RunTurn) (claim : Claim) → Contains told t → TellsSize t.op → Contains (history_of told) (Claimed gid claim)
-    → ComesOfServing tells told download.subject claim.mirror payload t) where
+    → ComesOfServing tells told download.subject download.options claim.mirror payload t) where
   sized_right : is_listed download.subject ≡ false → (id total : ℕ) → Contains (history_of told) (Sized gid id total)
       → total ≡ length payload
   sized_right unlisted id total there =
@@ -169,7 +169,7 @@ module _ (laws : ServingLaws) (stay : DownloadsStay) (lengths_stay : LengthsStay
       record { claim = claim; came = came; id_is = stands.id_is; mirror_is = refl } in
       let t_there : Contains told t = subst (λ (l : List RunTurn). Contains l t) (sym by.cut)
       (Contains-append_right by.newer (t ∷ by.before) t (0, omega arith, refl)) in
-      length_turn laws tells true_is told download.subject claim.mirror payload t
+      length_turn laws tells true_is told download.subject download.options claim.mirror payload t
       (served t claim t_there (subst TellsSize (sym op) tt) came) unlisted id total brought.0 op (λ u url granted_there said_is.
       let g = granted_at stay lengths_stay start told legal ties gid download added id claim.mirror its u
       (grant.Probe id url.0 url.1) granted_there said_is refl in

@@ -14,7 +14,7 @@ use Rattle.dl_kinds.specs.declared.gid.Gid.{Gid}
 use Rattle.dl_kinds.specs.declared.marks.Mark.{Mark}
 use Rattle.dl_kinds.specs.declared.runs.Moment.{Moment}
 use Rattle.dl_kinds.specs.declared.runs.Run.{Run}
-use Rattle.engine_turns.specs.NextRows.{IsJobOf, mirror_url}
+use Rattle.engine_turns.specs.NextRows.{mirror_url}
 use Rattle.engine_turns.specs.Told.{RunTurn}
 use Rattle.engine_turns.specs.declared.operations.FetchGrant.{FetchGrant}
 use Rattle.engine_turns.specs.declared.operations.Grant.TheVariants as grant
@@ -27,10 +27,11 @@ use Rattle.machine_core.specs.RunLegal.{is_listed}
 use Rattle.machine_core.specs.Starts.{Subject}
 use Rattle.memory_serving_laws.specs.Serving.{used_among}
 use Rattle.mirror_payloads.specs.Faithful.{run_bytes}
+use Rattle.option_set.specs.Values.{OptionValues}
 use Rattle.span_map.specs.declared.jobs.Job.{Job}
 use Rattle.run_frame.proofs.Turns.{cut_at}
 use Rattle.served_claims.specs.Answering.{HasAnswered, WorksOver}
-use Rattle.served_claims.specs.Laws.{ComesOfServing}
+use Rattle.served_claims.specs.Laws.{ComesOfServing, IsChosenJob}
 use Rattle.served_claims.specs.Serving.{HasNoBad, ServesAmong, ServesPayload, ServesRightly, ServesUnused}
 use Rattle.served_claims.proofs.Answered.{StayRight, answered_on, answered_by, stay_between, stay_right}
 use Rattle.served_claims.proofs.Fronts.{IsFront, due_of, lost_goes, missed_goes, told_of, work_fronts}
@@ -63,14 +64,14 @@ own_turn tells told worker worked old new works among t there =
 
 -- ---- what is right of it
 
-module _ (before : List RunTurn) (subject : Subject) (mirror : ℕ) (payload : List ℕ) where
+module _ (before : List RunTurn) (subject : Subject) (options : OptionValues) (mirror : ℕ) (payload : List ℕ) where
   -- blocks of what was granted have the payload's bytes
   pub record RightBlocks (id : ℕ) (run : Run) (bytes : List ℕ) : Type 0 where
     pub granted : FetchGrant
     pub by : GrantedBy before (grant.Fetch granted)
     pub claim_is : granted.claim ≡ id
     pub right : (lengths : PayloadLengths) (whole : Run) → lengths.total ≡ length payload
-        → IsJobOf lengths subject mirror whole granted.job → bytes ≡ run_bytes lengths payload run
+        → IsChosenJob options lengths subject mirror whole granted.job → bytes ≡ run_bytes lengths payload run
 
   -- a loss of what was granted has a count
   pub record RightFetchLoss (id : ℕ) (mark : Mark) : Type 0 where
@@ -78,7 +79,7 @@ module _ (before : List RunTurn) (subject : Subject) (mirror : ℕ) (payload : L
     pub by : GrantedBy before (grant.Fetch granted)
     pub claim_is : granted.claim ≡ id
     pub right : (lengths : PayloadLengths) (whole : Run) → lengths.total ≡ length payload
-        → IsJobOf lengths subject mirror whole granted.job → 0 < mark.count
+        → IsChosenJob options lengths subject mirror whole granted.job → 0 < mark.count
 
   pub record RightProbeLoss (id : ℕ) (mark : Mark) : Type 0 where
     pub gid : Gid
@@ -86,15 +87,16 @@ module _ (before : List RunTurn) (subject : Subject) (mirror : ℕ) (payload : L
     pub by : GrantedBy before (grant.Probe id gid url)
     pub right : is_listed subject ≡ false → url ≡ mirror_url subject mirror → 0 < mark.count
 
-pub record RightTurn (told : List RunTurn) (subject : Subject) (mirror : ℕ) (payload : List ℕ) (t : RunTurn) : Type 0 where
+pub record RightTurn (told : List RunTurn) (subject : Subject) (options : OptionValues) (mirror : ℕ)
+    (payload : List ℕ) (t : RunTurn) : Type 0 where
   pub content : Content
-  pub serves : ServesPayload content subject mirror payload
+  pub serves : ServesPayload content subject options mirror payload
   pub before : List RunTurn
   pub within : (u : RunTurn) → Contains before u → Contains told u
   pub blocks : (id : ℕ) (run : Run) (bytes : List ℕ) (now : Moment) → t.op ≡ operation.Deliver id run bytes now
-      → RightBlocks before subject mirror payload id run bytes
+      → RightBlocks before subject options mirror payload id run bytes
   pub losses : (id : ℕ) (mark : Mark) (now : Moment) → t.op ≡ operation.Lose id mark now
-      → RightFetchLoss before subject mirror payload id mark ⊎ RightProbeLoss before subject mirror payload id mark
+      → RightFetchLoss before subject options mirror payload id mark ⊎ RightProbeLoss before subject options mirror payload id mark
 
 -- each probe that was granted under the number asks the mirror of the download
 abbrev pub AsksAs : List RunTurn → Subject → ℕ → ℕ → Type 0
@@ -104,10 +106,10 @@ AsksAs told subject mirror id =
 
 -- ---- by what is known of the links
 
-module _ (laws : ServingLaws) (tells : Bool) (true_is : IsTrue tells) (told : List RunTurn) (subject : Subject) (mirror : ℕ)
-    (payload : List ℕ) (t : RunTurn) (worker : ℕ) (worked : List RunTurn) (old new : LinkAt)
+module _ (laws : ServingLaws) (tells : Bool) (true_is : IsTrue tells) (told : List RunTurn) (subject : Subject)
+    (options : OptionValues) (mirror : ℕ) (payload : List ℕ) (t : RunTurn) (worker : ℕ) (worked : List RunTurn) (old new : LinkAt)
     (works : WorksOver tells worker worked old new) (own : OwnTurn tells told worker old works.b works.end t)
-    (serves : ServesAmong old.state.content subject mirror payload) where
+    (serves : ServesAmong old.state.content subject options mirror payload) where
   abbrev at : WorkerAt
   at = own.takes.at
 
@@ -116,13 +118,13 @@ module _ (laws : ServingLaws) (tells : Bool) (true_is : IsTrue tells) (told : Li
 
   turn_of : ((id : ℕ) (run : Run) (bytes : List ℕ)
       (b : TakesBlocks tells old own.before at.hand at.link id run bytes) (lengths : PayloadLengths) (whole : Run)
-      → lengths.total ≡ length payload → IsJobOf lengths subject mirror whole b.f.job
+      → lengths.total ≡ length payload → IsChosenJob options lengths subject mirror whole b.f.job
       → IsFront (run_bytes lengths payload whole) (b.f.handed ++ bytes))
       → ((id : ℕ) (mark : Mark) (l : LosesFetch tells old own.before at.hand at.link id mark)
       → IsRight l.f.since × IsRight at.link)
       → ((id : ℕ) (mark : Mark) (l : LosesProbe tells old own.before at.hand at.link id mark)
       → IsRight l.p.since × IsRight at.link)
-      → RightTurn told subject mirror payload t
+      → RightTurn told subject options mirror payload t
   turn_of fronts fetches probes = record {
     content = old.state.content;
     serves = serves.serves;
@@ -135,10 +137,10 @@ module _ (laws : ServingLaws) (tells : Bool) (true_is : IsTrue tells) (told : Li
           by = b.of_grant.by;
           claim_is = sym b.of_grant.claim ∙ b.claim_is;
           right = λ lengths whole total is.
-              let its = subst (λ (j : Job). IsJobOf lengths subject mirror whole j) (sym b.of_grant.job) is in
+              let its = subst (λ (j : Job). IsChosenJob options lengths subject mirror whole j) (sym b.of_grant.job) is in
               let front = fronts id run bytes b lengths whole total its in
-              right_blocks tells old subject mirror payload own.before at.hand at.link id run bytes b lengths whole its front.rest
-              front.is;
+              right_blocks tells old subject options mirror payload own.before at.hand at.link id run bytes b lengths whole its
+              front.rest front.is;
         };
     losses = λ id mark now op. ⊎_elim
         (λ (l : LosesFetch tells old own.before at.hand at.link id mark). inl (record {
@@ -147,8 +149,9 @@ module _ (laws : ServingLaws) (tells : Bool) (true_is : IsTrue tells) (told : Li
           claim_is = sym l.of_grant.claim ∙ l.claim_is;
           right = λ lengths whole total is.
               let known = fetches id mark l in
-              right_loss laws tells true_is old subject mirror payload serves own.before at.hand at.link id mark l lengths total
-              whole (subst (λ (j : Job). IsJobOf lengths subject mirror whole j) (sym l.of_grant.job) is) known.0 known.1;
+              right_loss laws tells true_is old subject options mirror payload serves own.before at.hand at.link id mark l lengths
+              total whole (subst (λ (j : Job). IsChosenJob options lengths subject mirror whole j) (sym l.of_grant.job) is)
+              known.0 known.1;
         }))
         (λ (l : LosesProbe tells old own.before at.hand at.link id mark). inr (record {
           gid = l.holds.gid;
@@ -156,8 +159,8 @@ module _ (laws : ServingLaws) (tells : Bool) (true_is : IsTrue tells) (told : Li
           by = subst (λ (n : ℕ). GrantedBy own.before (grant.Probe n l.holds.gid l.p.url)) l.claim_is l.holds.by;
           right = λ unlisted url_is.
               let known = probes id mark l in
-              right_probe laws tells true_is old subject mirror payload unlisted serves own.before at.hand at.link id mark l url_is
-              known.0 known.1;
+              right_probe laws tells true_is old subject options mirror payload unlisted serves own.before at.hand at.link id mark l
+              url_is known.0 known.1;
         }))
         (loses_claim tells old worker own.before t id mark now own.behind works.b works.end own.takes op);
   }
@@ -170,7 +173,7 @@ module _ (laws : ServingLaws) (tells : Bool) (true_is : IsTrue tells) (told : Li
       let l = tells_length tells old worker own.before t id total now own.behind works.b works.end own.takes op in
       let by = l.holds.by in
       let is = known l in
-      right_length laws tells true_is old subject mirror payload unlisted serves own.before at.hand at.link id total l
+      right_length laws tells true_is old subject options mirror payload unlisted serves own.before at.hand at.link id total l
       (asks by.turn (l.holds.gid, l.p.url) (own.within by.turn by.there)
       (by.said_is ∙ ap (λ (n : ℕ). said.Grant (grant.Probe n l.holds.gid l.p.url)) l.claim_is)) is.0 is.1
 
@@ -179,11 +182,11 @@ module _ (laws : ServingLaws) (tells : Bool) (true_is : IsTrue tells) (told : Li
   none_left : HasNoBad old.state.content serves.among → (link : LinkAt) → HasAnswered old.state link.state → IsRight link
   none_left none_bad link has = stay_right laws.keep laws.none serves.among old.state link.state none_bad has
 
-  pub right_by_none : HasNoBad old.state.content serves.among → RightTurn told subject mirror payload t
+  pub right_by_none : HasNoBad old.state.content serves.among → RightTurn told subject options mirror payload t
   right_by_none none_bad = turn_of
       (λ id run bytes b lengths whole total is.
       let front = (subst (λ (g : Gain). IsGain tells b.f at.link g) b.gain b.at.gain).1 true_is in
-      let r = came_right laws tells true_is old subject mirror payload serves lengths whole b.f.job b.f.since at.link b.f.used
+      let r = came_right laws tells true_is old subject options mirror payload serves lengths whole b.f.job b.f.since at.link b.f.used
       ((b.f.handed ++ bytes) ++ front.behind) front.ending total is (none_left none_bad b.f.since (b.of_grant.since true_is))
       (none_left none_bad at.link (b.reached true_is)) b.at.carried.used front.fetched in
       record { rest = front.behind ++ r.behind; is = r.front ∙ append_assoc (b.f.handed ++ bytes) front.behind r.behind })
@@ -218,7 +221,7 @@ module _ (laws : ServingLaws) (tells : Bool) (true_is : IsTrue tells) (told : Li
         (λ (h : Hand). FollowsAnswer tells h t.answer.said at.link own.takes.works.1.hand own.takes.works.1.link) is
         own.takes.works.2.follows
 
-    pub right_by_unused : RightTurn told subject mirror payload t
+    pub right_by_unused : RightTurn told subject options mirror payload t
     right_by_unused = turn_of
         (λ id run bytes b lengths whole total is.
         let fed : b.f.gain ≡ gain.Starved → ⊥ =
@@ -226,7 +229,7 @@ module _ (laws : ServingLaws) (tells : Bool) (true_is : IsTrue tells) (told : Li
         let front = work_fronts tells true_is worker new b.f.job b.f.since (run_bytes lengths payload whole)
         (λ now used came ending to has fetched.
         let known = both b.f.since now used (b.of_grant.since true_is) has to in
-        came_right laws tells true_is old subject mirror payload serves lengths whole b.f.job b.f.since now used came ending total
+        came_right laws tells true_is old subject options mirror payload serves lengths whole b.f.job b.f.since now used came ending total
         is known.0 known.1 has fetched)
         (t ∷ own.behind) at works.b works.end b.f b.hand_is
         (record { job_is = refl; since_is = refl; is = told_of tells true_is b.f at.link b.at fed }) own.takes.works works.link_is
@@ -253,31 +256,31 @@ module _ (laws : ServingLaws) (tells : Bool) (true_is : IsTrue tells) (told : Li
 
 -- ---- the whole
 
-pub length_turn : ServingLaws → (tells : Bool) → IsTrue tells → (told : List RunTurn) (subject : Subject) (mirror : ℕ)
-    (payload : List ℕ) (t : RunTurn) → ComesOfServing tells told subject mirror payload t → is_listed subject ≡ false
+pub length_turn : ServingLaws → (tells : Bool) → IsTrue tells → (told : List RunTurn) (subject : Subject)
+    (options : OptionValues) (mirror : ℕ) (payload : List ℕ) (t : RunTurn) → ComesOfServing tells told subject options mirror payload t → is_listed subject ≡ false
     → (id total : ℕ) (now : Moment) → t.op ≡ operation.Sized id total now → AsksAs told subject mirror id
     → total ≡ length payload
-length_turn laws tells true_is told subject mirror payload t by unlisted id total now op asks =
+length_turn laws tells true_is told subject options mirror payload t by unlisted id total now op asks =
     let own = own_turn tells told by.worker by.worked by.old by.new by.works by.among t by.there in
     ⊎_elim
-    (λ (rightly : ServesRightly by.old.state.content subject mirror payload).
-    length_by_none laws tells true_is told subject mirror payload t by.worker by.worked by.old by.new by.works own rightly.of
+    (λ (rightly : ServesRightly by.old.state.content subject options mirror payload).
+    length_by_none laws tells true_is told subject options mirror payload t by.worker by.worked by.old by.new by.works own rightly.of
     rightly.none_bad unlisted id total now op asks)
-    (λ (unused : ServesUnused by.old.state.content by.new.state.content subject mirror payload
+    (λ (unused : ServesUnused by.old.state.content by.new.state.content subject options mirror payload
     × (by.works.end ≢ Some NoMemory)).
-    length_by_unused laws tells true_is told subject mirror payload t by.worker by.worked by.old by.new by.works own unused.0.of
+    length_by_unused laws tells true_is told subject options mirror payload t by.worker by.worked by.old by.new by.works own unused.0.of
     unused.0.unused unused.1 unlisted id total now op asks) by.serves
 
-pub right_turn : ServingLaws → (tells : Bool) → IsTrue tells → (told : List RunTurn) (subject : Subject) (mirror : ℕ)
-    (payload : List ℕ) (t : RunTurn) → ComesOfServing tells told subject mirror payload t
-    → RightTurn told subject mirror payload t
-right_turn laws tells true_is told subject mirror payload t by =
+pub right_turn : ServingLaws → (tells : Bool) → IsTrue tells → (told : List RunTurn) (subject : Subject)
+    (options : OptionValues) (mirror : ℕ) (payload : List ℕ) (t : RunTurn) → ComesOfServing tells told subject options mirror payload t
+    → RightTurn told subject options mirror payload t
+right_turn laws tells true_is told subject options mirror payload t by =
     let own = own_turn tells told by.worker by.worked by.old by.new by.works by.among t by.there in
     ⊎_elim
-    (λ (rightly : ServesRightly by.old.state.content subject mirror payload).
-    right_by_none laws tells true_is told subject mirror payload t by.worker by.worked by.old by.new by.works own rightly.of
+    (λ (rightly : ServesRightly by.old.state.content subject options mirror payload).
+    right_by_none laws tells true_is told subject options mirror payload t by.worker by.worked by.old by.new by.works own rightly.of
     rightly.none_bad)
-    (λ (unused : ServesUnused by.old.state.content by.new.state.content subject mirror payload
+    (λ (unused : ServesUnused by.old.state.content by.new.state.content subject options mirror payload
     × (by.works.end ≢ Some NoMemory)).
-    right_by_unused laws tells true_is told subject mirror payload t by.worker by.worked by.old by.new by.works own unused.0.of
+    right_by_unused laws tells true_is told subject options mirror payload t by.worker by.worked by.old by.new by.works own unused.0.of
     unused.0.unused unused.1) by.serves

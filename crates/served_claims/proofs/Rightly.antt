@@ -11,7 +11,7 @@ use Rattle.dl_kinds.specs.Plan.{block_end, block_start, blocks_of}
 use Rattle.dl_kinds.specs.declared.marks.Mark.{Mark}
 use Rattle.dl_kinds.specs.declared.runs.Run.{Run}
 use Rattle.dl_words.specs.Lists.{part_at}
-use Rattle.engine_turns.specs.NextRows.{IsJobOf, mirror_url}
+use Rattle.engine_turns.specs.NextRows.{mirror_url}
 use Rattle.engine_turns.specs.Told.{RunTurn}
 use Rattle.fetch_session.specs.Blocks.{cut}
 use Rattle.link_source.specs.Exchanges.{Exchange}
@@ -24,6 +24,7 @@ use Rattle.memory_serving_laws.specs.Laws.{CleanMirrorsUseNone, IsRightSoFar, Se
 use Rattle.memory_serving_laws.specs.Serving.{UrlLeadsAmong, used_among}
 use Rattle.memory_serving_laws.specs.Sizes.{ServedSizeIsTold}
 use Rattle.mirror_payloads.specs.Faithful.{run_bytes}
+use Rattle.option_set.specs.Values.{OptionValues}
 use Rattle.reply_reader.specs.Losses.{mark_of}
 use Rattle.reply_reader.specs.declared.loss.Loss.{Loss}
 use Rattle.reply_reader.specs.declared.loss.Loss.TheVariants as losses
@@ -38,7 +39,7 @@ use Rattle.request_chain.specs.Redirects.{redirect_limit}
 use Rattle.span_map.specs.Jobs.{run_end, run_start}
 use Rattle.span_map.specs.declared.jobs.Job.{Job}
 use Rattle.span_map.specs.declared.jobs.JobPart.{JobPart}
-use Rattle.served_claims.specs.Laws.{PartsAreGiven, PartsLeadAmong}
+use Rattle.served_claims.specs.Laws.{IsChosenJob, PartsAreGiven, PartsLeadAmong}
 use Rattle.served_claims.specs.Serving.{LeadsAmongMirror, ServesAmong, ServesPayload, ServesWhole}
 use Rattle.served_claims.proofs.Answered.{StayRight}
 use Rattle.served_claims.proofs.Slices.{cut_part}
@@ -58,25 +59,27 @@ pub record ServingLaws : Type 0 where
 
 -- ---- where the mirrors hold the same
 
-serves_alike : ServingLaws → (old new : Content) (subject : Subject) (mirror : ℕ) (payload : List ℕ)
-    → new.mirrors ≡ old.mirrors → ServesPayload old subject mirror payload → ServesPayload new subject mirror payload
-serves_alike laws old new (Listed meta uris) mirror payload same is = record {
+serves_alike : ServingLaws → (old new : Content) (subject : Subject) (options : OptionValues) (mirror : ℕ) (payload : List ℕ)
+    → new.mirrors ≡ old.mirrors → ServesPayload old subject options mirror payload
+    → ServesPayload new subject options mirror payload
+serves_alike laws old new (Listed meta uris) options mirror payload same is = record {
   total = is.total;
   laid = is.laid;
   small = is.small;
   leads = λ file some. laws.leads old new redirect_limit _ _ same (is.leads file some);
 }
-serves_alike laws old new (Unlisted uris) mirror payload same is = record {
+serves_alike laws old new (Unlisted uris) options mirror payload same is = record {
   small = is.small;
   leads = laws.leads old new redirect_limit _ _ same is.leads;
   told = laws.lengths old new redirect_limit _ _ same is.told;
 }
 
-among_alike : ServingLaws → (old new : Content) (among : ℕ → Bool) (subject : Subject) (mirror : ℕ)
-    → new.mirrors ≡ old.mirrors → LeadsAmongMirror old among subject mirror → LeadsAmongMirror new among subject mirror
-among_alike laws old new among (Listed meta uris) mirror same leads =
+among_alike : ServingLaws → (old new : Content) (among : ℕ → Bool) (subject : Subject) (options : OptionValues) (mirror : ℕ)
+    → new.mirrors ≡ old.mirrors → LeadsAmongMirror old among subject options mirror
+    → LeadsAmongMirror new among subject options mirror
+among_alike laws old new among (Listed meta uris) options mirror same leads =
     λ file some. laws.among old new among _ same (leads file some)
-among_alike laws old new among (Unlisted uris) mirror same leads = laws.among old new among _ same leads
+among_alike laws old new among (Unlisted uris) options mirror same leads = laws.among old new among _ same leads
 
 -- ---- losses
 
@@ -115,8 +118,8 @@ probe_counted url used faults since now loss mark is counts none tells = absurd 
 
 -- ---- over a link whose mirrors serve
 
-module _ (laws : ServingLaws) (tells : Bool) (told : IsTrue tells) (first : LinkAt) (subject : Subject) (mirror : ℕ)
-    (payload : List ℕ) (serves : ServesAmong first.state.content subject mirror payload) where
+module _ (laws : ServingLaws) (tells : Bool) (told : IsTrue tells) (first : LinkAt) (subject : Subject)
+    (options : OptionValues) (mirror : ℕ) (payload : List ℕ) (serves : ServesAmong first.state.content subject options mirror payload) where
   -- the mirrors of this link hold the same, and none of these used a bad answer meanwhile
   abbrev pub IsRight : LinkAt → Type 0
   IsRight link = StayRight serves.among first.state.content link.state.content
@@ -124,7 +127,7 @@ module _ (laws : ServingLaws) (tells : Bool) (told : IsTrue tells) (first : Link
   -- what came since the grant is right
   pub came_right : (lengths : PayloadLengths) (run : Run) (job : Job) (since now : LinkAt) (used : List Exchange)
       (came : List ℕ) (ending : FetchEnding) → lengths.total ≡ length payload
-      → IsJobOf lengths subject mirror run job → IsRight since → IsRight now
+      → IsChosenJob options lengths subject mirror run job → IsRight since → IsRight now
       → HasUsed tells since used now → Fetched job.parts used came ending []
       → IsRightSoFar (run_bytes lengths payload run) came ending
   came_right lengths run job since now used came ending total is at on has fetched =
@@ -135,10 +138,10 @@ module _ (laws : ServingLaws) (tells : Bool) (told : IsTrue tells) (first : Link
       absurd (omega (arith, more, same)))
       (laws.comes since.state.content now.state used serves.among job.parts (run_bytes lengths payload run) came ending
       (record { before = since.state.exchanges; answered = has.answered told; gains = has.gained told })
-      (laws.given since.state.content subject mirror payload lengths run job
-      (serves_alike laws first.state.content since.state.content subject mirror payload at.mirrors serves.serves) total is)
-      (laws.lead since.state.content serves.among subject mirror lengths run job
-      (among_alike laws first.state.content since.state.content serves.among subject mirror at.mirrors serves.leads) is)
+      (laws.given since.state.content subject options mirror payload lengths run job
+      (serves_alike laws first.state.content since.state.content subject options mirror payload at.mirrors serves.serves) total is)
+      (laws.lead since.state.content serves.among subject options mirror lengths run job
+      (among_alike laws first.state.content since.state.content serves.among subject options mirror at.mirrors serves.leads) is)
       fetched)
 
   not_lost : (bytes came : List ℕ) (loss : Loss) → IsRightSoFar bytes came (plans.Lost loss) → ⊥
@@ -149,7 +152,7 @@ module _ (laws : ServingLaws) (tells : Bool) (told : IsTrue tells) (first : Link
 
   pub right_loss : (turns : List RunTurn) (hand : Hand) (now : LinkAt) (claim : ℕ) (mark : Mark)
       (l : LosesFetch tells first turns hand now claim mark) (lengths : PayloadLengths) → lengths.total ≡ length payload
-      → (whole : Run) → IsJobOf lengths subject mirror whole l.f.job → IsRight l.f.since → IsRight now → 0 < mark.count
+      → (whole : Run) → IsChosenJob options lengths subject mirror whole l.f.job → IsRight l.f.since → IsRight now → 0 < mark.count
   right_loss turns hand now claim mark l lengths total whole is at on =
       let gain = subst (λ (g : Gain). IsGain tells l.f now g) l.gain l.at.gain in
       let rest : TellsRest l.f.job l.f.used l.f.handed l.loss = gain.2 told in
@@ -163,9 +166,10 @@ module _ (laws : ServingLaws) (tells : Bool) (told : IsTrue tells) (first : Link
 -- ---- blocks
 
 -- where the bytes of a claim's run begin with those that were delivered and these, these are the bytes of their run
-module _ (tells : Bool) (first : LinkAt) (subject : Subject) (mirror : ℕ) (payload : List ℕ) (turns : List RunTurn) (hand : Hand)
+module _ (tells : Bool) (first : LinkAt) (subject : Subject) (options : OptionValues) (mirror : ℕ) (payload : List ℕ)
+    (turns : List RunTurn) (hand : Hand)
     (now : LinkAt) (claim : ℕ) (run : Run) (bytes : List ℕ) (b : TakesBlocks tells first turns hand now claim run bytes)
-    (lengths : PayloadLengths) (whole : Run) (is : IsJobOf lengths subject mirror whole b.f.job) (rest : List ℕ)
+    (lengths : PayloadLengths) (whole : Run) (is : IsChosenJob options lengths subject mirror whole b.f.job) (rest : List ℕ)
     (begun : run_bytes lengths payload whole ≡ (b.f.handed ++ bytes) ++ rest) where
   ready : IsReady b.f run bytes b.last
   ready = (subst (λ (g : Gain). IsGain tells b.f now g) b.gain b.at.gain).0
@@ -174,7 +178,7 @@ module _ (tells : Bool) (first : LinkAt) (subject : Subject) (mirror : ℕ) (pay
   first_within =
       let some = b.at.some in
       let end = b.at.carried.end in
-      let within = is.sound.within in
+      let within = is.of.sound.within in
       let place = ready.first in
       omega (arith, some, end, within, place)
 
@@ -190,14 +194,14 @@ module _ (tells : Bool) (first : LinkAt) (subject : Subject) (mirror : ℕ) (pay
 
   -- by the lengths of the payload
   begins_by : block_start lengths.piece_len whole.first + length b.f.handed ≡ block_start lengths.piece_len run.first
-  begins_by = subst (λ (n : ℕ). block_start n whole.first + length b.f.handed ≡ block_start n run.first) is.piece_len
+  begins_by = subst (λ (n : ℕ). block_start n whole.first + length b.f.handed ≡ block_start n run.first) is.of.piece_len
       (subst (λ (r : Run). block_start b.f.job.plan.piece_len r.first + length b.f.handed
-      ≡ block_start b.f.job.plan.piece_len run.first) is.run_is begins)
+      ≡ block_start b.f.job.plan.piece_len run.first) is.of.run_is begins)
 
   long_by : length bytes
       ≡ block_end lengths.total lengths.piece_len (run.first + run.count - 1) - block_start lengths.piece_len run.first
-  long_by = long ∙ (λ i. block_end (is.total i) (is.piece_len i) (run.first + run.count - 1)
-      - block_start (is.piece_len i) run.first)
+  long_by = long ∙ (λ i. block_end (is.of.total i) (is.of.piece_len i) (run.first + run.count - 1)
+      - block_start (is.of.piece_len i) run.first)
 
   pub right_blocks : bytes ≡ run_bytes lengths payload run
   right_blocks =
@@ -212,18 +216,19 @@ told_or_due size loss is = ⊎_elim (λ (due : probes.Lost loss ≡ probes.Due).
     (λ (told : probes.Lost loss ≡ probes.Told size). absurd (let no = told in cc)) is
 
 -- what is asked of a mirror of a download without a metainfo file
-whole_of : (content : Content) (subject : Subject) (mirror : ℕ) (payload : List ℕ) → is_listed subject ≡ false
-    → ServesPayload content subject mirror payload → ServesWhole content (mirror_url subject mirror) payload
-whole_of content (Listed meta uris) mirror payload unlisted is = absurd (true≢false unlisted)
-whole_of content (Unlisted uris) mirror payload unlisted is = is
+whole_of : (content : Content) (subject : Subject) (options : OptionValues) (mirror : ℕ) (payload : List ℕ)
+    → is_listed subject ≡ false → ServesPayload content subject options mirror payload → ServesWhole content (mirror_url subject mirror) payload
+whole_of content (Listed meta uris) options mirror payload unlisted is = absurd (true≢false unlisted)
+whole_of content (Unlisted uris) options mirror payload unlisted is = is
 
-whole_among : (content : Content) (among : ℕ → Bool) (subject : Subject) (mirror : ℕ) → is_listed subject ≡ false
-    → LeadsAmongMirror content among subject mirror → UrlLeadsAmong content among (mirror_url subject mirror)
-whole_among content among (Listed meta uris) mirror unlisted leads = absurd (true≢false unlisted)
-whole_among content among (Unlisted uris) mirror unlisted leads = leads
+whole_among : (content : Content) (among : ℕ → Bool) (subject : Subject) (options : OptionValues) (mirror : ℕ)
+    → is_listed subject ≡ false → LeadsAmongMirror content among subject options mirror → UrlLeadsAmong content among (mirror_url subject mirror)
+whole_among content among (Listed meta uris) options mirror unlisted leads = absurd (true≢false unlisted)
+whole_among content among (Unlisted uris) options mirror unlisted leads = leads
 
-module _ (laws : ServingLaws) (tells : Bool) (told : IsTrue tells) (first : LinkAt) (subject : Subject) (mirror : ℕ)
-    (payload : List ℕ) (unlisted : is_listed subject ≡ false) (serves : ServesAmong first.state.content subject mirror payload)
+module _ (laws : ServingLaws) (tells : Bool) (told : IsTrue tells) (first : LinkAt) (subject : Subject)
+    (options : OptionValues) (mirror : ℕ) (payload : List ℕ) (unlisted : is_listed subject ≡ false)
+    (serves : ServesAmong first.state.content subject options mirror payload)
   where
     -- what a probe tells over the link is the length, or more is due
     probed_right : (p : Probing) (now : LinkAt) (probe : Probe) → StayRight serves.among first.state.content p.since.state.content
@@ -233,10 +238,10 @@ module _ (laws : ServingLaws) (tells : Bool) (told : IsTrue tells) (first : Link
     probed_right p now probe at on has url_is probed =
         let since = p.since.state.content in
         let same : used_among serves.among now.state.content ≡ used_among serves.among since = on.none_used ∙ sym at.none_used in
-        let there = whole_of since subject mirror payload unlisted
-        (serves_alike laws first.state.content since subject mirror payload at.mirrors serves.serves) in
-        let leads = whole_among since serves.among subject mirror unlisted
-        (among_alike laws first.state.content since serves.among subject mirror at.mirrors serves.leads) in
+        let there = whole_of since subject options mirror payload unlisted
+        (serves_alike laws first.state.content since subject options mirror payload at.mirrors serves.serves) in
+        let leads = whole_among since serves.among subject options mirror unlisted
+        (among_alike laws first.state.content since serves.among subject options mirror at.mirrors serves.leads) in
         ⊎_elim (λ (so : (probe ≡ probes.Due) ⊎ (probe ≡ probes.Told (length payload))). so)
         (λ (more : used_among serves.among since < used_among serves.among now.state.content). absurd (omega (arith, more, same)))
         (laws.sizes since now.state p.used serves.among (mirror_url subject mirror) (length payload) probe

@@ -22,6 +22,7 @@ use Rattle.machine_core.specs.RunLegal.{download_in}
 use Rattle.machine_core.specs.declared.calls.Call.{Call}
 use Rattle.machine_core.specs.declared.events.Event.{Event}
 use Rattle.machine_core.specs.declared.events.Event.TheVariants.{Claimed}
+use Rattle.option_set.specs.Values.{OptionValues}
 use Rattle.run_frame.specs.Begins.{IsOwnCall}
 use Rattle.run_frame.specs.Finishes.{Ran}
 use Rattle.run_frame.specs.declared.ended.Ended.{Ended}
@@ -73,10 +74,10 @@ pub works_over : {D L : Type 0} (links : LinkSays L) (worker : ℕ) (s : RunSigh
 works_over {D} {L} links worker s link s' link' result its = over_of links worker s link s' link' result its its.comes_out
 
 -- it ended for want of memory as it says
-came_so : (turns : ℕ) (end : Option WorkEnd) (result : Result WorkEnd Spent) (how : WorkEnd) → IsOutcomeOf turns end result
+came_so : (end : Option WorkEnd) (result : Result WorkEnd Spent) (how : WorkEnd) → IsOutcomeOf end result
     → end ≡ Some how → result ≡ Ok how
-came_so turns end (Ok by) how is ended = (let same : Some by ≡ Some how = sym is.0 ∙ ended in let one : by ≡ how = cc in ap Ok one)
-came_so turns end (Err spent) how is ended = absurd (none-some how (sym is.0 ∙ ended))
+came_so end (Ok by) how is ended = (let same : Some by ≡ Some how = sym is ∙ ended in let one : by ≡ how = cc in ap Ok one)
+came_so end (Err spent) how is ended = absurd (none-some how (sym is ∙ ended))
 
 pub ended_so : {D L : Type 0} (links : LinkSays L) (worker : ℕ) (s : RunSight D) (link : L) (s' : RunSight D) (link' : L)
     (result : Result WorkEnd Spent) (its : Worked links worker s link s' link' result)
@@ -87,7 +88,7 @@ ended_so {D} {L} links worker s link s' link' result its = by its.comes_out
     by : (comes : ComesOut links.tells worker its.worked (fresh (link_at links link)) its.b result
         ⊎ HasNoRoom its.worked (fresh (link_at links link)) its.b result)
         → (over_of links worker s link s' link' result its comes).end ≡ Some NoMemory → result ≡ Ok NoMemory
-    by (inl out_of) ended = came_so _ out_of.end result NoMemory out_of.is ended
+    by (inl out_of) ended = came_so out_of.end result NoMemory out_of.is ended
     by (inr none) ended = none.result_is
 
 -- ---- which turns are no worker's
@@ -134,10 +135,10 @@ sizes_theirs : IsOfWorkers TellsSize
 sizes_theirs = record { no_call = λ session call now tells. tells; no_stop = λ now tells. tells }
 
 module _ {D O L : Type 0} (says : DiskSays D) (sinks : SinkSays O) (links : LinkSays L) where
-  comes_of : (turns : List RunTurn) (subject : Subject) (mirror : ℕ) (payload : List ℕ) (t : RunTurn)
-      → ComesOfLink D links turns subject mirror payload t
-      → ComesOfServing links.tells (reverse turns) subject mirror payload t
-  comes_of turns subject mirror payload t of = record {
+  comes_of : (turns : List RunTurn) (subject : Subject) (options : OptionValues) (mirror : ℕ) (payload : List ℕ) (t : RunTurn)
+      → ComesOfLink D links turns subject options mirror payload t
+      → ComesOfServing links.tells (reverse turns) subject options mirror payload t
+  comes_of turns subject options mirror payload t of = record {
     worker = of.worker;
     worked = of.own.its.worked;
     old = link_at links of.old;
@@ -161,7 +162,7 @@ module _ {D O L : Type 0} (says : DiskSays D) (sinks : SinkSays O) (links : Link
       (ties_turned start turns (ran_facts.may_come ran))
       (subst (λ (past : List Event). download_in start past gid ≡ Some download) (ran_facts.history_is ran) added)
       (subst (λ (past : List Event). IsToldRight start past gid payload download.subject) (ran_facts.history_is ran) right)
-      (λ t there uses. comes_of turns download.subject mirror payload t
+      (λ t there uses. comes_of turns download.subject download.options mirror payload t
       (comes t (in_middle UsesClaim claims_theirs says sinks words gids doors disk out ended out' ran t
       (subst (λ (l : List RunTurn). Contains l t) (reverse-reverse turns) (turned_there (reverse turns) t there)) uses) uses))
 
@@ -173,7 +174,7 @@ module _ {D O L : Type 0} (says : DiskSays D) (sinks : SinkSays O) (links : Link
       (right links.tells start (reverse turns) gid download payload tells (ran_facts.legal_told ran)
       (ties_turned start turns (ran_facts.may_come ran))
       (subst (λ (past : List Event). download_in start past gid ≡ Some download) (ran_facts.history_is ran) added)
-      (λ t claim there told claimed. comes_of turns download.subject claim.mirror payload t
+      (λ t claim there told claimed. comes_of turns download.subject download.options claim.mirror payload t
       (comes t claim (in_middle TellsSize sizes_theirs says sinks words gids doors disk out ended out' ran t
       (subst (λ (l : List RunTurn). Contains l t) (reverse-reverse turns) (turned_there (reverse turns) t there)) told) told
       (subst (λ (past : List Event). Contains past (Claimed gid claim)) (sym (ran_facts.history_is ran)) claimed))))

@@ -26,9 +26,9 @@ use Rattle.span_map.specs.declared.files.FileLen.{FileLen}
 use Rattle.span_map.specs.declared.files.Part.{Part}
 use Rattle.span_map.specs.declared.jobs.Job.{Job}
 use Rattle.span_map.specs.declared.jobs.JobPart.{JobPart}
-use Rattle.span_map.proofs.Windows.{slice_parts}
 use Rattle.served_claims.specs.Laws.{PartsAreGiven, PartsLeadAmong}
-use Rattle.served_claims.specs.Serving.{file_bytes}
+use Rattle.served_claims.specs.Serving.{IsFileOfChosen, file_bytes}
+use Rattle.served_claims.proofs.Chosen.{files_chosen}
 
 -- ---- the contents of files
 
@@ -88,16 +88,11 @@ within_by (Some file) end is = is
 part_within : (files : List FileLen) (part : Part) → IsPart files part → part.at + part.len ≤ len_of_file files part.file
 part_within files part is = within_by (slice_get files part.file) (part.at + part.len) is.within
 
-has_bytes : (files : List FileLen) (part : Part) → IsPart files part → 0 < len_of_file files part.file
-has_bytes files part is =
-    let within = part_within files part is in
-    let some = is.some in omega (arith, within, some)
-
 -- ---- parts of files
 
 module _ (content : Content) (files : List FileLen) (base payload : List ℕ) (total : total_of files ≡ length payload)
-    (small : length payload < 2 ^ 63)
-    (leads : (file : ℕ) → 0 < len_of_file files file
+    (small : length payload < 2 ^ 63) (IsAsked : ℕ → Type 0)
+    (leads : (file : ℕ) → IsAsked file
     → Leads content redirect_limit (seed_url_of files base file) (file_bytes files payload file)) where
   file_long : (n : ℕ) → length (file_bytes files payload n) ≡ len_of_file files n
   file_long n =
@@ -106,34 +101,34 @@ module _ (content : Content) (files : List FileLen) (base payload : List ℕ) (t
       let behind = length-drop (total_of (take n files)) payload in
       omega (arith, within, front, behind, total)
 
-  serves_part : (part : Part) → IsPart files part
+  serves_part : (part : Part) → IsAsked part.file
       → ServesPart content (mirror_part files base part)
       (part_at (get_or (contents_of files payload) part.file []) part.at part.len)
   serves_part part is = record {
     resource = file_bytes files payload part.file;
-    leads = leads part.file (has_bytes files part is);
+    leads = leads part.file is;
     size = file_long part.file;
     bytes_are = ap (λ (l : List ℕ). part_at l part.at part.len) (content_at files payload part.file);
   }
 
-  gives_all : (parts : List Part) → All (IsPart files) parts
+  gives_all : (parts : List Part) → All (λ (part : Part). IsAsked part.file) parts
       → GivesAll content (map (mirror_part files base) parts) (part_bytes (contents_of files payload) parts)
   gives_all [] all = refl
   gives_all (part ∷ parts) all = (
     part_at (get_or (contents_of files payload) part.file []) part.at part.len,
     part_bytes (contents_of files payload) parts,
-    serves_part part (All-head (IsPart files) part parts all),
+    serves_part part (All-head (λ (p : Part). IsAsked p.file) part parts all),
     refl,
-    gives_all parts (All-tail (IsPart files) part parts all),
+    gives_all parts (All-tail (λ (p : Part). IsAsked p.file) part parts all),
   )
 
-  slice_given : PartsHoldSlices → (at len : ℕ)
+  slice_given : PartsHoldSlices → (at len : ℕ) → All (λ (part : Part). IsAsked part.file) (slice_of files at len)
       → GivesAll content (map (mirror_part files base) (slice_of files at len)) (part_at payload at len)
-  slice_given hold at len =
+  slice_given hold at len asked =
       subst (GivesAll content (map (mirror_part files base) (slice_of files at len)))
       (hold files (contents_of files payload) at len (fills files payload (omega (arith, total)))
       ∙ ap (λ (l : List ℕ). part_at l at len) (whole files payload (omega (arith, total))))
-      (gives_all (slice_of files at len) (slice_parts files at len))
+      (gives_all (slice_of files at len) asked)
 
   part_small : (part : Part) → len_of_file files part.file < 2 ^ 63
   part_small part = let within = file_within files part.file in omega (arith, within, total, small)
@@ -144,14 +139,15 @@ module _ (content : Content) (files : List FileLen) (base payload : List ℕ) (t
       All-cons (λ (p : JobPart). p.total < 2 ^ 63) (mirror_part files base part) (map (mirror_part files base) parts)
       (part_small part) (all_small parts)
 
-all_among : (content : Content) (among : ℕ → Bool) (files : List FileLen) (base : List ℕ)
-    → ((file : ℕ) → 0 < len_of_file files file → UrlLeadsAmong content among (seed_url_of files base file))
-    → (parts : List Part) → All (IsPart files) parts → All (LeadsAmong content among) (map (mirror_part files base) parts)
-all_among content among files base leads [] all = All-nil (LeadsAmong content among)
-all_among content among files base leads (part ∷ parts) all =
+all_among : (content : Content) (among : ℕ → Bool) (files : List FileLen) (base : List ℕ) (IsAsked : ℕ → Type 0)
+    → ((file : ℕ) → IsAsked file → UrlLeadsAmong content among (seed_url_of files base file))
+    → (parts : List Part) → All (λ (part : Part). IsAsked part.file) parts
+    → All (LeadsAmong content among) (map (mirror_part files base) parts)
+all_among content among files base IsAsked leads [] all = All-nil (LeadsAmong content among)
+all_among content among files base IsAsked leads (part ∷ parts) all =
     All-cons (LeadsAmong content among) (mirror_part files base part) (map (mirror_part files base) parts)
-    (leads part.file (has_bytes files part (All-head (IsPart files) part parts all)))
-    (all_among content among files base leads parts (All-tail (IsPart files) part parts all))
+    (leads part.file (All-head (λ (p : Part). IsAsked p.file) part parts all))
+    (all_among content among files base IsAsked leads parts (All-tail (λ (p : Part). IsAsked p.file) part parts all))
 
 -- ---- the parts of a job
 
@@ -165,34 +161,35 @@ bytes_by lengths subject mirror run job payload is = λ i.
     (block_end (is.total i) (is.piece_len i) (run.first + run.count - 1) - block_start (is.piece_len i) run.first)
 
 pub parts_are_given : PartsHoldSlices → PartsAreGiven
-parts_are_given hold content (Listed meta uris) mirror payload lengths run job serves long is =
+parts_are_given hold content (Listed meta uris) options mirror payload lengths run job serves long is =
     let files = meta.layout in
     let base = mirror_url (Listed meta uris) mirror in
     let total = serves.laid ∙ sym serves.total in
     let at = run_start job.plan run in
     let len = run_end job.plan run - run_start job.plan run in
     record {
-      sound = is.sound.parts;
-      bounded = subst (All (λ (part : JobPart). part.total < 2 ^ 63)) (sym is.parts)
-          (all_small content files base payload total serves.small serves.leads (slice_of files at len));
-      gives = subst (λ (parts : List JobPart). GivesAll content parts (run_bytes lengths payload run)) (sym is.parts)
+      sound = is.of.sound.parts;
+      bounded = subst (All (λ (part : JobPart). part.total < 2 ^ 63)) (sym is.of.parts)
+          (all_small content files base payload total serves.small (IsFileOfChosen meta options) serves.leads (slice_of files at len));
+      gives = subst (λ (parts : List JobPart). GivesAll content parts (run_bytes lengths payload run)) (sym is.of.parts)
           (subst (GivesAll content (map (mirror_part files base) (slice_of files at len)))
-          (bytes_by lengths (Listed meta uris) mirror run job payload is)
-          (slice_given content files base payload total serves.small serves.leads hold at len));
+          (bytes_by lengths (Listed meta uris) mirror run job payload is.of)
+          (slice_given content files base payload total serves.small (IsFileOfChosen meta options) serves.leads hold at len
+          (files_chosen meta uris options mirror lengths run job is (part_within files))));
     }
-parts_are_given hold content (Unlisted uris) mirror payload lengths run job serves long is =
+parts_are_given hold content (Unlisted uris) options mirror payload lengths run job serves long is =
     let at = run_start job.plan run in
     let len = run_end job.plan run - run_start job.plan run in
-    let total : length payload ≡ job.plan.total = sym long ∙ sym is.total in
+    let total : length payload ≡ job.plan.total = sym long ∙ sym is.of.total in
     let small = serves.small in
     let one : JobPart = record { url = mirror_url (Unlisted uris) mirror; at = at; len = len; total = job.plan.total } in
     record {
-      sound = is.sound.parts;
-      bounded = subst (All (λ (part : JobPart). part.total < 2 ^ 63)) (sym is.parts)
+      sound = is.of.sound.parts;
+      bounded = subst (All (λ (part : JobPart). part.total < 2 ^ 63)) (sym is.of.parts)
           (All-cons (λ (part : JobPart). part.total < 2 ^ 63) one [] (omega (arith, total, small))
           (All-nil (λ (part : JobPart). part.total < 2 ^ 63)));
-      gives = subst (λ (parts : List JobPart). GivesAll content parts (run_bytes lengths payload run)) (sym is.parts)
-          (subst (GivesAll content (one ∷ [])) (bytes_by lengths (Unlisted uris) mirror run job payload is) (
+      gives = subst (λ (parts : List JobPart). GivesAll content parts (run_bytes lengths payload run)) (sym is.of.parts)
+          (subst (GivesAll content (one ∷ [])) (bytes_by lengths (Unlisted uris) mirror run job payload is.of) (
             part_at payload at len,
             [],
             record { resource = payload; leads = serves.leads; size = total; bytes_are = refl },
@@ -202,18 +199,19 @@ parts_are_given hold content (Unlisted uris) mirror payload lengths run job serv
     }
 
 pub parts_lead_among : PartsLeadAmong
-parts_lead_among content among (Listed meta uris) mirror lengths run job leads is =
+parts_lead_among content among (Listed meta uris) options mirror lengths run job leads is =
     let files = meta.layout in
     let base = mirror_url (Listed meta uris) mirror in
     let at = run_start job.plan run in
     let len = run_end job.plan run - run_start job.plan run in
-    subst (All (LeadsAmong content among)) (sym is.parts)
-    (all_among content among files base leads (slice_of files at len) (slice_parts files at len))
-parts_lead_among content among (Unlisted uris) mirror lengths run job leads is =
+    subst (All (LeadsAmong content among)) (sym is.of.parts)
+    (all_among content among files base (IsFileOfChosen meta options) leads (slice_of files at len)
+    (files_chosen meta uris options mirror lengths run job is (part_within files)))
+parts_lead_among content among (Unlisted uris) options mirror lengths run job leads is =
     let at = run_start job.plan run in
     let len = run_end job.plan run - run_start job.plan run in
     let one : JobPart = record { url = mirror_url (Unlisted uris) mirror; at = at; len = len; total = job.plan.total } in
-    subst (All (LeadsAmong content among)) (sym is.parts)
+    subst (All (LeadsAmong content among)) (sym is.of.parts)
     (All-cons (LeadsAmong content among) one [] leads (All-nil (LeadsAmong content among)))
 
 -- ---- parts of parts

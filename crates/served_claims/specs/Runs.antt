@@ -11,6 +11,7 @@ use Rattle.machine_core.specs.RunLegal.{download_in}
 use Rattle.machine_core.specs.Starts.{Download, Subject}
 use Rattle.machine_core.specs.declared.events.Event.TheVariants.{Claimed}
 use Rattle.mirror_payloads.specs.Faithful.{IsFaithful}
+use Rattle.option_set.specs.Values.{OptionValues}
 use Rattle.run_frame.specs.Begins.{start_of_line}
 use Rattle.run_frame.specs.Finishes.{Ran}
 use Rattle.run_frame.specs.LinkCauses.{WorkedAmong}
@@ -21,15 +22,15 @@ use Rattle.served_claims.specs.Serving.{ServesRightly, ServesUnused}
 
 -- The turn is one of a worker's own in these turns of a run, over a link whose mirrors served the payload rightly: none on the way had a
 -- bad answer left, or none was used while memory sufficed.
-pub record ComesOfLink {L : Type 0} (D : Type 0) (links : LinkSays L) (turns : List RunTurn) (subject : Subject) (mirror : ℕ)
-    (payload : List ℕ) (t : RunTurn) : Type 0 where
+pub record ComesOfLink {L : Type 0} (D : Type 0) (links : LinkSays L) (turns : List RunTurn) (subject : Subject)
+    (options : OptionValues) (mirror : ℕ) (payload : List ℕ) (t : RunTurn) : Type 0 where
   pub worker : ℕ
   pub old : L
   pub new : L
   pub own : WorkedAmong D links worker turns old new
   pub there : Contains own.its.worked t
-  pub serves : ServesRightly (links.state old).content subject mirror payload
-      ⊎ (ServesUnused (links.state old).content (links.state new).content subject mirror payload
+  pub serves : ServesRightly (links.state old).content subject options mirror payload
+      ⊎ (ServesUnused (links.state old).content (links.state new).content subject options mirror payload
       × (own.came ≢ Ok NoMemory))
 
 module _ {D O L : Type 0} (says : DiskSays D) (sinks : SinkSays O) (links : LinkSays L) where
@@ -45,7 +46,7 @@ module _ {D O L : Type 0} (says : DiskSays D) (sinks : SinkSays O) (links : Link
       → IsToldRight (start_of_line gids doors ran.begins.line.globals) (reverse ended.journal.events.items) gid payload
       download.subject
       → ((t : RunTurn) → Contains ran.stops.middle t → UsesClaim t.op
-      → ComesOfLink D links (all_turns says ran.stops) download.subject mirror payload t)
+      → ComesOfLink D links (all_turns says ran.stops) download.subject download.options mirror payload t)
       → IsFaithful (start_of_line gids doors ran.begins.line.globals) gid mirror payload
       (reverse (all_turns says ran.stops))
 
@@ -60,6 +61,6 @@ module _ {D O L : Type 0} (says : DiskSays D) (sinks : SinkSays O) (links : Link
       ≡ Some download
       → ((t : RunTurn) (claim : Claim) → Contains ran.stops.middle t → TellsSize t.op
       → Contains (reverse ended.journal.events.items) (Claimed gid claim)
-      → ComesOfLink D links (all_turns says ran.stops) download.subject claim.mirror payload t)
+      → ComesOfLink D links (all_turns says ran.stops) download.subject download.options claim.mirror payload t)
       → IsToldRight (start_of_line gids doors ran.begins.line.globals) (reverse ended.journal.events.items) gid payload
       download.subject

@@ -3,8 +3,9 @@ ghost use Rattle.served_claims.specs.Answering.{WorkIsAnswered};
 ghost use Rattle.served_claims.specs.Laws.{PartsAreGiven, PartsLeadAmong, ServedClaimsAreFaithful, ServedLengthsAreRight};
 ghost use Rattle.served_claims.specs.Runs.{RunsAreFaithful, RunsTellRight};
 
+use blameless_mirrors::claims_are_of_chosen_pieces;
 use dl_disk::Disk;
-use dl_kinds::Sink;
+use dl_kinds::{Sink, plan_laws};
 use link_source::Links;
 use machine_core::downloads_stay;
 use memory_serving_laws::{
@@ -12,8 +13,8 @@ use memory_serving_laws::{
 };
 use span_map::parts_hold_slices;
 
-/// Of a payload that is served, the parts of resources that are asked of its mirror for a run of blocks give just the bytes of
-/// the run.
+/// Of a payload that is served, the parts of resources that are asked of its mirror for a run of blocks of pieces that the options
+/// choose give just the bytes of the run.
 pub fn parts_of_payloads_are_given()
     ensures given { PartsAreGiven }
     ensures among { PartsLeadAmong }
@@ -33,10 +34,12 @@ pub fn served_claims_are_faithful()
     ensures claims { ServedClaimsAreFaithful }
     ensures lengths { ServedLengthsAreRight }
 {
+    claims_are_of_chosen_pieces();
     clean_mirrors_stay();
     downloads_stay();
     mirrors_hold_alike();
     parts_of_payloads_are_given();
+    plan_laws();
     served_comes();
     served_sizes_are_told();
     work_is_answered();

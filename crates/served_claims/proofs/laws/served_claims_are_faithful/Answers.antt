@@ -17,6 +17,7 @@ returns c =
       lead = c.parts_of_payloads_are_given.ensures.among;
     } in
     record {
-      claims = served_faithfully laws c.downloads_stay.ensures.downloads c.downloads_stay.ensures.lengths;
+      claims = served_faithfully laws c.downloads_stay.ensures.downloads c.downloads_stay.ensures.lengths
+          c.plan_laws.ensures.follow c.claims_are_of_chosen_pieces.ensures;
       lengths = lengths_right laws c.downloads_stay.ensures.downloads c.downloads_stay.ensures.lengths;
     }
