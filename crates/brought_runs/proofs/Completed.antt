@@ -1,7 +1,7 @@
--- A run over links that lead to all that a metainfo file lists is done, where nothing cuts it short.
-use Rattle.std.proofs.Common.{◌≡◌, ◌⊎◌, inl, inr, ⊎_elim, ℕ, IsTrue, List, Some, length, sym, ap, ◌∙◌, subst, arith}
+-- A run over links that lead to all that is to come of what a metainfo file lists is done, where nothing cuts it short.
+use Rattle.std.proofs.Common.{◌≡◌, ◌⊎◌, inl, inr, ⊎_elim, ℕ, Bool, IsTrue, List, Some, length, sym, ap, ◌∙◌, subst, arith}
 use Rattle.std.specs.Prelude.{◌≤◌, ◌<◌, reverse}
-use Rattle.blameless_mirrors.specs.Blameless.{IsListedAlone}
+use Rattle.blameless_mirrors.specs.Blameless.{HasChosenPieces, IsListedAlone}
 use Rattle.blameless_mirrors.specs.Lone.{IsLoneListed, LoneAreAlone}
 use Rattle.brought_runs.specs.Ends.{BroughtRunsEndWell, FinishedAreDone, IsBroughtRun}
 use Rattle.command_line.specs.LineLaws.{LinesAreOne}
@@ -29,7 +29,7 @@ use Rattle.run_frame.proofs.Ran as ran_facts
 use Rattle.run_report.specs.declared.endings.RunEnding.TheVariants.{NoMemory}
 use Rattle.served_claims.specs.Runs.{RunsAreFaithful}
 use Rattle.run_frame.specs.Finishes.{Ran}
-use Rattle.brought_runs.specs.Completes.{CompletesServed, IsDone, IsServedWhole, NamesPayload, WasCutShort}
+use Rattle.brought_runs.specs.Completes.{CompletesServed, EndsCutShort, IsDone, IsServedWhole, NamesPayload, own_options}
 use Rattle.brought_runs.specs.OverLaws.{RunsShowLinks}
 use Rattle.brought_runs.specs.Over.{IsRunOver, RanOverLinks}
 use Rattle.brought_runs.specs.Served.{AllServe, IsServed}
@@ -53,9 +53,11 @@ pub record Laws {D O L : Type 0} (K : Type 0) (says : DiskSays D) (sinks : SinkS
   pub shown : RunsEndAsShown says sinks
   pub shows : RunsShowLinks K says sinks links
 
-module _ {D O L K : Type 0} {says : DiskSays D} {sinks : SinkSays O} {links : LinkSays L} {words : List (List ℕ)}
-    {gids doors : ℕ} {disk : D} {olds : List (L × K)} {out : O} {ended : Ended D} {news : List (L × K)} {out' : O} where
-  module _ (laws : Laws K says sinks links) (it : RanOverLinks says sinks links words gids doors disk olds out ended news out')
+module _ {D O L K : Type 0} {says : DiskSays D} {sinks : SinkSays O} {limited : Bool} {links : LinkSays L}
+    {words : List (List ℕ)} {gids doors : ℕ} {disk : D} {olds : List (L × K)} {out : O} {ended : Ended D}
+    {news : List (L × K)} {out' : O} where
+  module _ (laws : Laws K says sinks links)
+      (it : RanOverLinks says sinks limited links words gids doors disk olds out ended news out')
       (tells : IsTrue says.tells) (link_tells : IsTrue links.tells)
       (named : CommandLine) (meta : Meta) (uris : List (List ℕ)) (mirror : ℕ) (payload : List ℕ)
       (is : IsServedWhole says links sinks words disk olds out ended news out' named meta uris mirror payload) where
@@ -74,9 +76,11 @@ module _ {D O L K : Type 0} {says : DiskSays D} {sinks : SinkSays O} {links : Li
     abbrev past : List Event
     past = history_of told
 
+    line_is : named ≡ line
+    line_is = laws.lines words named line is.names.means ran.begins.means
+
     names : NamesPayload words (says.state disk).seen line meta uris
-    names = subst (λ (l : CommandLine). NamesPayload words (says.state disk).seen l meta uris)
-        (laws.lines words named line is.names.means ran.begins.means) is.names
+    names = subst (λ (l : CommandLine). NamesPayload words (says.state disk).seen l meta uris) line_is is.names
 
     usual : LineUsual line
     usual = line_usual words line names.means names.off
@@ -88,7 +92,7 @@ module _ {D O L K : Type 0} {says : DiskSays D} {sinks : SinkSays O} {links : Li
 
     -- ---- its download
 
-    module _ (one : RanOne ran (Listed meta uris)) where
+    module _ (one : RanOne it (Listed meta uris)) where
       abbrev gid : Gid
       gid = one.download.gid
 
@@ -104,12 +108,16 @@ module _ {D O L K : Type 0} {says : DiskSays D} {sinks : SinkSays O} {links : Li
       download_is : listed.download ≡ one.download
       download_is = let both : Some listed.download ≡ Some one.download = sym listed.added ∙ one.there in cc
 
+      options_are : one.download.options ≡ own_options named
+      options_are = one.options ∙ ap own_options (sym line_is)
+
       serves : IsServed links olds news ended.ending start past gid mirror payload
       serves = record {
         download = one.download;
         added = one.there;
         listed = ap is_listed one.subject_is;
-        serve = inl (subst (λ (s : Subject). AllServe links olds s mirror payload) (sym one.subject_is) is.serve);
+        serve = inl (subst (λ (s : Subject). AllServe links olds s one.download.options mirror payload) (sym one.subject_is)
+            (subst (λ (o : OptionValues). AllServe links olds (Listed meta uris) o mirror payload) (sym options_are) is.serve));
       }
 
       brought : IsBroughtRun says sinks ran gid mirror meta want payload
@@ -117,34 +125,35 @@ module _ {D O L K : Type 0} {says : DiskSays D} {sinks : SinkSays O} {links : Li
         listed = listed;
         only = one.only;
         faithful = brings it laws.faithful link_tells gid mirror payload serves;
-        of = is.of;
+        of = subst (λ (o : OptionValues). HasChosenPieces meta o payload)
+            (sym (ap (λ (d : Download). d.options) download_is ∙ options_are)) is.of;
         known = subst (λ (n : ℕ). mirror < n)
             (sym (ap (λ (d : Download). mirrors_by d.subject) download_is ∙ ap mirrors_by one.subject_is)) is.known;
         some = subst (λ (n : ℕ). 1 ≤ n)
             (sym (ap tries_in download_is ∙ ap (λ (o : OptionValues). number_value o MaxTries) one.options))
             usual.own.tries;
-        links = no_failed_link it (laws.shows words gids doors disk olds out ended news out' (inr it)) is.well gid mirror;
+        links = no_failed_link it (laws.shows limited words gids doors disk olds out ended news out' (inr it)) is.well gid mirror;
         faultless = is.well.of_disk.0;
         counts = is.well.of_disk.1;
         memory = one.memory;
         fresh = is.fresh (payload_name want);
       }
 
-      done : IsDone ended ⊎ (ended.ending ≡ NoMemory)
+      done : IsDone ended ⊎ (ended.ending ≡ NoMemory) ⊎ EndsCutShort limited links olds ended news
       done =
           let ends = laws.well words gids doors disk out ended out' ran gid mirror meta want payload tells brought in
-          comes {links = links} {olds = olds} {news = news} ran laws.shown is.well (Listed meta uris) laws.done one ends.0 ends.1
+          comes it laws.shown is.well (Listed meta uris) laws.done one ends.0 ends.1
 
-    completes_here : 1 ≤ length olds → IsDone ended ⊎ (ended.ending ≡ NoMemory) ⊎ WasCutShort D links olds news
-    completes_here some = ⊎_elim
-        (λ (one : RanOne ran (Listed meta uris)). ⊎_elim (λ (well : IsDone ended). inl well)
-        (λ (starved : ended.ending ≡ NoMemory). inr (inl starved)) (done one))
-        (λ more. inr more)
+    completes_here : 1 ≤ length olds
+        → IsDone ended ⊎ (ended.ending ≡ NoMemory) ⊎ EndsCutShort limited links olds ended news
+    completes_here some = ⊎_elim (λ (one : RanOne it (Listed meta uris)). done one)
+        (λ (starved : ended.ending ≡ NoMemory). inr (inl starved))
         (ran_one laws.append laws.stay it asked_call.its asked_call.is (Listed meta uris) asked_call.adds usual some)
 
-  pub completes_served : Laws K says sinks links → IsRunOver says sinks links words gids doors disk olds out ended news out'
+  pub completes_served : Laws K says sinks links
+      → IsRunOver says sinks limited links words gids doors disk olds out ended news out'
       → 1 ≤ length olds → IsTrue says.tells → IsTrue links.tells
-      → CompletesServed says links sinks words disk olds out ended news out'
+      → CompletesServed limited says links sinks words disk olds out ended news out'
   completes_served laws (inl never) links_are tells link_tells named meta uris mirror payload is =
       let known = is.known in
       inr (inl (never_began laws.lines tells never named meta uris is.names (omega (arith, known)) is.well.of_disk))

@@ -1,11 +1,11 @@
 -- A run without a metainfo file, over links whose mirrors lead alike to one resource, is done, where nothing cuts it short.
-use Rattle.std.proofs.Common.{◌≡◌, ◌⊎◌, inl, inr, ⊎_elim, ℕ, IsTrue, List, [], ◌∷◌, ◌++◌, append_assoc, Option, Some, None, cond, length, refl, sym, ap, ◌∙◌, subst, arith}
+use Rattle.std.proofs.Common.{◌≡◌, ◌⊎◌, inl, inr, ⊎_elim, ℕ, Bool, IsTrue, List, [], ◌∷◌, ◌++◌, append_assoc, Option, Some, None, cond, length, refl, sym, ap, ◌∙◌, subst, arith}
 use Rattle.std.specs.Prelude.{◌≤◌, ◌<◌, codes, Contains, IfSome, map, reverse}
 use Rattle.std.specs.Option.{is_some, option_and_then, option_map, unwrap_or}
 use Rattle.blameless_mirrors.specs.Lone.{first_time}
 use Rattle.blameless_mirrors.specs.LoneUris.{HasFile, IsFreeFirst, IsLoneUnlisted, IsUnlistedBrought, IsUnlistedServed, UnlistedCompleteAreWhole, UnlistedOnlyComplete}
-use Rattle.brought_runs.specs.Completes.{IsDone, WasCutShort}
-use Rattle.brought_runs.specs.CompletesUris.{CompletesUris, IsDoneWith, IsServedAlike, LacksFiles, NamesMirrors, own_options}
+use Rattle.brought_runs.specs.Completes.{EndsCutShort, IsDone, own_options}
+use Rattle.brought_runs.specs.CompletesUris.{CompletesUris, IsDoneWith, IsServedAlike, LacksFiles, NamesMirrors}
 use Rattle.brought_runs.specs.Ends.{EndsUnfailed, FinishedAreDone, OnlyCompletes}
 use Rattle.brought_runs.specs.Over.{IsRunOver, IsWork, RanOverLinks}
 use Rattle.brought_runs.specs.OverLaws.{RunsShowLinks}
@@ -111,9 +111,11 @@ pub record UriLaws {D O L : Type 0} (K : Type 0) (says : DiskSays D) (sinks : Si
   pub shown : RunsEndAsShown says sinks
   pub shows : RunsShowLinks K says sinks links
 
-module _ {D O L K : Type 0} {says : DiskSays D} {sinks : SinkSays O} {links : LinkSays L} {words : List (List ℕ)}
-    {gids doors : ℕ} {disk : D} {olds : List (L × K)} {out : O} {ended : Ended D} {news : List (L × K)} {out' : O} where
-  module _ (laws : UriLaws K says sinks links) (it : RanOverLinks says sinks links words gids doors disk olds out ended news out')
+module _ {D O L K : Type 0} {says : DiskSays D} {sinks : SinkSays O} {limited : Bool} {links : LinkSays L}
+    {words : List (List ℕ)} {gids doors : ℕ} {disk : D} {olds : List (L × K)} {out : O} {ended : Ended D}
+    {news : List (L × K)} {out' : O} where
+  module _ (laws : UriLaws K says sinks links)
+      (it : RanOverLinks says sinks limited links words gids doors disk olds out ended news out')
       (tells : IsTrue says.tells) (link_tells : IsTrue links.tells)
       (named : CommandLine) (uris : List (List ℕ)) (resource : List ℕ)
       (is : IsServedAlike says links sinks words disk olds out ended news out' named uris resource) where
@@ -149,15 +151,21 @@ module _ {D O L K : Type 0} {says : DiskSays D} {sinks : SinkSays O} {links : Li
 
     -- ---- its download
 
-    module _ (one : RanOne ran (Unlisted uris)) where
+    module _ (one : RanOne it (Unlisted uris)) where
       abbrev gid : Gid
       gid = one.download.gid
 
       abbrev d : Download
       d = one.download
 
-      serve : (mirror : ℕ) → mirror < length uris → AllServe links olds d.subject mirror resource
-      serve mirror low = subst (λ (s : Subject). AllServe links olds s mirror resource) (sym one.subject_is) (is.serve mirror low)
+      options_are : d.options ≡ own_options named
+      options_are = one.options ∙ ap own_options (sym line_is)
+
+      serve : (mirror : ℕ) → mirror < length uris → AllServe links olds d.subject d.options mirror resource
+      serve mirror low =
+          subst (λ (s : Subject). AllServe links olds s d.options mirror resource) (sym one.subject_is)
+          (subst (λ (o : OptionValues). AllServe links olds (Unlisted uris) o mirror resource) (sym options_are)
+          (is.serve mirror low))
 
       low_claim : (claim : Claim) → Contains past (Claimed gid claim) → claim.mirror < length uris
       low_claim claim there = claimed_known laws.stay start past gid d uris one.subject_is (ran_facts.legal_told ran)
@@ -169,7 +177,7 @@ module _ {D O L K : Type 0} {says : DiskSays D} {sinks : SinkSays O} {links : Li
       right : IsToldRight start (reverse ended.journal.events.items) gid resource d.subject
       right = laws.right words gids doors disk out ended out' ran gid d resource link_tells added
           (λ t claim there sized claimed.
-          of_link it d.subject claim.mirror resource (inl (serve claim.mirror (low_claim claim
+          of_link it d.subject d.options claim.mirror resource (inl (serve claim.mirror (low_claim claim
           (subst (λ (p : List Event). Contains p (Claimed gid claim)) (ran_facts.history_is ran) claimed))))
           t there (sizes_work t.op sized))
 
@@ -194,7 +202,7 @@ module _ {D O L K : Type 0} {says : DiskSays D} {sinks : SinkSays O} {links : Li
 
       faithful : (mirror : ℕ) → mirror < length uris → IsFaithful start gid mirror resource told
       faithful mirror low = laws.faithful words gids doors disk out ended out' ran gid d mirror resource link_tells added right
-          (λ t there uses. of_link it d.subject mirror resource (inl (serve mirror low)) t there (uses_work t.op uses))
+          (λ t there uses. of_link it d.subject d.options mirror resource (inl (serve mirror low)) t there (uses_work t.op uses))
 
       abbrev lone : IsLoneUnlisted start past gid uris
       lone = record {
@@ -246,7 +254,7 @@ module _ {D O L K : Type 0} {says : DiskSays D} {sinks : SinkSays O} {links : Li
         faithful = faithful 0 (let some = lawful.0.some in omega (arith, some));
         known = (let some = lawful.0.some in omega (arith, some));
         some = subst (λ (n : ℕ). 1 ≤ n) (sym (ap (λ (o : OptionValues). number_value o MaxTries) one.options)) usual.own.tries;
-        links = no_failed_link it (laws.shows words gids doors disk olds out ended news out' (inr it)) is.well gid 0;
+        links = no_failed_link it (laws.shows limited words gids doors disk olds out ended news out' (inr it)) is.well gid 0;
         memory = one.memory;
         free = free;
         faultless = faultless says sinks laws.disk words gids doors disk out ended out' ran gid is.well.of_disk.0 is.well.of_disk.1;
@@ -256,8 +264,8 @@ module _ {D O L K : Type 0} {says : DiskSays D} {sinks : SinkSays O} {links : Li
       ends = ends_here says sinks laws.disk words gids doors disk out ended out' ran gid
           (laws.complete start told ended.disk gid 0 uris resource brought)
 
-      done : IsDone ended ⊎ (ended.ending ≡ NoMemory)
-      done = comes {links = links} {olds = olds} {news = news} ran laws.shown is.well (Unlisted uris) laws.done one ends.0 ends.1
+      done : IsDone ended ⊎ (ended.ending ≡ NoMemory) ⊎ EndsCutShort limited links olds ended news
+      done = comes it laws.shown is.well (Unlisted uris) laws.done one ends.0 ends.1
 
       -- ---- its file
 
@@ -301,18 +309,19 @@ module _ {D O L K : Type 0} {says : DiskSays D} {sinks : SinkSays O} {links : Li
 
     abbrev Comes : CommandLine → Type 0
     Comes l = IsDoneWith says ended l uris resource
-        ⊎ (ended.ending ≡ NoMemory) ⊎ WasCutShort D links olds news
+        ⊎ (ended.ending ≡ NoMemory) ⊎ EndsCutShort limited links olds ended news
 
     completes_here : 1 ≤ length olds → Comes named
     completes_here some = subst Comes (sym line_is) (⊎_elim
-        (λ (one : RanOne ran (Unlisted uris)). ⊎_elim (λ (well : IsDone ended). inl (done_with one well))
-        (λ (starved : ended.ending ≡ NoMemory). inr (inl starved)) (done one))
-        (λ more. inr more)
+        (λ (one : RanOne it (Unlisted uris)). ⊎_elim (λ (well : IsDone ended). inl (done_with one well))
+        (λ other. inr other) (done one))
+        (λ (starved : ended.ending ≡ NoMemory). inr (inl starved))
         (ran_one laws.append laws.stay it (call.AddUri uris line.settings None) asked (Unlisted uris) (refl, refl, refl) usual some))
 
-  pub completes_uris : UriLaws K says sinks links → IsRunOver says sinks links words gids doors disk olds out ended news out'
+  pub completes_uris : UriLaws K says sinks links
+      → IsRunOver says sinks limited links words gids doors disk olds out ended news out'
       → 1 ≤ length olds → IsTrue says.tells → IsTrue links.tells
-      → CompletesUris says links sinks words disk olds out ended news out'
+      → CompletesUris limited says links sinks words disk olds out ended news out'
   completes_uris laws (inl never) links_are tells link_tells named uris resource is =
       inr (inl (never_began_uris laws.lines tells never named uris is.names.means is.names.named))
   completes_uris laws (inr it) links_are tells link_tells named uris resource is =

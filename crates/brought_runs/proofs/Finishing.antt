@@ -1,5 +1,5 @@
--- Which turns answer that nothing is left to do, and what stays of a queue then.
-use Rattle.std.proofs.Common.{◌≡◌, ⊎_elim, ℕ, zero, suc, ◌-◌, Bool, true, false, cond, Option, Some, None, List, [], ◌∷◌, ◌++◌, length, refl, sym, ap, ◌∙◌, subst, arith}
+-- Which turns answer that nothing is left to do or that the journal is full, and what stays of a queue then.
+use Rattle.std.proofs.Common.{◌≡◌, ◌⊎◌, ⊎_elim, inl, inr, ℕ, zero, suc, ◌-◌, Bool, true, false, cond, Option, Some, None, List, [], ◌∷◌, ◌++◌, length, refl, sym, ap, ◌∙◌, subst, arith}
 use Rattle.std.specs.Prelude.{◌&&◌, nat_lt}
 use Rattle.std.specs.List.{remove}
 use Rattle.std.proofs.lemmas.List.{append_assoc}
@@ -46,23 +46,24 @@ use Rattle.brought_runs.specs.Ends.{HasNoCall}
 
 -- ---- answers
 
--- nothing is left to do
-abbrev finishes : Said → Bool
-finishes Finished = true
-finishes said = false
+-- nothing is left to do, or the journal is full
+abbrev ends_all : Said → Bool
+ends_all Finished = true
+ends_all (JournalFull count) = true
+ends_all said = false
 
 -- the row never answers so
 abbrev IsBusyRow : (List Event → Said → Type 0) → Type 0
-IsBusyRow Row = (events : List Event) (said : Said) → Row events said → finishes said ≡ false
+IsBusyRow Row = (events : List Event) (said : Said) → Row events said → ends_all said ≡ false
 
-busy_only : (usual : Said) → finishes usual ≡ false → IsBusyRow (AnswersOnly usual)
-busy_only usual none events said is = ap finishes is.1 ∙ none
+busy_only : (usual : Said) → ends_all usual ≡ false → IsBusyRow (AnswersOnly usual)
+busy_only usual none events said is = ap ends_all is.1 ∙ none
 
-unless_starved : (usual : Said) (outcome : Outcome) (said : Said) → finishes usual ≡ false
-    → AnswersUnlessStarved usual outcome said → finishes said ≡ false
-unless_starved usual Went said none is = ap finishes is ∙ none
-unless_starved usual Over said none is = ap finishes is ∙ none
-unless_starved usual Starved said none is = ap finishes is
+unless_starved : (usual : Said) (outcome : Outcome) (said : Said) → ends_all usual ≡ false
+    → AnswersUnlessStarved usual outcome said → ends_all said ≡ false
+unless_starved usual Went said none is = ap ends_all is ∙ none
+unless_starved usual Over said none is = ap ends_all is ∙ none
+unless_starved usual Starved said none is = ap ends_all is
 
 busy_claim : (at : TurnStart) (s : RunStanding) (id : ℕ) (Row : Download → Claim → List Event → Said → Type 0)
     → ((download : Download) (claim : Claim) → IsBusyRow (Row download claim)) → IsBusyRow (OfClaim at s id Row)
@@ -72,7 +73,7 @@ busy_claim at s id Row busy events said is = ⊎_elim
     × Row download claim events said).
     busy home.0 home.1 events said home.3) is
 
-more_busy : (at : TurnStart) (s : RunStanding) (gid : Gid) (want credit : ℕ) → finishes (more_said at s gid want credit) ≡ false
+more_busy : (at : TurnStart) (s : RunStanding) (gid : Gid) (want credit : ℕ) → ends_all (more_said at s gid want credit) ≡ false
 more_busy at s gid zero credit = refl
 more_busy at s gid (suc want) zero = refl
 more_busy at s gid (suc want) (suc credit) = refl
@@ -86,7 +87,7 @@ busy_deliver at s run bytes download claim events said is = ⊎_elim
 busy_sized : (at : TurnStart) (s : RunStanding) (total : ℕ) (download : Download) (claim : Claim)
     → IsBusyRow (SizedRow at s total download claim)
 busy_sized at s total download claim events said is = ⊎_elim
-    (λ told. ap finishes told.1.2)
+    (λ told. ap ends_all told.1.2)
     (λ void. busy_only Void refl events said void.1) is
 
 busy_seal : (at : TurnStart) (s : RunStanding) (gid : Gid) (sealed : PieceBytes) → IsBusyRow (SealRow at s gid sealed)
@@ -97,15 +98,15 @@ busy_seal at s gid sealed events said is = ⊎_elim
 
 busy_open : (at : TurnStart) (s : RunStanding) (download : Download) → IsBusyRow (OpenRow at s download)
 busy_open at s download events said is = ⊎_elim
-    (λ clashed. ap finishes clashed.3)
+    (λ clashed. ap ends_all clashed.3)
     (λ opens. unless_starved Done opens.1.0 said refl opens.1.2) is
 
 busy_whole : (at : TurnStart) (s : RunStanding) (download : Download) (piece : ℕ) (listed : Bool)
     → IsBusyRow (whole_row at s download piece listed)
 busy_whole at s download piece true events said is = ⊎_elim
-    (λ grant. ap finishes grant.is.1)
+    (λ grant. ap ends_all grant.is.1)
     (λ more. ⊎_elim
-    (λ (failed : IsFaulted at download.gid events said). ap finishes failed.1)
+    (λ (failed : IsFaulted at download.gid events said). ap ends_all failed.1)
     (λ (starved : AnswersOnly NoMemory events said). busy_only NoMemory refl events said starved) more) is
 busy_whole at s download piece false events said is = unless_starved Done is.0 said refl is.2
 
@@ -113,8 +114,8 @@ busy_offer : (at : TurnStart) (s : RunStanding) (worker : ℕ) (download : Downl
     → IsBusyRow (OfferRow at s worker download given)
 busy_offer at s worker download (offer.Whole piece) events said is =
     busy_whole at s download piece (is_listed download.subject) events said is
-busy_offer at s worker download (offer.Blocks mirror run victim) events said is = ap finishes is.is
-busy_offer at s worker download (offer.Probe mirror) events said is = ap finishes is.is
+busy_offer at s worker download (offer.Blocks mirror run victim) events said is = ap ends_all is.is
+busy_offer at s worker download (offer.Probe mirror) events said is = ap ends_all is.is
 
 busy_next : (at : TurnStart) (s : RunStanding) (worker : ℕ) → IsBusyRow (NextRow at s worker)
 busy_next at s worker events said is = ⊎_elim
@@ -126,7 +127,7 @@ busy_next at s worker events said is = ⊎_elim
     (λ idling. busy_only Idle refl events said idling.1) waits) rest.1) is
 
 busy_row : (at : TurnStart) (s : RunStanding) (op : Operation) → IsBusyRow (OperationRow at s op)
-busy_row at s (operation.Call session call now) events said is = ap finishes is.answer
+busy_row at s (operation.Call session call now) events said is = ap ends_all is.answer
 busy_row at s (operation.Next worker now) events said is = busy_next at s worker events said is
 busy_row at s (operation.Deliver claim run bytes now) events said is =
     busy_claim at s claim (DeliverRow at s run bytes) (busy_deliver at s run bytes) events said is
@@ -136,42 +137,61 @@ busy_row at s (operation.More claim want now) events said is =
     busy_only (more_said at s download.gid want (turn_credit at s download.gid).bytes)
     (more_busy at s download.gid want (turn_credit at s download.gid).bytes) es given is) events said is
 busy_row at s (operation.Lose claim mark now) events said is =
-    busy_claim at s claim (LoseRow at s mark) (λ download claimed es given is. ap finishes is.2) events said is
+    busy_claim at s claim (LoseRow at s mark) (λ download claimed es given is. ap ends_all is.2) events said is
 busy_row at s (operation.Sized claim total now) events said is =
     busy_claim at s claim (SizedRow at s total) (busy_sized at s total) events said is
 busy_row at s (operation.Seal gid sealed now) events said is = busy_seal at s gid sealed events said is
 busy_row at s operation.Pulse events said is = busy_only Idle refl events said is
-busy_row at s operation.Leave events said is = ap finishes is.1
+busy_row at s operation.Leave events said is = ap ends_all is.1
 busy_row at s (operation.Stop now) events said is = unless_starved Done is.outcome said refl is.answer
 
 and_second : (a b : Bool) → (a && b) ≡ true → b ≡ true
 and_second true b is = is
 and_second false b is = absurd cc
 
-module _ (start : RunStart) (before : List RunTurn) (t : RunTurn) (may : MayComeAfter start before t)
-    (said : t.answer.said ≡ Finished) where
+module _ (start : RunStart) (before : List RunTurn) (t : RunTurn) (may : MayComeAfter start before t) where
   abbrev past : List Event
   past = history_of before
 
+  abbrev EndsAll : Type 0
+  EndsAll = ((is_finished_in start past ≡ true) × (t.answer.said ≡ Finished))
+      ⊎ ((is_nearly_full past ≡ true) × (t.answer.said ≡ JournalFull (length past)))
+
   by_answer : (a b : Bool) → (asks_for_work t.op && is_finished_in start past) ≡ a
-      → (needs_entries t.op && is_nearly_full past) ≡ b → is_finished_in start past ≡ true
-  by_answer true b at_end nearly = and_second (asks_for_work t.op) (is_finished_in start past) at_end
-  by_answer false true at_end nearly =
+      → (needs_entries t.op && is_nearly_full past) ≡ b → ends_all t.answer.said ≡ true → EndsAll
+  by_answer true b at_end nearly ends =
+      let answered = (rw at_end at may.answered) in
+      inl (and_second (asks_for_work t.op) (is_finished_in start past) at_end, answered.1)
+  by_answer false true at_end nearly ends =
       let answered = (rw nearly at (rw at_end at may.answered)) in
-      absurd (let never : Finished ≡ JournalFull (length past) = sym said ∙ answered.1 in cc)
-  by_answer false false at_end nearly =
+      inr (and_second (needs_entries t.op) (is_nearly_full past) nearly, answered.1)
+  by_answer false false at_end nearly ends =
       let answered = (rw nearly at (rw at_end at may.answered)) in
-      let busy : finishes t.answer.said ≡ false = ⊎_elim
+      let busy : ends_all t.answer.said ≡ false = ⊎_elim
       (λ (starved : (takes_memory t.op ≡ true) × AnswersOnly NoMemory t.events t.answer.said).
       busy_only NoMemory refl t.events t.answer.said starved.1)
       (λ (row : OperationRow (turn_start start before t) (standing_after start before) t.op t.events t.answer.said).
       busy_row (turn_start start before t) (standing_after start before) t.op t.events t.answer.said row) answered in
-      absurd (let never : true ≡ false = sym (ap finishes said) ∙ busy in cc)
+      absurd (let never : true ≡ false = sym ends ∙ busy in cc)
 
-  -- a turn that is answered so asked for work of a run that is finished
-  pub finished_so : is_finished_in start (history_of before) ≡ true
-  finished_so =
-      by_answer (asks_for_work t.op && is_finished_in start past) (needs_entries t.op && is_nearly_full past) refl refl
+  -- an answer that ends all comes before anything is done
+  ends_so : ends_all t.answer.said ≡ true → EndsAll
+  ends_so = by_answer (asks_for_work t.op && is_finished_in start past) (needs_entries t.op && is_nearly_full past) refl refl
+
+  -- a turn that is answered that nothing is left asked for work of a run that is finished
+  pub finished_so : t.answer.said ≡ Finished → is_finished_in start (history_of before) ≡ true
+  finished_so said = ⊎_elim (λ (finished : (is_finished_in start past ≡ true) × (t.answer.said ≡ Finished)). finished.0)
+      (λ (full : (is_nearly_full past ≡ true) × (t.answer.said ≡ JournalFull (length past))).
+      absurd (let never : Finished ≡ JournalFull (length past) = sym said ∙ full.1 in cc))
+      (ends_so (ap ends_all said))
+
+  -- one that is answered that the journal is full came when it was
+  pub full_so : (count : ℕ) → t.answer.said ≡ JournalFull count → is_nearly_full (history_of before) ≡ true
+  full_so count said = ⊎_elim
+      (λ (finished : (is_finished_in start past ≡ true) × (t.answer.said ≡ Finished)).
+      absurd (let never : JournalFull count ≡ Finished = sym said ∙ finished.1 in cc))
+      (λ (full : (is_nearly_full past ≡ true) × (t.answer.said ≡ JournalFull (length past))). full.0)
+      (ends_so (ap ends_all said))
 
 -- ---- queues
 

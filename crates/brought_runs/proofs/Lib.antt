@@ -19,3 +19,4 @@ pub mod OneAdded
 pub mod Completed
 pub mod KnownMirrors
 pub mod CompletedUris
+pub mod Unfinished

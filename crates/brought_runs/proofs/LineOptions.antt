@@ -83,16 +83,26 @@ all_told text_of (option ∷ options) assigned is =
 
 -- ---- values
 
--- a download may be active, mirrors have tries, nothing is paused, and there is no console
+-- a download may be active, mirrors have tries, claims may stand, nothing is paused, and there is no console
 pub record AreUsual (v : OptionValues) : Type 0 where
   pub many : length v.numbers ≡ 14
   pub active : 1 ≤ number_value v MaxConcurrentDownloads
   pub tries : 1 ≤ number_value v MaxTries
+  pub per_host : 1 ≤ number_value v MaxConnectionPerServer
+  pub split : 1 ≤ number_value v Split
   pub unpaused : number_value v Pause ≡ 0
   pub off : number_value v EnableRpc ≡ 0
 
 defaults_usual : AreUsual default_values
-defaults_usual = record { many = refl; active = omega arith; tries = omega arith; unpaused = refl; off = refl }
+defaults_usual = record {
+  many = refl;
+  active = omega arith;
+  tries = omega arith;
+  per_host = omega arith;
+  split = omega arith;
+  unpaused = refl;
+  off = refl;
+}
 
 small : (n : Num) → place_of_number n < 14
 small AutoSaveInterval = omega arith
@@ -132,6 +142,14 @@ tries_by : (n : Num) (x : ℕ) → IsWithinLimits n x → place_of_number MaxTri
 tries_by MaxTries x within same = within.0
 tries_by n x within same = absurd (omega (arith, same))
 
+per_host_by : (n : Num) (x : ℕ) → IsWithinLimits n x → place_of_number MaxConnectionPerServer ≡ place_of_number n → 1 ≤ x
+per_host_by MaxConnectionPerServer x within same = within.0
+per_host_by n x within same = absurd (omega (arith, same))
+
+split_by : (n : Num) (x : ℕ) → IsWithinLimits n x → place_of_number Split ≡ place_of_number n → 1 ≤ x
+split_by Split x within same = within.0
+split_by n x within same = absurd (omega (arith, same))
+
 pause_at : (n : Num) → place_of_number Pause ≡ place_of_number n → n ≡ Pause
 pause_at Pause same = refl
 pause_at n same = absurd (omega (arith, same))
@@ -147,6 +165,8 @@ setting_usual text_of none v usual (Number n x) is unpaused = record {
   many = length-set v.numbers (place_of_number n) x ∙ usual.many;
   active = value_behind v n MaxConcurrentDownloads x (λ y. 1 ≤ y) usual.many usual.active (active_by n x is.fits);
   tries = value_behind v n MaxTries x (λ y. 1 ≤ y) usual.many usual.tries (tries_by n x is.fits);
+  per_host = value_behind v n MaxConnectionPerServer x (λ y. 1 ≤ y) usual.many usual.per_host (per_host_by n x is.fits);
+  split = value_behind v n Split x (λ y. 1 ≤ y) usual.many usual.split (split_by n x is.fits);
   unpaused = value_behind v n Pause x (λ y. y ≡ 0) usual.many usual.unpaused
       (λ same. absurd (unpaused (ap opt.Num (pause_at n same))));
   off = value_behind v n EnableRpc x (λ y. y ≡ 0) usual.many usual.off
@@ -156,6 +176,8 @@ setting_usual text_of none v usual (Text word_of text) is unpaused = record {
   many = usual.many;
   active = usual.active;
   tries = usual.tries;
+  per_host = usual.per_host;
+  split = usual.split;
   unpaused = usual.unpaused;
   off = usual.off;
 }

@@ -1,5 +1,5 @@
 -- What the history of a run over links tells of them came over the link of the claim's worker.
-use Rattle.std.proofs.Common.{inl, inr, ℕ, List}
+use Rattle.std.proofs.Common.{inl, inr, ℕ, Bool, List}
 use Rattle.std.specs.Prelude.{Contains}
 use Rattle.conn_worker.specs.Brought.{EndsClaim}
 use Rattle.dl_disk.specs.declared.disk.Disk.{Ghosts as DiskSays}
@@ -24,10 +24,11 @@ ends_work (operation.Lose claim mark now) ends = tt
 ends_work (operation.Sized claim total now) ends = tt
 ends_work other ends = absurd ends
 
-module _ {D O L K : Type 0} {says : DiskSays D} {sinks : SinkSays O} {links : LinkSays L} {words : List (List ℕ)}
-    {gids doors : ℕ} {disk : D} {olds : List (L × K)} {out : O} {ended : Ended D} {news : List (L × K)} {out' : O} where
-  module _ (it : RanOverLinks says sinks links words gids doors disk olds out ended news out') where
-    by_worker : (e : Event) (came : ComesOfClaimEnd it.ran.stops.middle e) → IsOfWorker links it.ran olds news came.turn
+module _ {D O L K : Type 0} {says : DiskSays D} {sinks : SinkSays O} {limited : Bool} {links : LinkSays L}
+    {words : List (List ℕ)} {gids doors : ℕ} {disk : D} {olds : List (L × K)} {out : O} {ended : Ended D}
+    {news : List (L × K)} {out' : O} where
+  module _ (it : RanOverLinks says sinks limited links words gids doors disk olds out ended news out') where
+    by_worker : (e : Event) (came : ComesOfClaimEnd it.ran.stops.middle e) → IsOfWorker limited links it.ran olds news came.turn
     by_worker e came = it.over.works came.turn came.among (ends_work came.turn.op came.ends)
 
     lost_at : LossesComeOfWorkers says sinks → WorkersShowLosses says sinks links
@@ -44,8 +45,8 @@ module _ {D O L K : Type 0} {says : DiskSays D} {sinks : SinkSays O} {links : Li
           old_is = by.at.old_is;
           new_is = by.at.new_is;
           told = lost words gids doors disk out ended out' it.ran by.place by.at.old.0 by.at.new.0
-              (among_all links it.ran olds news by.place by.at) came.turn gid id mirror piece mark
-              (its_work links it.ran olds news came.turn by (ends_work came.turn.op came.ends)) came.there;
+              (among_all limited links it.ran olds news by.place by.at) came.turn gid id mirror piece mark
+              (its_work limited links it.ran olds news came.turn by (ends_work came.turn.op came.ends)) came.there;
         }
 
     sized_at : LengthsComeOfWorkers says sinks → WorkersShowLengths says sinks links
@@ -61,13 +62,13 @@ module _ {D O L K : Type 0} {says : DiskSays D} {sinks : SinkSays O} {links : Li
           old_is = by.at.old_is;
           new_is = by.at.new_is;
           told = sized words gids doors disk out ended out' it.ran by.place by.at.old.0 by.at.new.0
-              (among_all links it.ran olds news by.place by.at) came.turn gid id total
-              (its_work links it.ran olds news came.turn by (ends_work came.turn.op came.ends)) came.there;
+              (among_all limited links it.ran olds news by.place by.at) came.turn gid id total
+              (its_work limited links it.ran olds news came.turn by (ends_work came.turn.op came.ends)) came.there;
         }
 
   pub shows_links : LossesComeOfWorkers says sinks → LengthsComeOfWorkers says sinks
       → WorkersShowLosses says sinks links → WorkersShowLengths says sinks links
-      → IsRunOver says sinks links words gids doors disk olds out ended news out'
+      → IsRunOver says sinks limited links words gids doors disk olds out ended news out'
       → ShowsLinks links words gids doors ended.journal.events.items olds news
   shows_links losses lengths lost sized (inl never) = inl never.journal
   shows_links losses lengths lost sized (inr it) = inr (record {

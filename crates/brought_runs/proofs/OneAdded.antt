@@ -11,13 +11,16 @@ use Rattle.brought_runs.proofs.Done.{no_call_reversed}
 use Rattle.brought_runs.proofs.Endings.{in_reverse}
 use Rattle.brought_runs.proofs.ToldRuns.{all_reversed}
 use Rattle.command_line.specs.declared.line.CommandLine.{CommandLine}
+use Rattle.conn_worker.specs.declared.ends.WorkEnd.TheVariants as end
 use Rattle.dl_disk.specs.declared.disk.Disk.{Ghosts as DiskSays}
 use Rattle.dl_kinds.specs.declared.gid.Gid.{Gid}
 use Rattle.dl_kinds.specs.declared.outside.Sink.{Ghosts as SinkSays}
+use Rattle.dl_kinds.specs.declared.runs.Moment.{Moment}
 use Rattle.dl_words.specs.Counts.{Rose}
 use Rattle.engine_core.specs.Engines.{past_of, start_of}
 use Rattle.engine_turns.specs.Told.{RunTurn, history_of}
 use Rattle.engine_turns.specs.TurnLaws.{TurnsAppend}
+use Rattle.engine_turns.specs.declared.operations.Operation.TheVariants as operation
 use Rattle.engine_turns.specs.declared.operations.Said.TheVariants as said
 use Rattle.link_source.specs.declared.Links.{Ghosts as LinkSays}
 use Rattle.machine_core.specs.Replays.{queue_in}
@@ -41,18 +44,18 @@ use Rattle.run_report.specs.declared.endings.RunEnding.{RunEnding}
 use Rattle.run_report.specs.declared.endings.RunEnding.TheVariants.{Done, NoMemory, SinkFault, Unfinished}
 use Rattle.turn_desk.specs.Turns.{events_of}
 use Rattle.run_frame.specs.Finishes.{Ran}
-use Rattle.brought_runs.specs.Completes.{IsDone, WasCutShort}
+use Rattle.brought_runs.specs.Completes.{EndsCutShort, IsDone, WasCutShort}
 use Rattle.brought_runs.specs.LinksCauses.{LinksCauses}
-use Rattle.brought_runs.specs.Over.{RanOverLinks, WorkedOver}
+use Rattle.brought_runs.specs.Over.{IsWork, RanOverLinks, WorkedOver}
 use Rattle.brought_runs.proofs.FileCalls.{download_on}
-use Rattle.brought_runs.proofs.WorkEnds.{CameFinished, FinishesWork, WellWorked}
+use Rattle.brought_runs.proofs.WorkEnds.{CameFinished, EndsWork, finished_by}
 use Rattle.brought_runs.proofs.FirstAdded.{AddedFirst, first_added}
 use Rattle.brought_runs.proofs.Histories.{HasEnd, HasNoEnd, brought_there, end_or_none, no_stop, queue_stays, there_brought}
 use Rattle.brought_runs.proofs.LineOptions.{LineUsual}
 use Rattle.brought_runs.proofs.TurnCalls.{AreOfOnes, CallFirst, IsOfOne, call_first, no_call_of, stop_no_call, work_of_ones}
 use Rattle.brought_runs.proofs.TurnLists.{behind, first_or_later, here}
 use Rattle.brought_runs.proofs.Unbegun.{no_rise, not_risen}
-use Rattle.brought_runs.proofs.Workers.{all_well, ends_so, one_came}
+use Rattle.brought_runs.proofs.Workers.{all_work, ends_so, one_came, one_fed, work_or_stop}
 use Rattle.machine_core.specs.Replays.{with_settings}
 use Rattle.machine_core.specs.declared.calls.Call.{Call}
 use Rattle.blameless_mirrors.specs.Lone.{IsOnly}
@@ -68,10 +71,6 @@ first_false : (a b : Bool) → (a || b) ≡ false → a ≡ false
 first_false false b is = refl
 first_false true b is = absurd (false≢true (sym is))
 
-second_false : (a b : Bool) → (a || b) ≡ false → b ≡ false
-second_false false b is = is
-second_false true b is = absurd (false≢true (sym is))
-
 -- ---- ends
 
 not_done : (failure : Option End) → ending_by failure true ≡ Done → ⊥
@@ -80,23 +79,31 @@ not_done (Some how) is = absurd cc
 
 -- ---- what is known of such a run
 
-pub record RanOne {D O : Type 0} {says : DiskSays D} {sinks : SinkSays O} {words : List (List ℕ)} {gids doors : ℕ} {disk : D}
-    {out : O} {ended : Ended D} {out' : O} (ran : Ran says sinks words gids doors disk out ended out') (subject : Subject) : Type 0
+-- what its turns do: work, or the stop
+abbrev WorksOrStops : RunTurn → Type 0
+WorksOrStops t = IsWork t.op ⊎ ((now : Moment) × (t.op ≡ operation.Stop now))
+
+pub record RanOne {D O L K : Type 0} {says : DiskSays D} {sinks : SinkSays O} {limited : Bool} {links : LinkSays L}
+    {words : List (List ℕ)} {gids doors : ℕ} {disk : D} {olds : List (L × K)} {out : O} {ended : Ended D}
+    {news : List (L × K)} {out' : O}
+    (it : RanOverLinks says sinks limited links words gids doors disk olds out ended news out') (subject : Subject) : Type 0
   where
     pub download : Download
-    pub there : download_in (ran_facts.start ran) (history_of (reverse (all_turns says ran.stops))) download.gid ≡ Some download
+    pub there : download_in (ran_facts.start it.ran) (history_of (reverse (all_turns says it.ran.stops))) download.gid
+        ≡ Some download
     pub subject_is : download.subject ≡ subject
-    pub options : download.options ≡ with_settings (ran_facts.start ran).global ran.begins.line.settings
-    pub only : IsOnly (ran_facts.start ran) (history_of (reverse (all_turns says ran.stops))) download.gid
-    pub memory : HaveMemory (reverse (all_turns says ran.stops))
-    pub finished : IsFinishedOnce says sinks ran
+    pub options : download.options ≡ with_settings (ran_facts.start it.ran).global it.ran.begins.line.settings
+    pub only : IsOnly (ran_facts.start it.ran) (history_of (reverse (all_turns says it.ran.stops))) download.gid
+    pub memory : HaveMemory (reverse (all_turns says it.ran.stops))
     pub completed : OnlyCompletes says sinks ended.journal.events.items download.gid → ended.ending ≡ Done
         → (g : Gid) × Contains ended.journal.events.items (event.Ended g Complete)
+    pub came : IsFinishedOnce says sinks it.ran ⊎ WasCutShort limited links olds ended news
 
-module _ {D O L K : Type 0} {says : DiskSays D} {sinks : SinkSays O} {links : LinkSays L} {words : List (List ℕ)}
-    {gids doors : ℕ} {disk : D} {olds : List (L × K)} {out : O} {ended : Ended D} {news : List (L × K)} {out' : O} where
+module _ {D O L K : Type 0} {says : DiskSays D} {sinks : SinkSays O} {limited : Bool} {links : LinkSays L}
+    {words : List (List ℕ)} {gids doors : ℕ} {disk : D} {olds : List (L × K)} {out : O} {ended : Ended D}
+    {news : List (L × K)} {out' : O} where
   module _ (append : TurnsAppend) (stay : DownloadsStay)
-      (it : RanOverLinks says sinks links words gids doors disk olds out ended news out') (its : Call)
+      (it : RanOverLinks says sinks limited links words gids doors disk olds out ended news out') (its : Call)
       (asked : it.ran.begins.call ≡ Some its) (subject : Subject) (adds : AddsFirst its subject it.ran.begins.line.settings)
       (usual : LineUsual it.ran.begins.line) where
     abbrev ran : Ran says sinks words gids doors disk out ended out'
@@ -148,12 +155,9 @@ module _ {D O L K : Type 0} {says : DiskSays D} {sinks : SinkSays O} {links : Li
 
     -- ---- memory sufficed
 
-    module _ (unshort : (ran.begun.is_short || ran.short) ≡ false) where
+    module _ (unshort : (it.ran.begun.is_short || it.ran.short) ≡ false) where
       called : is_no_memory first.answer.said ≡ false
       called = sym own.3 ∙ first_false ran.begun.is_short ran.short unshort
-
-      stopped : is_no_memory last.answer.said ≡ false
-      stopped = ran.stops.said (second_false ran.begun.is_short ran.short unshort)
 
       came_first : CallFirst its first
       came_first = call_first start first its
@@ -204,57 +208,97 @@ module _ {D O L K : Type 0} {says : DiskSays D} {sinks : SinkSays O} {links : Li
           (λ (sunk : (ended.ending ≡ SinkFault) × Rose (sinks.faults out) (sinks.faults out')).
           absurd (let never : SinkFault ≡ Done = sym sunk.0 ∙ is_done in cc)) more) reports.ends
 
+      -- .. for all that its workers did
+      starved_not : (t : RunTurn) → Contains (first ∷ (middle ++ last ∷ [])) t → IsWork t.op → t.answer.said ≡ said.NoMemory
+          → ⊥
+      starved_not t is_there works = ⊎_elim
+          (λ (same : first ≡ t). absurd (subst IsWork (ap (λ (u : RunTurn). u.op) (sym same) ∙ own.2) works))
+          (λ (later : Contains (middle ++ last ∷ []) t). ⊎_elim
+          (λ (within : Contains middle t). one_fed limited links ran olds news unshort t (it.over.works t within works) works)
+          (λ (at_last : last ≡ t). absurd (subst IsWork (ap (λ (u : RunTurn). u.op) (sym at_last) ∙ ran.stops.op) works))
+          (Contains-push_cases middle last t later))
+          (first_or_later first (middle ++ last ∷ []) t is_there)
+
+      memory : HaveMemory told
+      memory = all_reversed (λ before t. IsWork t.op → ¬ (t.answer.said ≡ said.NoMemory)) all (λ earlier t later is_cut.
+          starved_not t (subst (λ (ts : List RunTurn). Contains ts t) (sym is_cut ∙ all_are)
+          (Contains-append_right earlier (t ∷ later) t (here t later))))
+
+      -- ---- its calls
+
+      abbrev CutAt : RunTurn → Type 0
+      CutAt t = list_facts.CutAt all t
+
+      behind_first : (t : RunTurn) → Contains (middle ++ last ∷ []) t → CutAt t
+      behind_first t is_there = list_facts.cut_at all t
+          (subst (λ (ts : List RunTurn). Contains ts t) (sym all_are) (behind first (middle ++ last ∷ []) t is_there))
+
+      kinds : (t : RunTurn) → Contains (middle ++ last ∷ []) t → WorksOrStops t
+      kinds t is_there = ⊎_elim
+          (λ (within : Contains middle t). work_or_stop limited links ran olds news t (it.over.alone off t within))
+          (λ (at_last : last ≡ t). inr (record { 0 = 0 }, ap (λ (u : RunTurn). u.op) (sym at_last) ∙ ran.stops.op))
+          (Contains-push_cases middle last t is_there)
+
+      turn_calls_not : (t : RunTurn) → CutAt t → WorksOrStops t → HasNoCall t.events
+      turn_calls_not t c kind = ⊎_elim
+          (λ (works : IsWork t.op).
+          no_call_of t.events (work_of_ones start (reverse c.front) t (ran_facts.may_come ran c.front t c.back c.cut) works))
+          (λ (stops : (now : Moment) × (t.op ≡ operation.Stop now)).
+          stop_no_call start (reverse c.front) t stops.0 (ran_facts.may_come ran c.front t c.back c.cut) stops.1) kind
+
+      no_call : HasNoCall rest
+      no_call session asked now is_there = ⊎_elim
+          (λ (saved : Contains came_first.saves (event.Called session asked now)).
+          no_call_of came_first.saves came_first.own session asked now saved)
+          (λ (brought : Contains (events_of (middle ++ last ∷ [])) (event.Called session asked now)).
+          let by = list_facts.brought_by (middle ++ last ∷ []) (event.Called session asked now) brought in
+          let at = subst (λ (ts : List RunTurn). Contains ts by.turn) (sym by.cut)
+          (Contains-append_right by.earlier (by.turn ∷ by.later) by.turn (here by.turn by.later)) in
+          turn_calls_not by.turn (behind_first by.turn at) (kinds by.turn at) session asked now by.there)
+          (Contains-append_cases came_first.saves (events_of (middle ++ last ∷ [])) (event.Called session asked now) is_there)
+
+      -- ---- its download
+
+      only : IsOnly start past gid
+      only other d is_added =
+          let back : reverse (call_event ∷ rest) ≡ past = ap reverse (sym items_are) ∙ ran_facts.history_is ran in
+          only_one start 0 came_first.now rest no_call its added.download added.alone other d
+          (subst (λ (p : List Event). download_in start p other ≡ Some d) (sym back) is_added)
+
+      completed : OnlyCompletes says sinks items gid → ended.ending ≡ Done → (g : Gid) × Contains items (event.Ended g Complete)
+      completed ends is_done = ⊎_elim
+          (λ (has : HasEnd (reverse rest)).
+          let at : Contains items (event.Ended has.0 has.1) =
+          in_items (event.Ended has.0 has.1) (subst (λ (es : List Event). Contains es (event.Ended has.0 has.1)) (sym past_is)
+          (Contains-append_left (reverse rest) base (event.Ended has.0 has.1) has.2)) in
+          let so = ends has.0 has.1 at in
+          (has.0, subst (λ (how : End). Contains items (event.Ended has.0 how)) so.1 at))
+          (λ (endless : HasNoEnd (reverse rest)).
+          let queue : queue_in start past ≡ queue_in start base = ap (queue_in start) past_is
+          ∙ queue_stays start base (reverse rest) (no_call_reversed rest no_call) endless in
+          let unfinished : has_unfinished (queue_in start past) ≡ true = ap has_unfinished queue
+          ∙ ap (λ (a : List Gid). not (length a == 0 && length (queue_in start base).waiting == 0)) added.active in
+          absurd (not_done (last_failure past)
+          (sym (ap (ending_by (last_failure past)) unfinished) ∙ by_history is_done)))
+          (end_or_none (reverse rest))
+
+      so_far : IsFinishedOnce says sinks ran ⊎ WasCutShort limited links olds ended news → RanOne it subject
+      so_far came = record {
+        download = added.download;
+        there = there;
+        subject_is = added.subject_is;
+        options = added.options;
+        only = only;
+        memory = memory;
+        completed = completed;
+        came = came;
+      }
+
       -- ---- nothing was left to do for any worker
 
-      module _ (well_worked : (t : RunTurn) → Contains middle t → WellWorked t) (finishes : FinishesWork middle) where
-        starved_not : (t : RunTurn) → is_no_memory t.answer.said ≡ false → t.answer.said ≡ said.NoMemory → ⊥
-        starved_not t well starved = false≢true (sym well ∙ ap is_no_memory starved)
-
-        each_memory : (t : RunTurn) → Contains (first ∷ (middle ++ last ∷ [])) t → t.answer.said ≡ said.NoMemory → ⊥
-        each_memory t is_there = ⊎_elim
-            (λ (same : first ≡ t). subst (λ (u : RunTurn). u.answer.said ≡ said.NoMemory → ⊥) same (starved_not first called))
-            (λ (later : Contains (middle ++ last ∷ []) t). ⊎_elim
-            (λ (within : Contains middle t). (well_worked t within).memory)
-            (λ (at_last : last ≡ t). subst (λ (u : RunTurn). u.answer.said ≡ said.NoMemory → ⊥) at_last (starved_not last stopped))
-            (Contains-push_cases middle last t later))
-            (first_or_later first (middle ++ last ∷ []) t is_there)
-
-        memory : HaveMemory told
-        memory = all_reversed (λ before t. ¬ (t.answer.said ≡ said.NoMemory)) all (λ earlier t later is_cut.
-            each_memory t (subst (λ (ts : List RunTurn). Contains ts t) (sym is_cut ∙ all_are)
-            (Contains-append_right earlier (t ∷ later) t (here t later))))
-
-        -- ---- its calls and stops
-
-        may : (t : RunTurn) → Contains (middle ++ last ∷ []) t → (c : list_facts.CutAt all t) → AreOfOnes t.events ⊎ (t ≡ last)
-        may t is_there c = ⊎_elim
-            (λ (within : Contains middle t).
-            inl (work_of_ones start (reverse c.front) t (ran_facts.may_come ran c.front t c.back c.cut)
-            (well_worked t within).work))
-            (λ (at_last : last ≡ t). inr (sym at_last)) (Contains-push_cases middle last t is_there)
-
-        behind_first : (t : RunTurn) → Contains (middle ++ last ∷ []) t → list_facts.CutAt all t
-        behind_first t is_there = list_facts.cut_at all t
-            (subst (λ (ts : List RunTurn). Contains ts t) (sym all_are) (behind first (middle ++ last ∷ []) t is_there))
-
-        no_call : HasNoCall rest
-        no_call session asked now is_there = ⊎_elim
-            (λ (saved : Contains came_first.saves (event.Called session asked now)).
-            no_call_of came_first.saves came_first.own session asked now saved)
-            (λ (brought : Contains (events_of (middle ++ last ∷ [])) (event.Called session asked now)).
-            let by = list_facts.brought_by (middle ++ last ∷ []) (event.Called session asked now) brought in
-            let at = subst (λ (ts : List RunTurn). Contains ts by.turn) (sym by.cut)
-            (Contains-append_right by.earlier (by.turn ∷ by.later) by.turn (here by.turn by.later)) in
-            let c = behind_first by.turn at in
-            let came = ran_facts.may_come ran c.front by.turn c.back c.cut in ⊎_elim
-            (λ (ones : AreOfOnes by.turn.events). no_call_of by.turn.events ones session asked now by.there)
-            (λ (at_last : by.turn ≡ last).
-            stop_no_call start (reverse c.front) by.turn (record { 0 = 0 }) came
-            (ap (λ (t : RunTurn). t.op) at_last ∙ ran.stops.op) session asked now by.there)
-            (may by.turn at c))
-            (Contains-append_cases came_first.saves (events_of (middle ++ last ∷ [])) (event.Called session asked now) is_there)
-
-        finished_once : IsFinishedOnce says sinks ran
+      module _ (works : (t : RunTurn) → Contains it.ran.stops.middle t → IsWork t.op)
+          (finishes : EndsWork it.ran.stops.middle end.Finished) where
+        pub finished_once : IsFinishedOnce says sinks it.ran
         finished_once =
             let c = list_facts.cut_at middle finishes.turn finishes.there in
             let earlier = first ∷ c.front in
@@ -267,7 +311,7 @@ module _ {D O L K : Type 0} {says : DiskSays D} {sinks : SinkSays O} {links : Li
               later = c.back ++ last ∷ [];
               cut = all_are ∙ (λ i. first ∷ ((ap (λ (ts : List RunTurn). ts ++ last ∷ []) c.cut
                   ∙ append_assoc c.front (finishes.turn ∷ c.back) (last ∷ [])) i));
-              said = finishes.said_is;
+              said = finished_by finishes.turn.answer.said finishes.said_is;
               unstopped = no_stop (history_of (reverse earlier)) (λ is_there.
                   no_stop_before c.front (finishes.turn ∷ c.back) c.cut
                   (brought_there append earlier event.Stopped is_there));
@@ -304,76 +348,44 @@ module _ {D O L K : Type 0} {says : DiskSays D} {sinks : SinkSays O} {links : Li
                 let c = behind_first by.turn (Contains-append_left middle (last ∷ []) by.turn within) in
                 not_of_one by.turn.events
                 (work_of_ones start (reverse c.front) by.turn (ran_facts.may_come ran c.front by.turn c.back c.cut)
-                (well_worked by.turn within).work) by.there)
+                (works by.turn within)) by.there)
                 (Contains-append_cases first.events (events_of front) event.Stopped is_there)
 
-        -- ---- its download
-
-        only : IsOnly start past gid
-        only other d is_added =
-            let back : reverse (call_event ∷ rest) ≡ past = ap reverse (sym items_are) ∙ ran_facts.history_is ran in
-            only_one start 0 came_first.now rest no_call its added.download added.alone other d
-            (subst (λ (p : List Event). download_in start p other ≡ Some d) (sym back) is_added)
-
-        completed : OnlyCompletes says sinks items gid → ended.ending ≡ Done → (g : Gid) × Contains items (event.Ended g Complete)
-        completed ends is_done = ⊎_elim
-            (λ (has : HasEnd (reverse rest)).
-            let at : Contains items (event.Ended has.0 has.1) =
-            in_items (event.Ended has.0 has.1) (subst (λ (es : List Event). Contains es (event.Ended has.0 has.1)) (sym past_is)
-            (Contains-append_left (reverse rest) base (event.Ended has.0 has.1) has.2)) in
-            let so = ends has.0 has.1 at in
-            (has.0, subst (λ (how : End). Contains items (event.Ended has.0 how)) so.1 at))
-            (λ (endless : HasNoEnd (reverse rest)).
-            let queue : queue_in start past ≡ queue_in start base = ap (queue_in start) past_is
-            ∙ queue_stays start base (reverse rest) (no_call_reversed rest no_call) endless in
-            let unfinished : has_unfinished (queue_in start past) ≡ true = ap has_unfinished queue
-            ∙ ap (λ (a : List Gid). not (length a == 0 && length (queue_in start base).waiting == 0)) added.active in
-            absurd (not_done (last_failure past)
-            (sym (ap (ending_by (last_failure past)) unfinished) ∙ by_history is_done)))
-            (end_or_none (reverse rest))
-
-        so_far : RanOne ran subject
-        so_far = record {
-          download = added.download;
-          there = there;
-          subject_is = added.subject_is;
-          options = added.options;
-          only = only;
-          memory = memory;
-          finished = finished_once;
-          completed = completed;
-        }
-
     abbrev Cut : Type 0
-    Cut = WasCutShort D links olds news
+    Cut = WasCutShort limited links olds ended news
 
     -- the turn that found nothing left to do is one of the first worker's
-    found : (at : WorkedOver links ran olds news 0) → CameFinished at.own.its.worked at.own.its.stop → FinishesWork middle
+    found : (at : WorkedOver limited links ran olds news 0) → CameFinished at.own.its.worked at.own.its.stop
+        → EndsWork middle end.Finished
     found at came = record {
       turn = came.finishes.turn;
       there = at.own.among came.finishes.turn came.finishes.there;
       said_is = came.finishes.said_is;
     }
 
-    came_well : 1 ≤ length olds → (short : Bool) → (ran.begun.is_short || ran.short) ≡ short
-        → RanOne ran subject ⊎ (ended.ending ≡ NoMemory) ⊎ Cut
-    came_well some true at = inr (inl (ends_so sinks ran.engine out out' ended.ending (ran.begun.is_short || ran.short) at
-        ran.finishes.ends))
-    came_well some false unshort =
+    -- nothing was left to do for any worker, or one was cut short
+    came_of : 1 ≤ length olds → (unshort : (ran.begun.is_short || ran.short) ≡ false) → IsFinishedOnce says sinks ran ⊎ Cut
+    came_of some unshort =
         let first_at = it.over.each unshort 0 (omega (arith, some)) in ⊎_elim
         (λ (came : CameFinished first_at.own.its.worked first_at.own.its.stop). ⊎_elim
-        (λ (well : (t : RunTurn) → Contains middle t → WellWorked t). inl (so_far unshort well (found first_at came)))
-        (λ (cut : Cut). inr (inr cut)) (all_well links ran olds news unshort middle (it.over.alone off)))
-        (λ (cut : Cut). inr (inr cut)) (one_came links ran olds news unshort 0 first_at)
+        (λ (works : (t : RunTurn) → Contains middle t → IsWork t.op). inl (finished_once unshort works (found first_at came)))
+        (λ (cut : Cut). inr cut) (all_work limited links ran olds news unshort middle (it.over.alone off)))
+        (λ (cut : Cut). inr cut) (one_came limited links ran olds news unshort 0 first_at)
 
-    -- so it is, or memory was wanting, or a worker was cut short
-    pub ran_one : 1 ≤ length olds → RanOne ran subject ⊎ (ended.ending ≡ NoMemory) ⊎ Cut
+    came_well : 1 ≤ length olds → (short : Bool) → (ran.begun.is_short || ran.short) ≡ short
+        → RanOne it subject ⊎ (ended.ending ≡ NoMemory)
+    came_well some true at =
+        inr (ends_so sinks ran.engine out out' ended.ending (ran.begun.is_short || ran.short) at ran.finishes.ends)
+    came_well some false unshort = inl (so_far unshort (came_of some unshort))
+
+    -- so it is, or memory was wanting
+    pub ran_one : 1 ≤ length olds → RanOne it subject ⊎ (ended.ending ≡ NoMemory)
     ran_one some = came_well some (ran.begun.is_short || ran.short) refl
 
   -- ---- faults
 
   -- no link failed, so no loss of a claim tells a count
-  pub no_failed_link : (it : RanOverLinks says sinks links words gids doors disk olds out ended news out')
+  pub no_failed_link : (it : RanOverLinks says sinks limited links words gids doors disk olds out ended news out')
       → ShowsLinks links words gids doors ended.journal.events.items olds news
       → HadNoFaults says links sinks words disk olds out ended news out' → (gid : Gid) (mirror : ℕ)
       → ¬ HasFailedLink (history_of (reverse (all_turns says it.ran.stops))) gid mirror
@@ -392,24 +404,27 @@ module _ {D O L K : Type 0} {says : DiskSays D} {sinks : SinkSays O} {links : Li
       absurd (no_rise (links.faults at.old.0) at.told.since.faults at.told.at.faults (links.faults at.new.0) still.0 still.1
       at.told.meanwhile.from.faults (at.told.count counted).0 at.told.meanwhile.to.faults)) shows
 
-  module _ (ran : Ran says sinks words gids doors disk out ended out') (shown : RunsEndAsShown says sinks)
-      (well : HadNoFaults says links sinks words disk olds out ended news out') where
+  module _ (it : RanOverLinks says sinks limited links words gids doors disk olds out ended news out')
+      (shown : RunsEndAsShown says sinks) (well : HadNoFaults says links sinks words disk olds out ended news out') where
     not_sunk : ended.ending ≡ SinkFault → ⊥
     not_sunk sunk =
-        let ends = (shown words gids doors disk out ended out' (inr ran)).shown in
+        let ends = (shown words gids doors disk out ended out' (inr it.ran)).shown in
         let rose : Rose (sinks.faults out) (sinks.faults out') =
         subst (λ (e : RunEnding). ShowsEnding says sinks words gids doors disk out ended out' e) sunk ends in
         not_risen (sinks.faults out) (sinks.faults out') (sinks.faults out') well.of_output.0 well.of_output.1 rose
         (omega arith)
 
     -- nor did anything else
-    pub comes : (subject : Subject) → FinishedAreDone says sinks → (one : RanOne ran subject)
+    pub comes : (subject : Subject) → FinishedAreDone says sinks → (one : RanOne it subject)
         → OnlyCompletes says sinks ended.journal.events.items one.download.gid → EndsUnfailed ended.ending
-        → IsDone ended ⊎ (ended.ending ≡ NoMemory)
+        → IsDone ended ⊎ (ended.ending ≡ NoMemory) ⊎ EndsCutShort limited links olds ended news
     comes subject finished one only ends = ⊎_elim
         (λ (done : ended.ending ≡ Done). let so = one.completed only done in inl (done, so.0, so.1))
         (λ more. ⊎_elim
-        (λ (unfinished : ended.ending ≡ Unfinished). absurd
-        (finished words gids doors disk out ended out' ran one.finished unfinished))
-        (λ rest_of. ⊎_elim (λ (starved : ended.ending ≡ NoMemory). inr starved)
+        (λ (unfinished : ended.ending ≡ Unfinished). ⊎_elim
+        (λ (once : IsFinishedOnce says sinks it.ran).
+        absurd (finished words gids doors disk out ended out' it.ran once unfinished))
+        (λ (cut : WasCutShort limited links olds ended news). inr (inr (record { cut = cut; unfinished = unfinished })))
+        one.came)
+        (λ rest_of. ⊎_elim (λ (starved : ended.ending ≡ NoMemory). inr (inl starved))
         (λ (sunk : ended.ending ≡ SinkFault). absurd (not_sunk sunk)) rest_of) more) ends

@@ -1,5 +1,5 @@
 -- Mirrors that serve a payload over the links of a run bring it, and are held to account for nothing else than faults of links.
-use Rattle.std.proofs.Common.{◌≡◌, ◌⊎◌, inl, inr, ⊎_elim, ℕ, true, false, List, Ok, ap, ◌∙◌, subst}
+use Rattle.std.proofs.Common.{◌≡◌, ◌⊎◌, inl, inr, ⊎_elim, ℕ, Bool, true, false, List, Ok, ap, ◌∙◌, subst}
 use Rattle.std.specs.Prelude.{◌<◌, ◌≢◌, ◌||◌, Contains, IsTrue, reverse}
 use Rattle.blameless_mirrors.specs.Blameless.{WrongFindingsArentTheirs}
 use Rattle.brought_runs.specs.Ends.{RunsAreTold}
@@ -18,6 +18,7 @@ use Rattle.machine_core.specs.Starts.{Listed, RunStart, Subject, Unlisted}
 use Rattle.machine_core.specs.declared.events.Event.{Event}
 use Rattle.machine_core.specs.declared.events.Event.TheVariants.{Lost, Settled}
 use Rattle.mirror_payloads.specs.Faithful.{IsFaithful, IsFaithfulTurn}
+use Rattle.option_set.specs.Values.{OptionValues}
 use Rattle.piece_table.specs.declared.giver.Giver.TheVariants.{One}
 use Rattle.run_frame.proofs.Ran as ran_facts
 use Rattle.run_frame.proofs.Turns.{all_at, reversed_cut}
@@ -41,9 +42,10 @@ told_right : (start : RunStart) (past : List Event) (gid : Gid) (payload : List 
 told_right start past gid payload (Listed meta uris) is = tt
 told_right start past gid payload (Unlisted uris) is = absurd cc
 
-module _ {D O L K : Type 0} {says : DiskSays D} {sinks : SinkSays O} {links : LinkSays L} {words : List (List ℕ)}
-    {gids doors : ℕ} {disk : D} {olds : List (L × K)} {out : O} {ended : Ended D} {news : List (L × K)} {out' : O} where
-  module _ (it : RanOverLinks says sinks links words gids doors disk olds out ended news out') where
+module _ {D O L K : Type 0} {says : DiskSays D} {sinks : SinkSays O} {limited : Bool} {links : LinkSays L}
+    {words : List (List ℕ)} {gids doors : ℕ} {disk : D} {olds : List (L × K)} {out : O} {ended : Ended D}
+    {news : List (L × K)} {out' : O} where
+  module _ (it : RanOverLinks says sinks limited links words gids doors disk olds out ended news out') where
     abbrev turns : List RunTurn
     turns = all_turns says it.ran.stops
 
@@ -51,25 +53,25 @@ module _ {D O L K : Type 0} {says : DiskSays D} {sinks : SinkSays O} {links : Li
     start = ran_facts.start it.ran
 
     -- a worker for which memory was wanting makes the run end so
-    sufficed : ended.ending ≢ NoMemory → (t : RunTurn) (by : IsOfWorker links it.ran olds news t)
+    sufficed : ended.ending ≢ NoMemory → (t : RunTurn) (by : IsOfWorker limited links it.ran olds news t)
         → by.at.own.came ≢ Ok end.NoMemory
     sufficed well t by is = well (ends_so sinks it.ran.engine out out' ended.ending (it.ran.begun.is_short || it.ran.short)
         (by.at.short (ap ends_short is)) it.ran.finishes.ends)
 
-    pub of_link : (subject : Subject) (mirror : ℕ) (payload : List ℕ)
-        → (AllServe links olds subject mirror payload
-        ⊎ (AllUseNone links olds news subject mirror payload × (ended.ending ≢ NoMemory)))
+    pub of_link : (subject : Subject) (options : OptionValues) (mirror : ℕ) (payload : List ℕ)
+        → (AllServe links olds subject options mirror payload
+        ⊎ (AllUseNone links olds news subject options mirror payload × (ended.ending ≢ NoMemory)))
         → (t : RunTurn) → Contains it.ran.stops.middle t → IsWork t.op
-        → ComesOfLink D links turns subject mirror payload t
-    of_link subject mirror payload serve t there works =
+        → ComesOfLink D links turns subject options mirror payload t
+    of_link subject options mirror payload serve t there works =
         let by = it.over.works t there works in record {
           worker = by.place;
           old = by.at.old.0;
           new = by.at.new.0;
-          own = among_all links it.ran olds news by.place by.at;
-          there = its_work links it.ran olds news t by works;
-          serves = ⊎_elim (λ (all : AllServe links olds subject mirror payload). inl (all by.place by.at.old by.at.old_is))
-              (λ (none : AllUseNone links olds news subject mirror payload × (ended.ending ≢ NoMemory)).
+          own = among_all limited links it.ran olds news by.place by.at;
+          there = its_work limited links it.ran olds news t by works;
+          serves = ⊎_elim (λ (all : AllServe links olds subject options mirror payload). inl (all by.place by.at.old by.at.old_is))
+              (λ (none : AllUseNone links olds news subject options mirror payload × (ended.ending ≢ NoMemory)).
               inr (none.0 by.place by.at.old by.at.new by.at.old_is by.at.new_is, sufficed none.1 t by)) serve;
         }
 
@@ -81,7 +83,7 @@ module _ {D O L K : Type 0} {says : DiskSays D} {sinks : SinkSays O} {links : Li
         faithful words gids doors disk out ended out' it.ran gid is.download mirror payload tells
         (ap (λ (past : List Event). download_in start past gid) (ran_facts.history_is it.ran) ∙ is.added)
         (told_right start (reverse ended.journal.events.items) gid payload is.download.subject is.listed)
-        (λ t there uses. of_link is.download.subject mirror payload is.serve t there (uses_work t.op uses))
+        (λ t there uses. of_link is.download.subject is.download.options mirror payload is.serve t there (uses_work t.op uses))
 
     lost : (gid : Gid) (mirror : ℕ) (payload : List ℕ) → IsFaithful start gid mirror payload (reverse turns)
         → (id piece : ℕ) (mark : Mark) → Contains ended.journal.events.items (Lost gid id mirror piece mark)
@@ -99,7 +101,7 @@ module _ {D O L K : Type 0} {says : DiskSays D} {sinks : SinkSays O} {links : Li
         (in_reverse ended.journal.events.items e there)
 
   pub spares_serving : RunsAreFaithful says sinks links → RunsAreTold says sinks → WrongFindingsArentTheirs says.state
-      → IsRunOver says sinks links words gids doors disk olds out ended news out' → IsTrue links.tells
+      → IsRunOver says sinks limited links words gids doors disk olds out ended news out' → IsTrue links.tells
       → SparesServing says links words gids doors olds news ended
   spares_serving faithful told findings (inl never) tells = inl never.journal
   spares_serving faithful told findings (inr it) tells = inr (record {

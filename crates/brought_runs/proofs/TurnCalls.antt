@@ -46,7 +46,7 @@ AreOfOnes events = All IsOfOne events
 of_owned : (gid : Gid) (events : List Event) → AreOwned gid events → AreOfOnes events
 of_owned gid events own = All-weaker (IsOwnedEvent gid) IsOfOne (λ e is. (gid, is.gid_is)) events own
 
-no_events : (events : List Event) → events ≡ [] → AreOfOnes events
+pub no_events : (events : List Event) → events ≡ [] → AreOfOnes events
 no_events events is = subst AreOfOnes (sym is) (All-nil IsOfOne)
 
 one_event : (e : Event) (events : List Event) (gid : Gid) → gid_of e ≡ Some gid → events ≡ e ∷ [] → AreOfOnes events
@@ -129,7 +129,7 @@ claim_calm at s id Row calm events said is = ⊎_elim (λ none. no_events events
     (λ (home : (download : Download) × (claim : Claim) × _ × Row download claim events said).
     calm home.0 home.1 events said home.3) is
 
-row_calm : (at : TurnStart) (s : RunStanding) (op : Operation) (events : List Event) (said : Said) → IsWork op
+pub row_calm : (at : TurnStart) (s : RunStanding) (op : Operation) (events : List Event) (said : Said) → IsWork op
     → OperationRow at s op events said → AreOfOnes events
 row_calm at s (operation.Call session call now) events said work is = absurd work
 row_calm at s (operation.Next worker now) events said work is = next_calm at s worker events said is
@@ -182,7 +182,7 @@ no_stop_of (e ∷ events) own = let is = All-head IsOfOne e events own in
 
 -- ---- the call of a line
 
-saves_of_ones : (at : TurnStart) (gids : List Gid) (past events : List Event) (o : Outcome)
+pub saves_of_ones : (at : TurnStart) (gids : List Gid) (past events : List Event) (o : Outcome)
     → SavesPhase at gids past events o → AreOfOnes events
 saves_of_ones at [] past events o is = no_events events is.0
 saves_of_ones at (gid ∷ gids) past events o is = ⊎_elim

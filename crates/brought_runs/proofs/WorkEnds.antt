@@ -1,6 +1,8 @@
--- The turns of a worker whose work ended since nothing was left to do.
-use Rattle.std.proofs.Common.{◌≡◌, ⊎_elim, ℕ, Bool, List, [], ◌∷◌, Option, Some, None, Result, Ok, length, refl, sym, ap, ◌∙◌, subst}
+-- The turns of a worker whose work didn't end for want of memory, and the one that ended it.
+use Rattle.std.proofs.Common.{◌≡◌, ⊎_elim, ℕ, Bool, List, [], ◌∷◌, Option, Some, None, Result, Ok, Err, refl, sym, ap, ◌∙◌, subst}
+use Rattle.std.specs.Option.{option_or}
 use Rattle.std.specs.Prelude.{Contains}
+use Rattle.conn_worker.specs.Ends.{end_of_said}
 use Rattle.conn_worker.specs.Hands.{Fetches, Fetching, Hand, Nothing, Probes, Seals, WorkerAt, fresh, link_at}
 use Rattle.conn_worker.specs.Table.{due_op, end_behind, end_of_gain, end_of_hand, end_of_probe, fetch_op, probe_op}
 use Rattle.conn_worker.specs.Works.{ComesOut, Does, EndsOrGoesOn, HasNoRoom, IsOutcomeOf, RunSight, StopsUnlessFinished, Worked, Works}
@@ -38,25 +40,38 @@ due_work worker (Fetches f) now = fetch_work worker f now f.gain
 due_work worker (Probes p) now = probe_work worker p.claim now p.end
 due_work worker (Seals gid sealed) now = tt
 
-gain_never : (gain : Gain) → end_of_gain gain ≡ Some end.Finished → ⊥
-gain_never Starved is = absurd cc
-gain_never gain is = absurd cc
+-- want of memory alone shows in a hand
+gain_memory : (gain : Gain) (e : WorkEnd) → end_of_gain gain ≡ Some e → e ≡ end.NoMemory
+gain_memory Starved e is = let same : Some end.NoMemory ≡ Some e = is in cc
+gain_memory gain e is = absurd cc
 
-probe_never : (at : ProbeEnd) → end_of_probe at ≡ Some end.Finished → ⊥
-probe_never Lacking is = absurd cc
-probe_never at is = absurd cc
+probe_memory : (at : ProbeEnd) (e : WorkEnd) → end_of_probe at ≡ Some e → e ≡ end.NoMemory
+probe_memory Lacking e is = let same : Some end.NoMemory ≡ Some e = is in cc
+probe_memory at e is = absurd cc
 
-hand_never : (hand : Hand) → end_of_hand hand ≡ Some end.Finished → ⊥
-hand_never Nothing is = absurd cc
-hand_never (Fetches f) is = gain_never f.gain is
-hand_never (Probes p) is = probe_never p.end is
-hand_never (Seals gid sealed) is = absurd cc
+hand_memory : (hand : Hand) (e : WorkEnd) → end_of_hand hand ≡ Some e → e ≡ end.NoMemory
+hand_memory Nothing e is = absurd cc
+hand_memory (Fetches f) e is = gain_memory f.gain e is
+hand_memory (Probes p) e is = probe_memory p.end e is
+hand_memory (Seals gid sealed) e is = absurd cc
 
-said_finished : (told : Said) (hand : Hand) → end_behind told hand ≡ Some end.Finished → told ≡ said.Finished
-said_finished said.Finished hand is = refl
-said_finished (said.JournalFull count) hand is = absurd cc
-said_finished said.NoMemory hand is = absurd cc
-said_finished other hand is = absurd (hand_never hand is)
+-- any other end is one by the answer
+ends_by_answer : (o : Option WorkEnd) (hand : Hand) (e : WorkEnd) → (e ≡ end.NoMemory → ⊥)
+    → option_or o (end_of_hand hand) ≡ Some e → o ≡ Some e
+ends_by_answer (Some x) hand e other is = is
+ends_by_answer None hand e other is = absurd (other (hand_memory hand e is))
+
+pub finished_by : (told : Said) → end_of_said told ≡ Some end.Finished → told ≡ said.Finished
+finished_by said.Finished is = refl
+finished_by (said.JournalFull count) is = absurd cc
+finished_by said.NoMemory is = absurd cc
+finished_by other is = absurd cc
+
+pub full_by : (told : Said) → end_of_said told ≡ Some end.JournalFull → (count : ℕ) × (told ≡ said.JournalFull count)
+full_by said.Finished is = absurd cc
+full_by (said.JournalFull count) is = (count, refl)
+full_by said.NoMemory is = absurd cc
+full_by other is = absurd cc
 
 ends_for_memory : (told : Said) (hand : Hand) → told ≡ said.NoMemory → end_behind told hand ≡ Some end.NoMemory
 ends_for_memory told hand is = ap (λ (s : Said). end_behind s hand) is
@@ -68,11 +83,11 @@ pub record WellWorked (t : RunTurn) : Type 0 where
   pub work : IsWork t.op
   pub memory : t.answer.said ≡ said.NoMemory → ⊥
 
--- .. that was answered that nothing is left to do
-pub record FinishesWork (ts : List RunTurn) : Type 0 where
+-- the answer of one of the turns ended the work
+pub record EndsWork (ts : List RunTurn) (e : WorkEnd) : Type 0 where
   pub turn : RunTurn
   pub there : Contains ts turn
-  pub said_is : turn.answer.said ≡ said.Finished
+  pub said_is : end_of_said turn.answer.said ≡ Some e
 
 module _ (tells : Bool) (worker : ℕ) where
   its_work : (told : ℕ) (t : RunTurn) (a m : WorkerAt) → Does tells worker told t a m → IsWork t.op
@@ -95,11 +110,12 @@ module _ (tells : Bool) (worker : ℕ) where
       by (Some e) ended later rest = none_there t (subst (λ (l : List RunTurn). Contains l t) ended.0 later)
       by None on later rest = rest on
 
+  -- for each of them memory sufficed, unless its want ended the work
   each_well : (ts : List RunTurn) (a b : WorkerAt) (how : Option WorkEnd) → Works tells worker ts a b how
-      → how ≡ Some end.Finished → (t : RunTurn) → Contains ts t → WellWorked t
-  each_well [] a b how works is t there = none_there t there
-  each_well (u ∷ ts) a b how works is t there =
-      by (end_behind u.answer.said works.1.hand) refl works.3 (λ on. each_well ts works.1 b how on is t)
+      → (how ≡ Some end.NoMemory → ⊥) → (t : RunTurn) → Contains ts t → WellWorked t
+  each_well [] a b how works fed t there = none_there t there
+  each_well (u ∷ ts) a b how works fed t there =
+      by (end_behind u.answer.said works.1.hand) refl works.3 (λ on. each_well ts works.1 b how on fed t)
     where
       by : (o : Option WorkEnd) → end_behind u.answer.said works.1.hand ≡ o
           → EndsOrGoesOn o ((ts ≡ []) × (b ≡ works.1) × (how ≡ end_behind u.answer.said works.1.hand))
@@ -108,9 +124,7 @@ module _ (tells : Bool) (worker : ℕ) where
       by (Some e) at ended rest = ⊎_elim
           (λ (same : u ≡ t). subst WellWorked same (record {
             work = its_work works.0 u a works.1 works.2;
-            memory = λ starved.
-                let never : Some end.NoMemory ≡ Some end.Finished =
-                sym (ends_for_memory u.answer.said works.1.hand starved) ∙ (sym ended.2 ∙ is) in cc;
+            memory = λ starved. fed (ended.2 ∙ ends_for_memory u.answer.said works.1.hand starved);
           }))
           (λ (later : Contains ts t). none_there t (subst (λ (l : List RunTurn). Contains l t) ended.0 later))
           (first_or_later u ts t there)
@@ -124,50 +138,68 @@ module _ (tells : Bool) (worker : ℕ) where
           (λ (later : Contains ts t). rest on later)
           (first_or_later u ts t there)
 
-  finishes : (ts : List RunTurn) (a b : WorkerAt) (how : Option WorkEnd) → Works tells worker ts a b how
-      → how ≡ Some end.Finished → FinishesWork ts
-  finishes [] a b how works is = absurd (let never : Some end.Finished ≡ None = sym is ∙ works.1 in cc)
-  finishes (u ∷ ts) a b how works is =
-      by (end_behind u.answer.said works.1.hand) refl works.3 (λ on. finishes ts works.1 b how on is)
+  -- an answer ended the work, where want of memory didn't
+  ends : (ts : List RunTurn) (a b : WorkerAt) (how : Option WorkEnd) (e : WorkEnd) → Works tells worker ts a b how
+      → how ≡ Some e → (e ≡ end.NoMemory → ⊥) → EndsWork ts e
+  ends [] a b how e works is fed = absurd (let never : Some e ≡ None = sym is ∙ works.1 in cc)
+  ends (u ∷ ts) a b how e works is fed =
+      by (end_behind u.answer.said works.1.hand) refl works.3 (λ on. ends ts works.1 b how e on is fed)
     where
       by : (o : Option WorkEnd) → end_behind u.answer.said works.1.hand ≡ o
           → EndsOrGoesOn o ((ts ≡ []) × (b ≡ works.1) × (how ≡ end_behind u.answer.said works.1.hand))
           (Works tells worker ts works.1 b how)
-          → (Works tells worker ts works.1 b how → FinishesWork ts) → FinishesWork (u ∷ ts)
-      by (Some e) at ended rest = record {
+          → (Works tells worker ts works.1 b how → EndsWork ts e) → EndsWork (u ∷ ts) e
+      by (Some x) at ended rest = record {
         turn = u;
         there = here u ts;
-        said_is = said_finished u.answer.said works.1.hand (sym ended.2 ∙ is);
+        said_is = ends_by_answer (end_of_said u.answer.said) works.1.hand e fed (sym ended.2 ∙ is);
       }
       by None at on rest = let r = rest on in record { turn = r.turn; there = behind u ts r.turn r.there; said_is = r.said_is }
 
--- each of a worker's own turns is work, but its stop
-pub worked_work : {D L : Type 0} (links : LinkSays L) (worker : ℕ) (from : RunSight D) (old : L) (to : RunSight D) (new : L)
-    (came : Result WorkEnd Spent) (its : Worked links worker from old to new came) (t : RunTurn) → Contains its.worked t
-    → IsWork t.op
-worked_work {D} {L} links worker from old to new came its t there = ⊎_elim
-    (λ (out_of : ComesOut links.tells worker its.worked (fresh (link_at links old)) its.b came).
-    each_work links.tells worker its.worked (fresh (link_at links old)) its.b out_of.end out_of.works t there)
-    (λ (none : HasNoRoom its.worked (fresh (link_at links old)) its.b came).
-    none_there t (subst (λ (l : List RunTurn). Contains l t) none.none there)) its.comes_out
-
 -- what a worker's own turns are whose work came out so
 pub record CameFinished (worked stop : List RunTurn) : Type 0 where
-  pub each : (t : RunTurn) → Contains worked t → WellWorked t
-  pub finishes : FinishesWork worked
+  pub finishes : EndsWork worked end.Finished
   pub no_stop : stop ≡ []
 
-pub came_finished : {D L : Type 0} (links : LinkSays L) (worker : ℕ) (from : RunSight D) (old : L) (to : RunSight D) (new : L)
-    (came : Result WorkEnd Spent) (its : Worked links worker from old to new came) → came ≡ Ok end.Finished
-    → CameFinished its.worked its.stop
-came_finished {D} {L} links worker from old to new came its is = ⊎_elim
-    (λ (out_of : ComesOut links.tells worker its.worked (fresh (link_at links old)) its.b came).
-    let outcome : IsOutcomeOf (length its.worked) out_of.end (Ok end.Finished) =
-    subst (λ (r : Result WorkEnd Spent). IsOutcomeOf (length its.worked) out_of.end r) is out_of.is in
-    record {
-      each = each_well links.tells worker its.worked (fresh (link_at links old)) its.b out_of.end out_of.works outcome.0;
-      finishes = finishes links.tells worker its.worked (fresh (link_at links old)) its.b out_of.end out_of.works outcome.0;
-      no_stop = subst (λ (r : Result WorkEnd Spent). StopsUnlessFinished r its.b.moment its.stop) is its.stops;
-    })
-    (λ (none : HasNoRoom its.worked (fresh (link_at links old)) its.b came).
-    absurd (let never : Ok end.NoMemory ≡ Ok end.Finished = sym none.result_is ∙ is in cc)) its.comes_out
+module _ {D L : Type 0} (links : LinkSays L) (worker : ℕ) (from : RunSight D) (old : L) (to : RunSight D) (new : L)
+    (came : Result WorkEnd Spent) (its : Worked links worker from old to new came) where
+  abbrev Comes : Type 0
+  Comes = ComesOut links.tells worker its.worked (fresh (link_at links old)) its.b came
+
+  abbrev Unroomed : Type 0
+  Unroomed = HasNoRoom its.worked (fresh (link_at links old)) its.b came
+
+  -- each of a worker's own turns is work, but its stop
+  pub worked_work : (t : RunTurn) → Contains its.worked t → IsWork t.op
+  worked_work t there = ⊎_elim
+      (λ (out_of : Comes). each_work links.tells worker its.worked (fresh (link_at links old)) its.b out_of.end out_of.works t there)
+      (λ (none : Unroomed). none_there t (subst (λ (l : List RunTurn). Contains l t) none.none there)) its.comes_out
+
+  starved_out : (r : Result WorkEnd Spent) (how : Option WorkEnd) → IsOutcomeOf how r → (r ≡ Ok end.NoMemory → ⊥)
+      → how ≡ Some end.NoMemory → ⊥
+  starved_out (Ok by) how is fed starved = fed (ap Ok (let both : Some by ≡ Some end.NoMemory = sym is ∙ starved in cc))
+  starved_out (Err spent) how is fed starved = let never : Some end.NoMemory ≡ None = sym starved ∙ is in cc
+
+  -- for each of them memory sufficed, unless its want ended the work
+  pub worked_well : (came ≡ Ok end.NoMemory → ⊥) → (t : RunTurn) → Contains its.worked t → WellWorked t
+  worked_well fed t there = ⊎_elim
+      (λ (out_of : Comes).
+      each_well links.tells worker its.worked (fresh (link_at links old)) its.b out_of.end out_of.works
+      (starved_out came out_of.end out_of.is fed) t there)
+      (λ (none : Unroomed). none_there t (subst (λ (l : List RunTurn). Contains l t) none.none there)) its.comes_out
+
+  pub came_ends : (e : WorkEnd) → came ≡ Ok e → (e ≡ end.NoMemory → ⊥) → EndsWork its.worked e
+  came_ends e is fed = ⊎_elim
+      (λ (out_of : Comes).
+      let outcome : IsOutcomeOf out_of.end (Ok e) =
+      subst (λ (r : Result WorkEnd Spent). IsOutcomeOf out_of.end r) is out_of.is in
+      ends links.tells worker its.worked (fresh (link_at links old)) its.b out_of.end e out_of.works outcome fed)
+      (λ (none : Unroomed).
+      absurd (fed (let both : Ok e ≡ Ok end.NoMemory = sym is ∙ none.result_is in cc))) its.comes_out
+
+  pub came_finished : came ≡ Ok end.Finished → CameFinished its.worked its.stop
+  came_finished is =
+      record {
+        finishes = came_ends end.Finished is (λ starved. cc);
+        no_stop = subst (λ (r : Result WorkEnd Spent). StopsUnlessFinished r its.b.moment its.stop) is its.stops;
+      }

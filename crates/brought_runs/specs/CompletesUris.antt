@@ -1,6 +1,6 @@
 -- What a run comes to without a metainfo file, over links whose mirrors lead alike to one resource.
-use Rattle.std.specs.Prelude.{◌≡◌, ◌⊎◌, ◌<◌, ℕ, false, None, Some, List, [], ◌∷◌, length}
-use Rattle.brought_runs.specs.Completes.{HadNoFaults, IsDone, WasCutShort}
+use Rattle.std.specs.Prelude.{◌≡◌, ◌⊎◌, ◌<◌, ℕ, Bool, false, None, Some, List, [], ◌∷◌, length}
+use Rattle.brought_runs.specs.Completes.{EndsCutShort, HadNoFaults, IsDone, own_options}
 use Rattle.brought_runs.specs.Served.{AllServe}
 use Rattle.command_line.specs.Lines.{IsLine, has_console}
 use Rattle.command_line.specs.declared.line.CommandLine.{CommandLine}
@@ -11,9 +11,8 @@ use Rattle.dl_kinds.specs.Plan.{IsPlan}
 use Rattle.dl_kinds.specs.declared.outside.Sink.{Ghosts as SinkSays}
 use Rattle.link_source.specs.declared.Links.{Ghosts as LinkSays}
 use Rattle.machine_core.specs.FileNames.{IsUnlistedName}
-use Rattle.machine_core.specs.Replays.{with_settings}
 use Rattle.machine_core.specs.Starts.{Unlisted}
-use Rattle.option_set.specs.Values.{OptionValues, number_value, text_of_word}
+use Rattle.option_set.specs.Values.{number_value, text_of_word}
 use Rattle.option_set.specs.declared.kinds.Num.TheVariants.{PieceLength}
 use Rattle.option_set.specs.declared.kinds.Word.TheVariants.{Checksum, Dir, Out}
 use Rattle.payload_files.specs.Names.{name_of}
@@ -22,10 +21,6 @@ use Rattle.run_report.specs.declared.endings.RunEnding.TheVariants.{NoMemory}
 use Rattle.std.specs.Option.{unwrap_or}
 
 -- ---- what is given
-
--- the options of the download that the line adds
-abbrev pub own_options : CommandLine → OptionValues
-own_options line = with_settings line.globals line.settings
 
 -- a file of this name in its folder
 abbrev pub name_in_folder : CommandLine → List ℕ → List ℕ
@@ -49,7 +44,7 @@ module _ {D L K O : Type 0} (says : DiskSays D) (links : LinkSays L) (sinks : Si
   pub record IsServedAlike (line : CommandLine) (uris : List (List ℕ)) (resource : List ℕ) : Type 0 where
     pub names : NamesMirrors words line uris
     pub plan : IsPlan (length resource) (number_value (own_options line) PieceLength)
-    pub serve : (mirror : ℕ) → mirror < length uris → AllServe links olds (Unlisted uris) mirror resource
+    pub serve : (mirror : ℕ) → mirror < length uris → AllServe links olds (Unlisted uris) (own_options line) mirror resource
     pub fresh : LacksFiles (says.state disk).seen line
     pub well : HadNoFaults says links sinks words disk olds out ended news out'
 
@@ -64,11 +59,11 @@ pub record IsDoneWith {D : Type 0} (says : DiskSays D) (ended : Ended D) (line :
   pub named : IsUnlistedName (text_of_word (own_options line) Out) uris base
   pub file : (says.state ended.disk).seen (name_in_folder line base) ≡ Some resource
 
-module _ {D L K O : Type 0} (says : DiskSays D) (links : LinkSays L) (sinks : SinkSays O) (words : List (List ℕ)) (disk : D)
-    (olds : List (L × K)) (out : O) (ended : Ended D) (news : List (L × K)) (out' : O) where
-  -- the run is done with the resource, unless memory was wanting or a worker was cut short
+module _ {D L K O : Type 0} (limited : Bool) (says : DiskSays D) (links : LinkSays L) (sinks : SinkSays O)
+    (words : List (List ℕ)) (disk : D) (olds : List (L × K)) (out : O) (ended : Ended D) (news : List (L × K)) (out' : O) where
+  -- the run is done with the resource, unless memory was wanting, or it is unfinished since a worker was cut short
   abbrev pub CompletesUris : Type 0
   CompletesUris =
       (line : CommandLine) (uris : List (List ℕ)) (resource : List ℕ)
       → IsServedAlike says links sinks words disk olds out ended news out' line uris resource
-      → IsDoneWith says ended line uris resource ⊎ (ended.ending ≡ NoMemory) ⊎ WasCutShort D links olds news
+      → IsDoneWith says ended line uris resource ⊎ (ended.ending ≡ NoMemory) ⊎ EndsCutShort limited links olds ended news

@@ -1,7 +1,7 @@
--- How runs end to which a mirror brings all that a metainfo file lists.
+-- How runs end to which a mirror brings all that is to come of what a metainfo file lists.
 use Rattle.std.specs.Prelude.{◌≡◌, ◌⊎◌, ◌-◌, ◌^◌, ◌<◌, ◌≤◌, ℕ, false, None, Contains, IsTrue, List, [], ◌∷◌, ◌++◌, reverse}
 use Rattle.std.specs.List.{list_any}
-use Rattle.blameless_mirrors.specs.Blameless.{HasFailedLink, IsListedAlone, IsPayloadOf, IsToldRun}
+use Rattle.blameless_mirrors.specs.Blameless.{HasChosenPieces, HasFailedLink, IsListedAlone, IsToldRun}
 use Rattle.blameless_mirrors.specs.Lone.{HaveMemory, IsOnly}
 use Rattle.control_file.specs.declared.want.Want.{Want}
 use Rattle.dl_disk.specs.declared.disk.Disk.{Ghosts as DiskSays}
@@ -47,14 +47,14 @@ module _ {D O : Type 0} (says : DiskSays D) (sinks : SinkSays O) where
   told_of ran = reverse (all_turns says ran.stops)
 
   -- The run has one download, of a metainfo file, no control file of which stood before. Each turn that brings blocks of it
-  -- from the mirror brings the payload's bytes; no link to the mirror failed, nor did the disk; and no turn wanted memory.
+  -- from the mirror brings the payload's bytes; no link to the mirror failed, nor did the disk; and no turn of work wanted memory.
   pub record IsBroughtRun {words : List (List ℕ)} {gids doors : ℕ} {disk : D} {out : O} {ended : Ended D} {out' : O}
       (ran : Ran says sinks words gids doors disk out ended out') (gid : Gid) (mirror : ℕ) (meta : Meta) (want : Want)
       (payload : List ℕ) : Type 0 where
     pub listed : IsListedAlone (start_of_run ran) (told_of ran) gid meta want
     pub only : IsOnly (start_of_run ran) (history_of (told_of ran)) gid
     pub faithful : IsFaithful (start_of_run ran) gid mirror payload (told_of ran)
-    pub of : IsPayloadOf meta payload
+    pub of : HasChosenPieces meta listed.download.options payload
     pub known : mirror < mirrors_by listed.download.subject
     pub some : 1 ≤ tries_in listed.download
     pub links : ¬ HasFailedLink (history_of (told_of ran)) gid mirror

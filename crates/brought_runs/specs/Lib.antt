@@ -5,3 +5,4 @@ pub mod Served
 pub mod Completes
 pub mod OverLaws
 pub mod CompletesUris
+pub mod Unfinished

@@ -1,5 +1,5 @@
 -- What follows of runs over links.
-use Rattle.std.specs.Prelude.{◌≤◌, ℕ, IsTrue, List, length}
+use Rattle.std.specs.Prelude.{◌≤◌, ℕ, Bool, IsTrue, List, length}
 use Rattle.dl_disk.specs.declared.disk.Disk.{Ghosts as DiskSays}
 use Rattle.dl_kinds.specs.declared.outside.Sink.{Ghosts as SinkSays}
 use Rattle.link_source.specs.declared.Links.{Ghosts as LinkSays}
@@ -9,34 +9,47 @@ use Rattle.brought_runs.specs.CompletesUris.{CompletesUris}
 use Rattle.brought_runs.specs.LinksCauses.{ShowsLinks}
 use Rattle.brought_runs.specs.Over.{IsRunOver}
 use Rattle.brought_runs.specs.Served.{SparesServing}
+use Rattle.brought_runs.specs.Unfinished.{ShowsUnfinished}
 
 module _ {D O L : Type 0} (K : Type 0) (says : DiskSays D) (sinks : SinkSays O) (links : LinkSays L) where
   -- what its history tells of losses and lengths came over the links
   abbrev pub RunsShowLinks : Type 0
   RunsShowLinks =
-      (words : List (List ℕ)) (gids doors : ℕ) (disk : D) (olds : List (L × K)) (out : O) (ended : Ended D)
-      (news : List (L × K)) (out' : O) → IsRunOver says sinks links words gids doors disk olds out ended news out'
+      (limited : Bool) (words : List (List ℕ)) (gids doors : ℕ) (disk : D) (olds : List (L × K)) (out : O)
+      (ended : Ended D) (news : List (L × K)) (out' : O)
+      → IsRunOver says sinks limited links words gids doors disk olds out ended news out'
       → ShowsLinks links words gids doors ended.journal.events.items olds news
 
   -- mirrors that serve a payload are held to account for faults of links alone
   abbrev pub RunsSpareServing : Type 0
   RunsSpareServing =
-      (words : List (List ℕ)) (gids doors : ℕ) (disk : D) (olds : List (L × K)) (out : O) (ended : Ended D)
-      (news : List (L × K)) (out' : O) → IsRunOver says sinks links words gids doors disk olds out ended news out'
+      (limited : Bool) (words : List (List ℕ)) (gids doors : ℕ) (disk : D) (olds : List (L × K)) (out : O)
+      (ended : Ended D) (news : List (L × K)) (out' : O)
+      → IsRunOver says sinks limited links words gids doors disk olds out ended news out'
       → IsTrue links.tells → SparesServing says links words gids doors olds news ended
 
   -- what is served comes
   abbrev pub RunsCompleteServed : Type 0
   RunsCompleteServed =
-      (words : List (List ℕ)) (gids doors : ℕ) (disk : D) (olds : List (L × K)) (out : O) (ended : Ended D)
-      (news : List (L × K)) (out' : O) → IsRunOver says sinks links words gids doors disk olds out ended news out'
+      (limited : Bool) (words : List (List ℕ)) (gids doors : ℕ) (disk : D) (olds : List (L × K)) (out : O)
+      (ended : Ended D) (news : List (L × K)) (out' : O)
+      → IsRunOver says sinks limited links words gids doors disk olds out ended news out'
       → 1 ≤ length olds → IsTrue says.tells → IsTrue links.tells
-      → CompletesServed says links sinks words disk olds out ended news out'
+      → CompletesServed limited says links sinks words disk olds out ended news out'
 
   -- .. also without a metainfo file, where all mirrors lead to one resource
   abbrev pub RunsCompleteUris : Type 0
   RunsCompleteUris =
-      (words : List (List ℕ)) (gids doors : ℕ) (disk : D) (olds : List (L × K)) (out : O) (ended : Ended D)
-      (news : List (L × K)) (out' : O) → IsRunOver says sinks links words gids doors disk olds out ended news out'
+      (limited : Bool) (words : List (List ℕ)) (gids doors : ℕ) (disk : D) (olds : List (L × K)) (out : O)
+      (ended : Ended D) (news : List (L × K)) (out' : O)
+      → IsRunOver says sinks limited links words gids doors disk olds out ended news out'
       → 1 ≤ length olds → IsTrue says.tells → IsTrue links.tells
-      → CompletesUris says links sinks words disk olds out ended news out'
+      → CompletesUris limited says links sinks words disk olds out ended news out'
+
+  -- a run that is left unfinished shows why
+  abbrev pub RunsShowUnfinished : Type 0
+  RunsShowUnfinished =
+      (limited : Bool) (words : List (List ℕ)) (gids doors : ℕ) (disk : D) (olds : List (L × K)) (out : O)
+      (ended : Ended D) (news : List (L × K)) (out' : O)
+      → IsRunOver says sinks limited links words gids doors disk olds out ended news out'
+      → 1 ≤ length olds → ShowsUnfinished limited links words gids doors olds news ended

@@ -13,8 +13,9 @@ use Rattle.machine_core.specs.Starts.{Download, RunStart, Subject}
 use Rattle.machine_core.specs.declared.events.Event.{Event}
 use Rattle.machine_core.specs.declared.events.Event.TheVariants.{Lost, Settled}
 use Rattle.metainfo.specs.declared.meta.Meta.{Meta}
+use Rattle.option_set.specs.Values.{OptionValues}
 use Rattle.piece_table.specs.declared.giver.Giver.TheVariants.{One}
-use Rattle.blameless_mirrors.specs.Blameless.{IsListedAlone, IsPayloadOf}
+use Rattle.blameless_mirrors.specs.Blameless.{HasChosenPieces, IsListedAlone}
 use Rattle.run_frame.specs.Begins.{start_of_line}
 use Rattle.run_frame.specs.declared.ended.Ended.{Ended}
 use Rattle.run_report.specs.declared.endings.RunEnding.{RunEnding}
@@ -23,17 +24,17 @@ use Rattle.served_claims.specs.Serving.{ServesRightly, ServesUnused}
 
 module _ {L K : Type 0} (links : LinkSays L) (olds : List (L × K)) where
   -- over each link, as it was given, the mirrors serve the payload, and none has a bad answer left
-  abbrev pub AllServe : Subject → ℕ → List ℕ → Type 0
-  AllServe subject mirror payload =
+  abbrev pub AllServe : Subject → OptionValues → ℕ → List ℕ → Type 0
+  AllServe subject options mirror payload =
       (place : ℕ) (old : L × K) → slice_get olds place ≡ Some old
-      → ServesRightly (links.state old.0).content subject mirror payload
+      → ServesRightly (links.state old.0).content subject options mirror payload
 
 module _ {L K : Type 0} (links : LinkSays L) (olds news : List (L × K)) where
   -- .. or none used one over any link
-  abbrev pub AllUseNone : Subject → ℕ → List ℕ → Type 0
-  AllUseNone subject mirror payload =
+  abbrev pub AllUseNone : Subject → OptionValues → ℕ → List ℕ → Type 0
+  AllUseNone subject options mirror payload =
       (place : ℕ) (old new : L × K) → slice_get olds place ≡ Some old → slice_get news place ≡ Some new
-      → ServesUnused (links.state old.0).content (links.state new.0).content subject mirror payload
+      → ServesUnused (links.state old.0).content (links.state new.0).content subject options mirror payload
 
   -- all that a download of a metainfo file asks of this mirror is served so, in a run that ended like this
   pub record IsServed (how : RunEnding) (start : RunStart) (past : List Event) (gid : Gid) (mirror : ℕ) (payload : List ℕ)
@@ -41,13 +42,14 @@ module _ {L K : Type 0} (links : LinkSays L) (olds news : List (L × K)) where
     pub download : Download
     pub added : download_in start past gid ≡ Some download
     pub listed : is_listed download.subject ≡ true
-    pub serve : AllServe links olds download.subject mirror payload
-        ⊎ (AllUseNone download.subject mirror payload × (how ≢ NoMemory))
+    pub serve : AllServe links olds download.subject download.options mirror payload
+        ⊎ (AllUseNone download.subject download.options mirror payload × (how ≢ NoMemory))
 
 module _ {D L K : Type 0} (says : DiskSays D) (links : LinkSays L) (words : List (List ℕ)) (gids doors : ℕ)
     (olds news : List (L × K)) (ended : Ended D) where
   -- Turns came, of which the journal is the history. Each loss at a mirror that serves a payload tells a count of the link's own
-  -- faults. Where it is the metainfo file's own payload, no piece that this mirror alone gave is found wrong.
+  -- faults. Where the payload has the metainfo file's digests in each piece that the options choose, no piece that this mirror
+  -- alone gave is found wrong.
   pub record HoldsNothing : Type 0 where
     pub line : CommandLine
     pub means : IsLine words line
@@ -58,7 +60,8 @@ module _ {D L K : Type 0} (says : DiskSays D) (links : LinkSays L) (words : List
         → (id piece : ℕ) (mark : Mark) → Contains ended.journal.events.items (Lost gid id mirror piece mark)
         → 0 < mark.count
     pub settled : IsTrue says.tells → (gid : Gid) (mirror : ℕ) (payload : List ℕ) (meta : Meta) (want : Want)
-        → IsListedAlone (start_of_line gids doors line.globals) told gid meta want → IsPayloadOf meta payload
+        (alone : IsListedAlone (start_of_line gids doors line.globals) told gid meta want)
+        → HasChosenPieces meta alone.download.options payload
         → IsServed links olds news ended.ending (start_of_line gids doors line.globals) (history_of told) gid mirror payload
         → (piece : ℕ) → ¬ Contains ended.journal.events.items (Settled gid piece false (One mirror))
 

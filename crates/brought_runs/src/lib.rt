@@ -7,5 +7,5 @@ mod over;
 pub use laws::{brought_runs_end_well, finished_runs_are_done};
 pub use over::{
     runs_complete_uris, runs_complete_what_is_served, runs_show_their_links,
-    runs_spare_serving_mirrors,
+    runs_show_why_unfinished, runs_spare_serving_mirrors,
 };

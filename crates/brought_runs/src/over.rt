@@ -1,5 +1,5 @@
 // What follows of runs over links. Laws do nothing when they run.
-ghost use Rattle.brought_runs.specs.OverLaws.{RunsCompleteServed, RunsCompleteUris, RunsShowLinks, RunsSpareServing};
+ghost use Rattle.brought_runs.specs.OverLaws.{RunsCompleteServed, RunsCompleteUris, RunsShowLinks, RunsShowUnfinished, RunsSpareServing};
 
 use crate::laws::{brought_runs_end_well, finished_runs_are_done};
 use blameless_mirrors::{
@@ -34,7 +34,8 @@ pub fn runs_spare_serving_mirrors<D: Disk, L: Links, K, O: Sink>()
     faithful_mirrors_are_blameless::<D>();
 }
 
-/// What is served comes: a run whose links lead to all of a metainfo file's payload is done, unless it was cut short.
+/// What is served comes: a run whose links lead to each file of which a piece of a metainfo file's payload that is to come has bytes is
+/// done, unless it was cut short.
 pub fn runs_complete_what_is_served<D: Disk, L: Links, K, O: Sink>()
     ensures { RunsCompleteServed K D.Disk O.Sink L.Links }
 {
@@ -64,5 +65,12 @@ pub fn runs_complete_uris<D: Disk, L: Links, K, O: Sink>()
     downloads_stay();
     runs_end_as_shown::<D, O>();
     runs_show_their_disk::<D, O>();
+    turns_tell_runs();
+}
+
+/// A run that is left unfinished was told to shut down, or a worker was cut short, or only paused downloads were left.
+pub fn runs_show_why_unfinished<D: Disk, L: Links, K, O: Sink>()
+    ensures { RunsShowUnfinished K D.Disk O.Sink L.Links }
+{
     turns_tell_runs();
 }

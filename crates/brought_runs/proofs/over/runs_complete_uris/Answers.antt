@@ -2,7 +2,7 @@ use Rattle.brought_runs.proofs.CompletedUris.{completes_uris}
 use Rattle.brought_runs.proofs.over.runs_complete_uris.Goals as goal
 
 pub returns : goal.returns
-returns g c words gids doors disk olds out ended news out' is =
+returns g c limited words gids doors disk olds out ended news out' is =
     completes_uris (record {
       append = c.turns_tell_runs.ensures.appended;
       stay = c.downloads_stay.ensures.downloads;

@@ -2,7 +2,7 @@ use Rattle.brought_runs.proofs.Completed.{completes_served}
 use Rattle.brought_runs.proofs.over.runs_complete_what_is_served.Goals as goal
 
 pub returns : goal.returns
-returns g c words gids doors disk olds out ended news out' is =
+returns g c limited words gids doors disk olds out ended news out' is =
     completes_served (record {
       append = c.turns_tell_runs.ensures.appended;
       stay = c.downloads_stay.ensures.downloads;
