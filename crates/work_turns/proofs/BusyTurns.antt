@@ -41,8 +41,8 @@ use Rattle.conn_worker.specs.declared.hands.Gain.TheVariants.{Lost, Open, Ready,
 use Rattle.conn_worker.specs.declared.hands.ProbeEnd.{ProbeEnd}
 use Rattle.conn_worker.specs.declared.hands.ProbeEnd.TheVariants.{Told, Missed, Lacking}
 use Rattle.work_turns.specs.Alone.{AsksAlone, LoneWorkersClaimOnce, turns_behind}
-use Rattle.work_turns.specs.Offering.{AlwaysOffers, AsksUnhanded, HasSomeOffer, IsBusy, SoloRunsAreBusy, SoloTurnsAreFew}
-use Rattle.work_turns.specs.Reads.{IsFirstCall, SoloTurnsAreBounded}
+use Rattle.work_turns.specs.Offering.{AlwaysOffers, AsksUnhanded, HasSomeOffer, IsBusy, SoloRunsAreBusy}
+use Rattle.work_turns.specs.Reads.{IsFirstCall}
 use Rattle.work_turns.specs.TurnBounds.{ComeAfter, EachBehind}
 use Rattle.work_turns.proofs.Appending.{EndsBy, answered}
 use Rattle.work_turns.proofs.Busy.{HandedAs, handed_on, still_none}
@@ -165,14 +165,13 @@ next_idle at s worker events answer idle row =
 -- an offer that there is would be made
 offered_then : (at : TurnStart) (s : RunStanding) → s.handed ≡ [] → offers_in at s offered.Idle
     → HasSomeOffer at.start s.past at.now.0 → ⊥
-offered_then at s none idle has =
+offered_then at s none idle has = has (λ gid active offer is.
     let queue = queue_in at.start s.past in
     let f = gid_credit queue.added (levels_in s) at.now.0 in
-    let there = has_from queue.active has.gid has.active.0 has.active.1 has.active.2 in
-    let no_offer = has_all (HasNoOffer (IsOffer s.handed at.start s.past at.now.0)) _ (f has.gid) idle
-    (has_credit queue.active f has.gid there) in
-    no_offer has.offer
-    (subst (λ (hs : List Handed). IsOffer hs at.start s.past at.now.0 has.gid has.offer) (sym none) has.is)
+    let there = has_from queue.active gid active.0 active.1 active.2 in
+    let no_offer = has_all (HasNoOffer (IsOffer s.handed at.start s.past at.now.0)) _ (f gid) idle
+    (has_credit queue.active f gid there) in
+    no_offer offer (subst (λ (hs : List Handed). IsOffer hs at.start s.past at.now.0 gid offer) (sym none) is))
 
 -- ---- one turn
 
@@ -327,9 +326,3 @@ solo_busy claims state start earlier worker turns later link now disk solo =
     busy_on start worker over.tells turns earlier (fresh link) over.b over.end come
     over.works legal refl
     (first_unhanded start earlier ties solo.first) alone.asks
-
-pub solo_turns_few : {D : Type 0} (state : D → DiskState) → SoloRunsAreBusy state → SoloTurnsAreBounded state
-    → SoloTurnsAreFew state
-solo_turns_few state busy bounded start earlier worker turns later link now disk solo offers =
-    bounded start earlier worker turns later link now disk solo
-    ((busy start earlier worker turns later link now disk solo).busy offers)

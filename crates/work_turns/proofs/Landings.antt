@@ -26,11 +26,6 @@ use Rattle.engine_turns.specs.declared.outcome.Outcome.TheVariants.{Went, Over, 
 use Rattle.work_turns.proofs.PlainPhases.{plain_fault}
 use Rattle.work_turns.proofs.Standing.{EachEvent, NothingStands, OnlyStands, Unclaiming, each_unclaiming, nothing_behind, only_since, own_lost}
 
-pub history_append : (past front rest : List Event)
-    → history_after past (front ++ rest) ≡ history_after (history_after past front) rest
-history_append past [] rest = refl
-history_append past (e ∷ front) rest = history_append (e ∷ past) front rest
-
 -- ---- runs
 
 pub any_in : (b : ℕ) (runs : List Run) (r : Run) → Has runs r → is_in b r ≡ true → Any (IsIn b) runs

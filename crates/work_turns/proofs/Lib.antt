@@ -25,3 +25,4 @@ pub mod Busy
 pub mod BusyTurns
 pub mod InTime
 pub mod Rising
+pub mod FindsOffers

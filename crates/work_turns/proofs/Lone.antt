@@ -33,13 +33,14 @@ use Rattle.conn_worker.specs.declared.hands.Gain.{Gain}
 use Rattle.conn_worker.specs.declared.hands.Gain.TheVariants.{Lost, Open, Ready, Starved as StarvedGain}
 use Rattle.conn_worker.specs.declared.hands.ProbeEnd.{ProbeEnd}
 use Rattle.conn_worker.specs.declared.hands.ProbeEnd.TheVariants.{Told, Missed, Lacking}
+use Rattle.turn_offers.proofs.Histories.{legal_before}
 use Rattle.work_turns.specs.Alone.{AsksAlone, LoneWorkersClaimOnce, NoClaimStands, turns_behind}
 use Rattle.work_turns.specs.TurnBounds.{ComeAfter, CountsBlocks, DeliveriesCount, EachBehind}
 use Rattle.work_turns.proofs.Appending.{EndsBy, answered}
 use Rattle.work_turns.proofs.Counting.{no_end}
 use Rattle.work_turns.proofs.Standing.{NothingStands}
 use Rattle.work_turns.proofs.Tracked.{FetchTracks, Tracks, turn_tracks}
-use Rattle.work_turns.proofs.Tracking.{FetchStands, at_home, delivery_counts, legal_before, no_home}
+use Rattle.work_turns.proofs.Tracking.{FetchStands, at_home, delivery_counts, no_home}
 
 -- ---- claims that stand
 

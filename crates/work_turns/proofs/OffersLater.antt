@@ -1,8 +1,6 @@
 -- What a download offers a worker is offered later as well, where no claim stands and nothing happened meanwhile.
-use Rattle.std.proofs.Common.{◌≡◌, inl, ◌∷◌, ℕ, Bool, true, false, cond, List, [], Option, Some, None, refl, sym, ap, subst, ◌∙◌, ⊎_elim, arith}
+use Rattle.std.proofs.Common.{◌≡◌, inl, ◌∷◌, ℕ, List, [], Option, Some, None, refl, ap, subst, ◌∙◌, ⊎_elim, arith}
 use Rattle.std.specs.List.{AllZip}
-use Rattle.std.specs.Prelude.{◌==◌}
-use Rattle.std.proofs.lemmas.Bool.{eqb-true}
 use Rattle.dl_kinds.specs.declared.claims.Claim.{Claim}
 use Rattle.dl_kinds.specs.declared.claims.ClaimView.{ClaimView}
 use Rattle.dl_kinds.specs.declared.gid.Gid.{Gid}
@@ -11,8 +9,7 @@ use Rattle.dl_history.specs.StandingClaims.{standing_claims}
 use Rattle.machine_core.specs.Choices.{IsBlockGrant, situation_in}
 use Rattle.machine_core.specs.Offers.{IsOffer, IsOfferBy, offered_claim}
 use Rattle.machine_core.specs.OwnParts.{PayloadLengths, own_of, payload_lengths_of}
-use Rattle.machine_core.specs.Replays.{download_of, replay_of}
-use Rattle.machine_core.specs.RunLegal.{IsLegal, download_in}
+use Rattle.machine_core.specs.RunLegal.{IsLegal}
 use Rattle.machine_core.specs.RunSteps.{AccountsMatchRuns}
 use Rattle.machine_core.specs.Starts.{Download, RunStart}
 use Rattle.machine_core.specs.declared.events.Event.{Event}
@@ -23,6 +20,7 @@ use Rattle.segment_claim.specs.Theft.{IsTheft}
 use Rattle.segment_claim.specs.Views.{IsViewOf}
 use Rattle.slow_steal.specs.Theft.{IsSteal}
 use Rattle.slow_steal.specs.declared.theft.Steal.{Steal}
+use Rattle.turn_offers.proofs.Added.{added_gid}
 use Rattle.work_turns.specs.Alone.{NoClaimStands}
 use Rattle.work_turns.proofs.Tracking.{known_are}
 
@@ -55,22 +53,6 @@ later_grant s mirror run victim id worker now later none g = record {
 }
 
 -- ---- a download's offer
-
-found_by : (gid : Gid) (x d : Download) (found : Option Download) (t : Bool) → (x.gid.0 == gid.0) ≡ t
-    → (found ≡ Some d → d.gid ≡ gid) → cond t (Some x) found ≡ Some d → d.gid ≡ gid
-found_by gid x d found true is rest added =
-    let same : x ≡ d = cc in
-    ap (λ (y : Download). y.gid) (sym same) ∙ ap (λ (n : ℕ). record { 0 = n }) (eqb-true x.gid.0 gid.0 is)
-found_by gid x d found false is rest added = rest added
-
-found_gid : (gid : Gid) (ds : List Download) (d : Download) → download_of ds gid ≡ Some d → d.gid ≡ gid
-found_gid gid [] d added = absurd cc
-found_gid gid (x ∷ ds) d added =
-    found_by gid x d (download_of ds gid) (x.gid.0 == gid.0) refl (found_gid gid ds d) added
-
-pub added_gid : (start : RunStart) (past : List Event) (gid : Gid) (d : Download) → download_in start past gid ≡ Some d
-    → d.gid ≡ gid
-added_gid start past gid d added = found_gid gid (replay_of start past).downloads d added
 
 module _ (matches : AccountsMatchRuns) (start : RunStart) (past : List Event) (legal : IsLegal start past)
     (none : NoClaimStands start past) where

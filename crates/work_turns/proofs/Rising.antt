@@ -9,7 +9,6 @@ use Rattle.dl_queue.specs.Places.{is_ready}
 use Rattle.dl_queue.specs.Rising.{left_waiting, moved_up, risen}
 use Rattle.dl_queue.specs.declared.kinds.Queued.{Queued}
 use Rattle.dl_queue.specs.declared.kinds.QueueErr.{QueueErr}
-use Rattle.engine_turns.specs.Told.{history_of}
 use Rattle.machine_core.specs.Reads.{is_at_rest}
 use Rattle.machine_core.specs.Replays.{Replay, after_call, is_refused, keyed_gid, next_gid, queue_in, replay_of, stop_of, with_call, with_call_of, with_download, with_settings}
 use Rattle.machine_core.specs.RunLegal.{is_left, is_stop}
@@ -21,7 +20,7 @@ use Rattle.machine_core.specs.declared.events.Event.TheVariants.{Called, Ended}
 use Rattle.option_set.specs.Values.{number_value}
 use Rattle.option_set.specs.declared.kinds.Num.TheVariants as num
 use Rattle.option_set.specs.declared.setting.Assigned.{Assigned}
-use Rattle.work_turns.specs.Leisure.{ActiveOffersAreEnough, LeisureIsActive}
+use Rattle.work_turns.specs.Leisure.{LeisureIsActive}
 
 -- where a download may be active and none is, none is ready
 abbrev Quiet : QueueLists → Type 0
@@ -130,12 +129,3 @@ leisure_active start past doorless room leisure =
     active_by queue.active (list_any is_ready queue.waiting) (queue_quiet start past room)
     (unless_rest (start.doors - count_by is_left past) (is_at_rest queue) none
     (third_false (replay_of start past).shut (list_any is_stop past) _ leisure.going))
-
-pub active_enough : ActiveOffersAreEnough
-active_enough start earlier [] doorless each = tt
-active_enough start earlier (t ∷ ts) doorless each = (
-  λ leisure now. let active = leisure_active start (history_of earlier) doorless each.0.room leisure in
-      let some = each.0.offers leisure active.0 active.1 now in
-      record { gid = active.0; active = active.1; offer = some.0; is = some.1 },
-  active_enough start (t ∷ earlier) ts doorless each.1,
-)

@@ -42,7 +42,7 @@ use Rattle.stored_run.specs.RunFollows.{RunFollows}
 use Rattle.stored_run.specs.Settlings.{payload_of}
 use Rattle.verify_piece.specs.Seals.{PieceBytes}
 use Rattle.work_turns.proofs.Holds.{credit_is}
-use Rattle.work_turns.proofs.OffersLater.{added_gid}
+use Rattle.turn_offers.proofs.Added.{added_gid}
 use Rattle.work_turns.proofs.PieceReads.{reads_still}
 
 -- ---- a piece is handed out

@@ -27,7 +27,8 @@ use Rattle.engine_turns.specs.declared.outcome.Outcome.{Outcome}
 use Rattle.engine_turns.specs.declared.outcome.Outcome.TheVariants.{Went, Over, Starved}
 use Rattle.conn_worker.specs.Facts.{IsReady}
 use Rattle.conn_worker.specs.Hands.{Fetching, Probing, delivered}
-use Rattle.work_turns.proofs.Landings.{any_in, has_in, history_append, kept_by, landings_some, landings_unclaiming, nothing_over, shut_by, shut_on}
+use Rattle.turn_offers.proofs.Histories.{history_append, legal_before}
+use Rattle.work_turns.proofs.Landings.{any_in, has_in, kept_by, landings_some, landings_unclaiming, nothing_over, shut_by, shut_on}
 use Rattle.work_turns.proofs.PlainPhases.{plain_due_save, plain_ending, plain_filled, plain_then}
 use Rattle.work_turns.proofs.Standing.{EachEvent, NothingStands, OnlyStands, Plain, each_unclaiming, only_since, opened_since}
 
@@ -62,11 +63,6 @@ pub record ProbeStands (start : RunStart) (past : List Event) (p : Probing) : Ty
   pub probe : is_probe claim ≡ true
 
 -- ---- histories
-
-pub legal_before : (start : RunStart) (past : List Event) (es : List Event) → IsLegal start (history_after past es)
-    → IsLegal start past
-legal_before start past [] legal = legal
-legal_before start past (e ∷ es) legal = (legal_before start (e ∷ past) es legal).0
 
 lengths_since : LengthsStay → (start : RunStart) (past : List Event) (es : List Event) (gid : Gid) (l : PayloadLengths)
     → IsLegal start (history_after past es) → payload_lengths_of start past gid ≡ Some l

@@ -1,10 +1,9 @@
 -- Where a worker that works alone always finds something to do: a matter of the history alone.
-use Rattle.std.specs.Prelude.{◌≡◌, ◌<◌, ◌+◌, ◌*◌, ℕ, Bool, false, Contains, None, List, [], length, Result, Ok}
+use Rattle.std.specs.Prelude.{◌≡◌, ℕ, false, Contains, None, List, []}
 use Rattle.dl_kinds.specs.declared.gid.Gid.{Gid}
 use Rattle.engine_turns.specs.Told.{RunTurn, handed_in, history_of}
 use Rattle.engine_turns.specs.declared.operations.Operation.{Operation}
 use Rattle.engine_turns.specs.declared.operations.Operation.TheVariants.{Next}
-use Rattle.link_source.specs.Exchanges.{Exchange}
 use Rattle.machine_core.specs.Claiming.{next_to_open}
 use Rattle.machine_core.specs.Offers.{IsOffer}
 use Rattle.machine_core.specs.Reads.{is_finished_in}
@@ -13,16 +12,10 @@ use Rattle.machine_core.specs.RunLegal.{IsLegal}
 use Rattle.machine_core.specs.Starts.{RunStart}
 use Rattle.machine_core.specs.declared.events.Event.{Event}
 use Rattle.machine_core.specs.declared.offers.Offer.{Offer}
-use Rattle.request_chain.specs.Chains.{Gains, received_by}
-use Rattle.turn_desk.specs.Turns.{events_of}
-use Rattle.conn_worker.specs.Hands.{LinkAt, WorkerAt, fresh}
-use Rattle.conn_worker.specs.Works.{ComesOut}
-use Rattle.conn_worker.specs.declared.ends.Spent.{Spent}
-use Rattle.conn_worker.specs.declared.ends.WorkEnd.{WorkEnd}
-use Rattle.conn_worker.specs.declared.working.TheConstants.{MAX_TURNS}
+use Rattle.conn_worker.specs.Hands.{LinkAt}
 use Rattle.work_turns.specs.Alone.{NoClaimStands}
 use Rattle.work_turns.specs.Reads.{IsSoloRun}
-use Rattle.work_turns.specs.TurnBounds.{AreBoundedBy, EachBehind, NeverIdle}
+use Rattle.work_turns.specs.TurnBounds.{EachBehind, NeverIdle}
 use Rattle.dl_disk.specs.State.{DiskState}
 
 -- Something is left to do, but no claim stands, and no download is to be opened.
@@ -32,12 +25,11 @@ pub record IsAtLeisure (start : RunStart) (past : List Event) : Type 0 where
   pub going : is_finished_in start past ≡ false
   pub opened : next_to_open start past ≡ None
 
--- An active download has something to offer then, while no piece is handed out.
-pub record HasSomeOffer (start : RunStart) (past : List Event) (now : ℕ) : Type 0 where
-  pub gid : Gid
-  pub active : Contains (queue_in start past).active gid
-  pub offer : Offer
-  pub is : IsOffer [] start past now gid offer
+-- It isn't so that no active download has something to offer then, while no piece is handed out.
+abbrev pub HasSomeOffer : RunStart → List Event → ℕ → Type 0
+HasSomeOffer start past now =
+    ¬ ((gid : Gid) → Contains (queue_in start past).active gid → (offer : Offer)
+    → ¬ IsOffer [] start past now gid offer)
 
 abbrev pub AlwaysOffers : RunStart → List Event → Type 0
 AlwaysOffers start past = IsAtLeisure start past → (now : ℕ) → HasSomeOffer start past now
@@ -58,16 +50,6 @@ pub record IsBusy (start : RunStart) (earlier turns : List RunTurn) : Type 0 whe
   pub unhanded : EachBehind (λ before t. AsksUnhanded start before t.op) earlier turns
   pub busy : TurnsFindOffers start earlier turns → NeverIdle turns
 
--- Too few events and bytes came for so many turns as a worker takes.
-pub record HasTurnsLeft (turns : List RunTurn) (link now : LinkAt) : Type 0 where
-  pub used : List Exchange
-  pub gains : Gains link.state.exchanges now.state.exchanges used
-  pub few : 8 * (length (events_of turns) + received_by used) + 8 < MAX_TURNS
-
--- a turn ended the work, not the number of turns
-abbrev pub EndsByTurn : Result WorkEnd Spent → Type 0
-EndsByTurn result = (by : WorkEnd) × (result ≡ Ok by)
-
 module _ {D : Type 0} (state : D → DiskState) where
   -- so does the worker of a run over one link
   abbrev pub SoloRunsAreBusy : Type 0
@@ -75,21 +57,3 @@ module _ {D : Type 0} (state : D → DiskState) where
       (start : RunStart) (earlier : List RunTurn) (worker : ℕ) (turns later : List RunTurn)
       (link now : LinkAt) (disk : D)
       → IsSoloRun state start earlier worker turns later link now disk → IsBusy start earlier turns
-
-  -- and so it takes at most so many turns
-  abbrev pub SoloTurnsAreFew : Type 0
-  SoloTurnsAreFew =
-      (start : RunStart) (earlier : List RunTurn) (worker : ℕ) (turns later : List RunTurn)
-      (link now : LinkAt) (disk : D)
-      → IsSoloRun state start earlier worker turns later link now disk
-      → TurnsFindOffers start earlier turns → AreBoundedBy turns link now
-
-  -- so, while turns are left, its work isn't cut short by their number
-  abbrev pub SoloRunsEndByTurns : Type 0
-  SoloRunsEndByTurns =
-      (start : RunStart) (earlier : List RunTurn) (worker : ℕ) (turns later : List RunTurn)
-      (link now : LinkAt) (disk : D)
-      → IsSoloRun state start earlier worker turns later link now disk
-      → TurnsFindOffers start earlier turns → HasTurnsLeft turns link now
-      → (tells : Bool) (b : WorkerAt) (result : Result WorkEnd Spent)
-      → ComesOut tells worker turns (fresh link) b result → EndsByTurn result

@@ -4,8 +4,13 @@ ghost use Rattle.work_turns.specs.Alone.{
   LoneWorkersClaimOnce,
   LoneWorkersHoldOnce,
 };
-ghost use Rattle.work_turns.specs.Leisure.{ActiveOffersAreEnough, LeisureIsActive};
-ghost use Rattle.work_turns.specs.Offering.{SoloRunsAreBusy, SoloRunsEndByTurns, SoloTurnsAreFew};
+ghost use Rattle.work_turns.specs.Leisure.{
+  LeisureIsActive,
+  SoloRunsEndByTurns,
+  SoloRunsFindOffers,
+  SoloTurnsAreFew,
+};
+ghost use Rattle.work_turns.specs.Offering.{SoloRunsAreBusy};
 ghost use Rattle.work_turns.specs.Reads.{SoloSealsAreTaken, SoloTurnsAreBounded};
 ghost use Rattle.work_turns.specs.TurnBounds.{TurnsAreBounded};
 
@@ -14,6 +19,7 @@ use dl_disk::Disk;
 use engine_turns::turns_tell_runs;
 use machine_core::{accounts_match_runs, downloads_stay};
 use stored_run::runs_follow;
+use turn_offers::active_have_offers;
 
 /// A worker none of whose turns is for nothing takes at most eight turns for each event that its
 /// turns append and each byte that its link receives, and eight more.
@@ -56,20 +62,27 @@ pub fn solo_turns_are_bounded<D: Disk>()
 }
 
 /// The worker of such a run asks for work while no claim stands and no piece is handed out. So it
-/// is never idle, and takes at most so many turns, where by the history alone an active download
-/// always has something to offer then.
+/// is never idle where by the history alone an active download always has something to offer then.
 pub fn solo_runs_are_busy<D: Disk>()
-    ensures busy { SoloRunsAreBusy D.state }
+    ensures { SoloRunsAreBusy D.state }
+{
+    lone_workers_claim_once();
+}
+
+/// In a run without a console some download is active as long as something is left to do.
+pub fn leisure_is_active()
+    ensures { LeisureIsActive }
+{}
+
+/// Where the downloads of such a run have mirrors, and the options leave room for claims, an active
+/// one always has something to offer then. So the worker takes at most so many turns.
+pub fn solo_runs_find_offers<D: Disk>()
+    ensures offers { SoloRunsFindOffers D.state }
     ensures turns { SoloTurnsAreFew D.state }
     ensures ends { SoloRunsEndByTurns D.state }
 {
-    lone_workers_claim_once();
+    active_have_offers();
+    leisure_is_active();
+    solo_runs_are_busy::<D>();
     solo_turns_are_bounded::<D>();
 }
-
-/// In a run without a console some download is active as long as something is left to do. So it is
-/// enough that each active one has something to offer.
-pub fn leisure_is_active()
-    ensures active { LeisureIsActive }
-    ensures enough { ActiveOffersAreEnough }
-{}

@@ -6,5 +6,5 @@ mod laws;
 
 pub use laws::{
     leisure_is_active, lone_turns_are_bounded, lone_workers_claim_once, solo_runs_are_busy,
-    solo_turns_are_bounded, turns_are_bounded,
+    solo_runs_find_offers, solo_turns_are_bounded, turns_are_bounded,
 };

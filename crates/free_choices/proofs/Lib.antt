@@ -1,0 +1,4 @@
+mod Extremes
+mod Mirrors
+mod Stretches
+mod Choices

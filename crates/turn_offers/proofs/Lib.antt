@@ -1,0 +1,14 @@
+pub mod Uncleared
+pub mod SolePieces
+pub mod Settled
+pub mod Marked
+pub mod Added
+pub mod Histories
+pub mod OwnSteps
+pub mod Parts
+pub mod Rows
+pub mod FirstCall
+pub mod Boundaries
+pub mod Lists
+pub mod Offers
+pub mod ActiveOffers
