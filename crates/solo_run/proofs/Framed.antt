@@ -2,6 +2,7 @@
 use Rattle.std.proofs.Common.{◌≡◌, inl, inr, ℕ, Bool, true, false, List, [], ◌∷◌, ◌++◌, sym, ap, ◌∙◌, subst}
 use Rattle.std.specs.Prelude.{◌||◌}
 use Rattle.std.proofs.lemmas.Bool.{false≢true}
+use Rattle.dl_clock.specs.declared.clock.Clock.{Ghosts as ClockSays}
 use Rattle.dl_disk.specs.declared.disk.Disk.{Ghosts as DiskSays}
 use Rattle.dl_kinds.specs.declared.outside.Sink.{Ghosts as SinkSays}
 use Rattle.engine_core.specs.EngineViews.{EngineStart, EngineView}
@@ -14,24 +15,27 @@ use Rattle.run_frame.specs.Begins.{is_no_memory}
 use Rattle.run_frame.specs.Finishes.{IsWholeRun, Ran}
 use Rattle.run_frame.specs.Stops.{IsAfter, StopsRun, ends_short}
 use Rattle.run_frame.specs.declared.ended.Ended.{Ended}
-use Rattle.conn_worker.specs.Works.{RunSight}
+use Rattle.conn_worker.specs.Works.{RunSight, Worked}
 use Rattle.solo_run.specs.Runs.{RanOver, RunsOver, WorksThrough}
 
 pub second_false : (a b : Bool) → (a || b) ≡ false → b ≡ false
 second_false false b is = is
 second_false true b is = absurd (false≢true (sym is))
 
-module _ {D L : Type 0} {says : DiskSays D} {links : LinkSays L} {s : RunSight D} {link : L} {v : EngineView D} {link' : L}
-    {short : Bool} (works : WorksThrough says links s link v link' short) where
+module _ {D L K : Type 0} {says : DiskSays D} {links : LinkSays L} {clocks : ClockSays K} {s : RunSight D} {edge : L × K}
+    {v : EngineView D} {edge' : L × K} {short : Bool} (works : WorksThrough says links clocks s edge v edge' short) where
+  abbrev pub its : Worked links 0 s edge.0 works.mid edge'.0 works.came
+  its = works.worked.its.its
+
   pub given_same : works.end.given ≡ s.given
-  given_same = works.stop.given ∙ works.worked.went.given
+  given_same = works.stop.given ∙ its.went.given
 
   -- the turns of the worker
   abbrev pub middle : List RunTurn
-  middle = works.worked.worked ++ works.worked.stop
+  middle = its.worked ++ its.stop
 
   pub own_is : works.end.own ≡ (s.own ++ middle) ++ works.stop.turn ∷ []
-  own_is = works.stop.own ∙ ap (λ (ts : List RunTurn). ts ++ works.stop.turn ∷ []) works.worked.went.own
+  own_is = works.stop.own ∙ ap (λ (ts : List RunTurn). ts ++ works.stop.turn ∷ []) its.went.own
 
   abbrev pub stops_run : StopsRun says s v short
   stops_run = record {
@@ -45,9 +49,9 @@ module _ {D L : Type 0} {says : DiskSays D} {links : LinkSays L} {s : RunSight D
         (subst (λ (ts : List RunTurn). IsAfter says works.end.given ts v) own_is works.after);
   }
 
-module _ {D L O : Type 0} {says : DiskSays D} {links : LinkSays L} {sinks : SinkSays O} {words : List (List ℕ)}
-    {gids : ℕ} {disk : D} {link : L} {out : O} {ended : Ended D} {link' : L} {out' : O} where
-  abbrev pub framed : RanOver says links sinks words gids disk link out ended link' out'
+module _ {D L K O : Type 0} {says : DiskSays D} {links : LinkSays L} {clocks : ClockSays K} {sinks : SinkSays O}
+    {words : List (List ℕ)} {gids : ℕ} {disk : D} {edge : L × K} {out : O} {ended : Ended D} {edge' : L × K} {out' : O} where
+  abbrev pub framed : RanOver says links clocks sinks words gids disk edge out ended edge' out'
       → Ran says sinks words gids 0 disk out ended out'
   framed ran = record {
     begun = ran.begun;
@@ -58,7 +62,7 @@ module _ {D L O : Type 0} {says : DiskSays D} {links : LinkSays L} {sinks : Sink
     finishes = ran.goes.finishes;
   }
 
-  pub whole : RunsOver says links sinks words gids disk link out ended link' out'
+  pub whole : RunsOver says links clocks sinks words gids disk edge out ended edge' out'
       → IsWholeRun says sinks words gids 0 disk out ended out'
   whole (inl never) = inl never.0
   whole (inr ran) = inr (framed ran)

@@ -1,9 +1,11 @@
 -- The work of a run over one link was done over the list of that link alone.
 use Rattle.std.proofs.Common.{◌≡◌, ◌≤◌, inl, inr, ℕ, zero, suc, Bool, true, false, List, [], ◌∷◌, Some, length, refl, sym, ap, ◌∙◌, slice_get, slice_index_or, slice_set, subst, take, arith}
 use Rattle.std.specs.Prelude.{◌<◌, ◌||◌, Contains}
+use Rattle.std.proofs.lemmas.Bool.{false≢true}
 use Rattle.std.proofs.lemmas.List.Elements.{Contains-append_left}
 use Rattle.brought_runs.specs.LinksCauses.{ShowsLinks}
 use Rattle.brought_runs.specs.Over.{IsOfWorker, IsRunOver, RanOverLinks, WorkedOver}
+use Rattle.dl_clock.specs.declared.clock.Clock.{Ghosts as ClockSays}
 use Rattle.dl_disk.specs.declared.disk.Disk.{Ghosts as DiskSays}
 use Rattle.dl_kinds.specs.declared.outside.Sink.{Ghosts as SinkSays}
 use Rattle.engine_turns.specs.Told.{RunTurn}
@@ -13,10 +15,10 @@ use Rattle.run_frame.specs.Begins.{is_no_memory, start_of_line}
 use Rattle.run_frame.specs.LinkCauses.{LostAsTold, SizedAsTold}
 use Rattle.run_frame.specs.Stops.{ends_short}
 use Rattle.run_frame.specs.declared.ended.Ended.{Ended}
-use Rattle.served_pieces.specs.Pieces.{IsRunOverOne}
+use Rattle.solo_run.specs.Pieces.{IsRunOverOne}
 use Rattle.solo_run.specs.LinkCauses.{ShowsLink}
 use Rattle.solo_run.specs.Runs.{RanOver, RunsOver}
-use Rattle.solo_run.proofs.Framed.{framed}
+use Rattle.solo_run.proofs.Framed.{framed, its}
 
 or_middle : (a b c : Bool) → b ≡ true → (a || (b || c)) ≡ true
 or_middle true b c is = refl
@@ -46,16 +48,16 @@ same_some x y is = cc
 -- a place of a list of one is the first
 at_one : {A : Type 0} (P : ℕ → A → A → Type 0) (x y : A) (place : ℕ) (old new : A) → slice_get (x ∷ []) place ≡ Some old
     → slice_get (y ∷ []) place ≡ Some new → P place old new → P 0 x y
-at_one {A} P x y zero old new old_is new_is its =
+at_one {A} P x y zero old new old_is new_is holds =
     subst (λ (n : A). P 0 x n) (sym (same_some y new new_is))
-    (subst (λ (o : A). P 0 o new) (sym (same_some x old old_is)) its)
-at_one {A} P x y (suc n) old new old_is new_is its = absurd cc
+    (subst (λ (o : A). P 0 o new) (sym (same_some x old old_is)) holds)
+at_one {A} P x y (suc n) old new old_is new_is holds = absurd cc
 
-module _ {D L K O : Type 0} {says : DiskSays D} {links : LinkSays L} {sinks : SinkSays O} {words : List (List ℕ)}
-    {gids : ℕ} {disk : D} {out : O} {ended : Ended D} {out' : O} (pair pair' : L × K) where
-  module _ (ran : RanOver says links sinks words gids disk pair.0 out ended pair'.0 out') where
+module _ {D L K O : Type 0} {says : DiskSays D} {links : LinkSays L} {clocks : ClockSays K} {sinks : SinkSays O}
+    {words : List (List ℕ)} {gids : ℕ} {disk : D} {out : O} {ended : Ended D} {out' : O} (pair pair' : L × K) where
+  module _ (ran : RanOver says links clocks sinks words gids disk pair out ended pair' out') where
     abbrev Over : ℕ → Type 0
-    Over place = WorkedOver links (framed ran) (pair ∷ []) (pair' ∷ []) place
+    Over place = WorkedOver true links (framed ran) (pair ∷ []) (pair' ∷ []) place
 
     abbrev worked_over : Over 0
     worked_over = record {
@@ -67,38 +69,41 @@ module _ {D L K O : Type 0} {says : DiskSays D} {links : LinkSays L} {sinks : Si
         from = ran.begun.desk;
         to = ran.goes.works.mid;
         came = ran.goes.works.came;
-        its = ran.goes.works.worked;
-        among = λ t there. Contains-append_left ran.goes.works.worked.worked ran.goes.works.worked.stop t there;
+        its = its ran.goes.works;
+        among = λ t there. Contains-append_left (its ran.goes.works).worked (its ran.goes.works).stop t there;
       };
       short = λ is. ap (λ (b : Bool). ran.begun.is_short || b) ran.goes.works.short_is
           ∙ or_middle ran.begun.is_short (ends_short ran.goes.works.came) (is_no_memory ran.goes.works.answer.said) is;
+      kept = λ unlimited. absurd (false≢true (sym unlimited));
+      few = λ limited. ran.goes.works.worked.few;
     }
 
     of_worker : (t : RunTurn) → Contains (framed ran).stops.middle t
-        → IsOfWorker links (framed ran) (pair ∷ []) (pair' ∷ []) t
+        → IsOfWorker true links (framed ran) (pair ∷ []) (pair' ∷ []) t
     of_worker t there = record { place = 0; at = worked_over; there = there }
 
     only_place : (place : ℕ) → place < 1 → Over place
     only_place zero low = worked_over
     only_place (suc n) low = absurd (omega (arith, low))
 
-    over_one : RanOverLinks says sinks links words gids 0 disk (pair ∷ []) out ended (pair' ∷ []) out'
+    over_one : RanOverLinks says sinks true links words gids 0 disk (pair ∷ []) out ended (pair' ∷ []) out'
     over_one = record {
       ran = framed ran;
       over = record {
         works = λ t there works. of_worker t there;
+        stops = λ t there now is. of_worker t there;
         alone = λ off t there. of_worker t there;
         each = λ unshort place low. only_place place low;
       };
     }
 
-  pub over : RunsOver says links sinks words gids disk pair.0 out ended pair'.0 out'
-      → IsRunOver says sinks links words gids 0 disk (pair ∷ []) out ended (pair' ∷ []) out'
+  pub over : RunsOver says links clocks sinks words gids disk pair out ended pair' out'
+      → IsRunOver says sinks true links words gids 0 disk (pair ∷ []) out ended (pair' ∷ []) out'
   over (inl never) = inl never.0
   over (inr ran) = inr (over_one ran)
 
   -- .. by the turns of its worker, in order
-  pub over_its_one : RunsOver says links sinks words gids disk pair.0 out ended pair'.0 out'
+  pub over_its_one : RunsOver says links clocks sinks words gids disk pair out ended pair' out'
       → IsRunOverOne says sinks links words gids 0 disk pair out ended pair' out'
   unfolding over_one
   over_its_one (inl never) = inl never.0
@@ -107,8 +112,10 @@ module _ {D L K O : Type 0} {says : DiskSays D} {links : LinkSays L} {sinks : Si
     from = ran.begun.desk;
     to = ran.goes.works.mid;
     came = ran.goes.works.came;
-    its = ran.goes.works.worked;
+    its = its ran.goes.works;
     order = refl;
+    few = ran.goes.works.worked.few;
+    short = (worked_over ran).short;
   })
 
 -- what links show that are one link, it shows

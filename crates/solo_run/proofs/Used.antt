@@ -1,6 +1,7 @@
 -- A run over one link uses the first one alone, and none where nothing happens.
 use Rattle.std.proofs.Common.{◌≡◌, ◌≤◌, inl, inr, ℕ, List, [], ◌∷◌, drop, length, refl, sym, ap, ◌∙◌, slice_index_or, slice_set, subst, arith}
 use Rattle.std.specs.Prelude.{Contains}
+use Rattle.dl_clock.specs.declared.clock.Clock.{Ghosts as ClockSays}
 use Rattle.dl_disk.specs.declared.disk.Disk.{Ghosts as DiskSays}
 use Rattle.dl_kinds.specs.declared.outside.Sink.{Ghosts as SinkSays}
 use Rattle.link_source.specs.declared.Links.{Ghosts as LinkSays}
@@ -16,7 +17,7 @@ use Rattle.solo_run.proofs.Framed.{framed}
 
 -- ---- lists
 
-pub none_there : {P : Type 0} → Contains [] Stopped → P
+none_there : {P : Type 0} → Contains [] Stopped → P
 none_there there = absurd (let within = there.1 in omega (arith, within))
 
 abbrev pub head_or : {A : Type 0} → A → List A → A
@@ -35,32 +36,27 @@ as_many : {A : Type 0} (xs : List A) (x : A) → length (slice_set xs 0 x) ≡ l
 as_many [] x = refl
 as_many (y ∷ ys) x = refl
 
-module _ {D L K O : Type 0} {says : DiskSays D} {links : LinkSays L} {sinks : SinkSays O} {words : List (List ℕ)}
-    {gids : ℕ}
-    {disk : D} {out : O} {ended : Ended D} {out' : O} (pair pair' : L × K)
-    (runs : RunsOver says links sinks words gids disk pair.0 out ended pair'.0 out') where
-  -- where nothing happened the link is as it was
-  link_same : ((ran : Ran says sinks words gids 0 disk out ended out') → Contains ended.journal.events.items Stopped)
-      → ended.journal.events.items ≡ [] → pair'.0 ≡ pair.0
-  link_same stopped none = by runs
+module _ {D L K O : Type 0} {says : DiskSays D} {links : LinkSays L} {clocks : ClockSays K} {sinks : SinkSays O}
+    {words : List (List ℕ)} {gids : ℕ} {disk : D} {out : O} {ended : Ended D} {out' : O} (pair pair' : L × K)
+    (runs : RunsOver says links clocks sinks words gids disk pair out ended pair' out') where
+  -- where nothing happened the link and its clock are as they were
+  pub unused_pair : ((ran : Ran says sinks words gids 0 disk out ended out') → Contains ended.journal.events.items Stopped)
+      → ended.journal.events.items ≡ [] → pair' ≡ pair
+  unused_pair stopped none = by runs
     where
-      by : RunsOver says links sinks words gids disk pair.0 out ended pair'.0 out' → pair'.0 ≡ pair.0
+      by : RunsOver says links clocks sinks words gids disk pair out ended pair' out' → pair' ≡ pair
       by (inl never) = never.1
       by (inr ran) =
           none_there (subst (λ (es : List Event). Contains es Stopped) none (stopped (framed ran)))
 
-  pub unused_pair : ((ran : Ran says sinks words gids 0 disk out ended out') → Contains ended.journal.events.items Stopped)
-      → (ended.journal.events.items ≡ [] → pair'.1 ≡ pair.1) → ended.journal.events.items ≡ [] → pair' ≡ pair
-  unused_pair stopped clock none = (λ i. (link_same stopped none i, clock none i))
-
   pub leaves_unused : (pairs : List (L × K)) → 1 ≤ length pairs → pair ≡ slice_index_or pairs 0 pair
       → ((ran : Ran says sinks words gids 0 disk out ended out') → Contains ended.journal.events.items Stopped)
-      → (ended.journal.events.items ≡ [] → pair'.1 ≡ pair.1) → OnlyReads says disk ended
+      → OnlyReads says disk ended
       → LeavesUnused says disk pairs ended (slice_set pairs 0 pair')
-  leaves_unused pairs some first stopped clock reads = record {
+  leaves_unused pairs some first stopped reads = record {
     reads = reads;
     all = λ none.
-        let same = unused_pair stopped clock none in
+        let same = unused_pair stopped none in
         subst (λ (p : L × K). slice_set pairs 0 p ≡ pairs) (sym same) (set_first pairs pair some first);
     others = others_same pairs pair';
     many = as_many pairs pair';

@@ -1,8 +1,9 @@
 -- What a run over one link did, from the words to the summary.
 use Rattle.std.specs.Prelude.{◌≡◌, ◌⊎◌, ◌||◌, ℕ, Bool, List, Result}
-use Rattle.conn_worker.specs.Works.{RunSight, Worked}
+use Rattle.conn_worker.specs.Works.{RunSight, WorkedWithin}
 use Rattle.conn_worker.specs.declared.ends.Spent.{Spent}
 use Rattle.conn_worker.specs.declared.ends.WorkEnd.{WorkEnd}
+use Rattle.dl_clock.specs.declared.clock.Clock.{Ghosts as ClockSays}
 use Rattle.dl_disk.specs.declared.disk.Disk.{Ghosts as DiskSays}
 use Rattle.dl_kinds.specs.declared.outside.Sink.{Ghosts as SinkSays}
 use Rattle.engine_core.specs.Beginnings.{ties_run}
@@ -22,13 +23,14 @@ use Rattle.run_frame.specs.declared.ended.Ended.{Ended}
 abbrev pub is_short : Result WorkEnd Spent → Said → Bool
 is_short came said = ends_short came || is_no_memory said
 
-module _ {D L : Type 0} (says : DiskSays D) (links : LinkSays L) where
-  -- The worker's turns came, and a last one that stops the run; of each it was seen whether memory was wanting.
-  pub record WorksThrough (s : RunSight D) (link : L) (v : EngineView D) (link' : L) (short : Bool) : Type 0 where
+module _ {D L K : Type 0} (says : DiskSays D) (links : LinkSays L) (clocks : ClockSays K) where
+  -- The worker's turns came over the link, by its clock, and a last one that stops the run; of each it was seen whether memory
+  -- was wanting.
+  pub record WorksThrough (s : RunSight D) (edge : L × K) (v : EngineView D) (edge' : L × K) (short : Bool) : Type 0 where
     pub mid : RunSight D
     pub end : RunSight D
     pub came : Result WorkEnd Spent
-    pub worked : Worked links 0 s link mid link' came
+    pub worked : WorkedWithin links clocks 0 s edge mid edge' came
     pub answer : Answer
     pub stop : Took ties_run mid (Stop (record { 0 = 0 })) answer end
     pub short_is : short ≡ is_short came answer.said
@@ -36,21 +38,21 @@ module _ {D L : Type 0} (says : DiskSays D) (links : LinkSays L) where
 
   module _ {O : Type 0} (sinks : SinkSays O) where
     -- from the command line's own call on it worked over the link, was stopped and ended
-    pub record GoesThrough (begun : Begun D) (link : L) (out : O) (ended : Ended D) (link' : L) (out' : O) : Type 0
-      where
-        pub engine : EngineView D
-        pub work_short : Bool
-        pub works : WorksThrough begun.desk link engine link' work_short
-        pub finishes : Finishes sinks engine (begun.is_short || work_short) out ended out'
+    pub record GoesThrough (begun : Begun D) (edge : L × K) (out : O) (ended : Ended D) (edge' : L × K) (out' : O)
+        : Type 0 where
+      pub engine : EngineView D
+      pub work_short : Bool
+      pub works : WorksThrough begun.desk edge engine edge' work_short
+      pub finishes : Finishes sinks engine (begun.is_short || work_short) out ended out'
 
-    pub record RanOver (words : List (List ℕ)) (gids : ℕ) (disk : D) (link : L) (out : O) (ended : Ended D) (link' : L)
-        (out' : O) : Type 0 where
+    pub record RanOver (words : List (List ℕ)) (gids : ℕ) (disk : D) (edge : L × K) (out : O) (ended : Ended D)
+        (edge' : L × K) (out' : O) : Type 0 where
       pub begun : Begun D
       pub begins : HasBegun says words gids 0 disk begun
-      pub goes : GoesThrough begun link out ended link' out'
+      pub goes : GoesThrough begun edge out ended edge' out'
 
-    -- it ended before it began, and the link is as it was; or it ran over the link
-    abbrev pub RunsOver : List (List ℕ) → ℕ → D → L → O → Ended D → L → O → Type 0
-    RunsOver words gids disk link out ended link' out' =
-        (NeverBegan says sinks words disk out ended out' × (link' ≡ link))
-        ⊎ RanOver words gids disk link out ended link' out'
+    -- it ended before it began, and the link and its clock are as they were; or it ran over the link
+    abbrev pub RunsOver : List (List ℕ) → ℕ → D → L × K → O → Ended D → L × K → O → Type 0
+    RunsOver words gids disk edge out ended edge' out' =
+        (NeverBegan says sinks words disk out ended out' × (edge' ≡ edge))
+        ⊎ RanOver words gids disk edge out ended edge' out'

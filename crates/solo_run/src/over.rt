@@ -1,5 +1,5 @@
 // The run over a link.
-ghost use Rattle.std.specs.Prelude.{◌≡◌, ◌||◌, [], map, string_bytes};
+ghost use Rattle.std.specs.Prelude.{◌≡◌, ◌||◌, map, string_bytes};
 ghost use Rattle.solo_run.specs.Runs.{GoesThrough, RunsOver};
 
 use crate::work::{Worked, work_through};
@@ -8,7 +8,7 @@ use dl_disk::Disk;
 use dl_kinds::Sink;
 use link_source::Links;
 use machine_core::Journal;
-use run_frame::{Begun, Ended, Unbegun, begin, begun_runs_are_stopped, finish, refuse};
+use run_frame::{Begun, Ended, Unbegun, begin, finish, refuse};
 use std::alloc::Global;
 
 fn either(first: bool, second: bool) -> bool
@@ -25,7 +25,8 @@ fn go_through<D: Disk, L: Links, K: Clock, O: Sink>(
     clock: &mut K,
     out: &mut O,
 ) -> Ended<D>
-    ensures { GoesThrough D.Disk L.Links O.Sink begun link.old out.old result link.new out.new }
+    ensures { GoesThrough D.Disk L.Links K.Clock O.Sink begun (link.old, clock.old) out.old
+        result (link.new, clock.new) out.new }
 {
     let Begun {
         desk,
@@ -50,11 +51,9 @@ pub(crate) fn run_over<D: Disk, L: Links, K: Clock, O: Sink>(
     gids: u64,
     out: &mut O,
 ) -> Ended<D>
-    ensures runs { RunsOver D.Disk L.Links O.Sink (map string_bytes words.now) gids disk
-        link.old out.old result link.new out.new }
-    ensures clock { result.journal.events.items ≡ [] → clock.new ≡ clock.old }
+    ensures { RunsOver D.Disk L.Links K.Clock O.Sink (map string_bytes words.now) gids disk
+        (link.old, clock.old) out.old result (link.new, clock.new) out.new }
 {
-    begun_runs_are_stopped::<D, O>();
     match begin(alloc, words, disk, gids, 0) {
         Ok(begun) => go_through(alloc, begun, link, clock, out),
         Err(Unbegun { ending, disk }) => Ended {

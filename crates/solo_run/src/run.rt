@@ -1,23 +1,26 @@
 // A run over one link.
-ghost use Rattle.std.specs.Prelude.{◌≡◌, ◌≤◌, IsTrue, length, map, string_bytes, take};
+ghost use Rattle.std.specs.Prelude.{◌≡◌, ◌≤◌, true, IsTrue, length, map, string_bytes, take};
 ghost use Rattle.brought_runs.specs.Completes.{CompletesServed};
 ghost use Rattle.brought_runs.specs.CompletesUris.{CompletesUris};
 ghost use Rattle.brought_runs.specs.Served.{SparesServing};
+ghost use Rattle.brought_runs.specs.Unfinished.{ShowsUnfinished};
 ghost use Rattle.run_frame.specs.DiskCauses.{LeavesOtherFiles, ShowsDisk};
 ghost use Rattle.run_frame.specs.Endings.{EndsAsShown};
 ghost use Rattle.run_frame.specs.Histories.{IsHistory};
 ghost use Rattle.run_frame.specs.Printing.{PrintsText};
 ghost use Rattle.run_frame.specs.Results.{ended_of};
 ghost use Rattle.run_frame.specs.Survivals.{SurvivesRun};
-ghost use Rattle.served_pieces.specs.Pieces.{CompletesPieces};
+ghost use Rattle.solo_run.specs.Bounded.{BoundsFirst};
 ghost use Rattle.solo_run.specs.Headline.{DoesAlone};
 ghost use Rattle.solo_run.specs.LinkCauses.{ShowsFirstLink};
+ghost use Rattle.solo_run.specs.Pieces.{CompletesPieces};
 ghost use Rattle.solo_run.specs.Untouched.{LeavesUnused};
 
+use crate::laws::{runs_complete_served_pieces, runs_over_one_are_bounded};
 use crate::over::run_over;
 use brought_runs::{
     runs_complete_uris, runs_complete_what_is_served, runs_show_their_links,
-    runs_spare_serving_mirrors,
+    runs_show_why_unfinished, runs_spare_serving_mirrors,
 };
 use dl_clock::Clock;
 use dl_disk::Disk;
@@ -28,7 +31,6 @@ use run_frame::{
     runs_leave_other_files, runs_print_one_text, runs_show_their_disk, runs_survive_crashes,
     unbegun_runs_only_read,
 };
-use served_pieces::runs_complete_served_pieces;
 use std::alloc::Global;
 
 /// The run of these words, which stand behind the program's name, over the first link. Doors aren't used. `gids` is what the ids
@@ -43,15 +45,18 @@ pub fn run_alone<D: Disk, L: Links, K: Clock, A, O: Sink>(
     out: &mut O,
 ) -> Finished<D, L, K, A>
     requires { 1 ≤ length links.items }
-    // What was done over the first link, from the words to the summary.
-    ensures does { DoesAlone D.Disk L.Links O.Sink (map string_bytes words.now) gids disk links.items
-        out.old result out.new }
+    // What was done over the first link, by its clock, from the words to the summary.
+    ensures does { DoesAlone D.Disk L.Links K.Clock O.Sink (map string_bytes words.now) gids disk
+        links.items out.old result out.new }
     // How it ended is shown.
     ensures ending { EndsAsShown D.Disk O.Sink (map string_bytes words.now) gids 0 disk
         out.old (ended_of result) out.new }
     // Why it didn't begin is printed, or the summary, and nothing else.
     ensures output { PrintsText D.Disk O.Sink (map string_bytes words.now) gids 0 disk
         out.old (ended_of result) out.new }
+    // Where it is unfinished its worker met a full journal, or took as many turns as one may, or only paused downloads were left.
+    ensures unfinished { ShowsUnfinished true L.Links (map string_bytes words.now) gids 0
+        (take 1 links.items) (take 1 result.links.items) (ended_of result) }
     // One legal history, which begins with the call of the line and leaves nothing unsaved.
     ensures history { IsHistory D.Disk (map string_bytes words.now) gids 0 disk (ended_of result) }
     // What it tells of the disk was so, and files that weren't asked for are as they were.
@@ -65,8 +70,8 @@ pub fn run_alone<D: Disk, L: Links, K: Clock, A, O: Sink>(
     ensures marks { IsTrue L.tells → SparesServing D.Disk L.Links (map string_bytes words.now) gids
         0 (take 1 links.items) (take 1 result.links.items) (ended_of result) }
     // What is served comes: a run whose link leads to all of a metainfo file's payload is done, unless it was cut short.
-    ensures completes { IsTrue D.tells → IsTrue L.tells → CompletesServed D.Disk L.Links O.Sink
-        (map string_bytes words.now) disk (take 1 links.items) out.old (ended_of result)
+    ensures completes { IsTrue D.tells → IsTrue L.tells → CompletesServed true D.Disk L.Links
+        O.Sink (map string_bytes words.now) disk (take 1 links.items) out.old (ended_of result)
         (take 1 result.links.items) out.new }
     // So it is where each piece has a mirror that holds it, with fewer bad answers left than tries.
     ensures completes_pieces { IsTrue D.tells → IsTrue L.tells → CompletesPieces D.Disk L.Links
@@ -74,9 +79,13 @@ pub fn run_alone<D: Disk, L: Links, K: Clock, A, O: Sink>(
         (take 1 result.links.items) out.new }
     // So it is without a metainfo file, where all mirrors lead alike to one resource and no file stands in its folder; and
     // then its file has just the resource's bytes.
-    ensures completes_uris { IsTrue D.tells → IsTrue L.tells → CompletesUris D.Disk L.Links O.Sink
-        (map string_bytes words.now) disk (take 1 links.items) out.old (ended_of result)
+    ensures completes_uris { IsTrue D.tells → IsTrue L.tells → CompletesUris true D.Disk L.Links
+        O.Sink (map string_bytes words.now) disk (take 1 links.items) out.old (ended_of result)
         (take 1 result.links.items) out.new }
+    // It has few claims and events, by its download's blocks, pieces, mirrors and tries; and without a
+    // console its worker takes few turns, by the events and the bytes that come over the link.
+    ensures bounds { BoundsFirst D.Disk O.Sink L.Links (map string_bytes words.now) gids disk
+        (take 1 links.items) out.old (ended_of result) (take 1 result.links.items) out.new }
     // What is complete has its digests, and nothing that was promised is lost by a crash.
     ensures survives { IsTrue D.tells
         → SurvivesRun D.Disk (map string_bytes words.now) gids 0 disk (ended_of result) }
@@ -91,10 +100,12 @@ pub fn run_alone<D: Disk, L: Links, K: Clock, A, O: Sink>(
     runs_show_their_disk::<D, O>();
     runs_leave_other_files::<D, O>();
     runs_show_their_links::<D, L, K, O>();
+    runs_show_why_unfinished::<D, L, K, O>();
     runs_spare_serving_mirrors::<D, L, K, O>();
     runs_complete_what_is_served::<D, L, K, O>();
     runs_complete_served_pieces::<D, L, K, O>();
     runs_complete_uris::<D, L, K, O>();
+    runs_over_one_are_bounded::<D, L, K, O>();
     runs_survive_crashes::<D, O>();
     unbegun_runs_only_read::<D, O>();
     let mut links = links;

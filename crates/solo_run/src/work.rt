@@ -34,7 +34,8 @@ pub(crate) fn work_through<L: Links, K: Clock, D: Disk>(
     link: &mut L,
     clock: &mut K,
 ) -> Worked<D>
-    ensures { WorksThrough D.Disk L.Links desk link.old result.engine link.new result.is_short }
+    ensures { WorksThrough D.Disk L.Links K.Clock desk (link.old, clock.old)
+        result.engine (link.new, clock.new) result.is_short }
 {
     turns_add_up::<Engine<D>>();
     let mut desk = desk;

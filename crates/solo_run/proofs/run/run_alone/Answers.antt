@@ -1,10 +1,13 @@
 use Rattle.std.proofs.Common.{◌≡◌, ap, ◌∙◌, slice_index_or, slice_set, subst, arith}
-use Rattle.std.specs.Prelude.{IsTrue, map, string_bytes}
+use Rattle.std.specs.Prelude.{true, IsTrue, map, string_bytes}
 use Rattle.brought_runs.specs.Completes.{CompletesServed}
 use Rattle.brought_runs.specs.CompletesUris.{CompletesUris}
 use Rattle.brought_runs.specs.Served.{SparesServing}
-use Rattle.served_pieces.specs.Pieces.{CompletesPieces}
+use Rattle.brought_runs.specs.Unfinished.{ShowsUnfinished}
+use Rattle.solo_run.specs.Pieces.{CompletesPieces}
+use Rattle.solo_run.specs.Bounded.{BoundsFirst}
 use Rattle.solo_run.specs.Runs.{RunsOver}
+use Rattle.solo_run.proofs.BoundedFirst.{bounds_first}
 use Rattle.solo_run.proofs.Framed.{whole}
 use Rattle.solo_run.proofs.OneLink.{of_first_alone, over, over_its_one, shows_one}
 use Rattle.solo_run.proofs.Used.{leaves_unused, of_first, unused_pair}
@@ -19,42 +22,41 @@ returns-clause-does g c link others is =
       link' = (came.new.link, came.new.clock);
       links_are = ap (λ items. slice_set items 0 (came.new.link, came.new.clock)) is;
       runs = subst
-          (λ used. RunsOver g.D.Disk g.L.Links g.O.Sink
-          (map string_bytes c.args.words.now) c.args.gids c.args.disk used.0
-          c.args.out.now came.result came.new.link came.new.out)
-          first came.ensures.runs;
+          (λ used. RunsOver g.D.Disk g.L.Links g.K.Clock g.O.Sink
+          (map string_bytes c.args.words.now) c.args.gids c.args.disk used
+          c.args.out.now came.result (came.new.link, came.new.clock) came.new.out)
+          first came.ensures;
       unused = λ none.
-          unused_pair pair (came.new.link, came.new.clock) came.ensures.runs
-          (c.begun_runs_are_stopped.ensures _ _ _ _ _ _ _)
-          came.ensures.clock none
+          unused_pair pair (came.new.link, came.new.clock) came.ensures
+          (c.begun_runs_are_stopped.ensures _ _ _ _ _ _ _) none
           ∙ first;
     }
 
 pub returns-clause-ending : goal.returns-clause-ending
-returns-clause-ending g c = c.runs_end_as_shown.ensures _ _ _ _ _ _ _ (whole c.run_over-ending.ensures.runs)
+returns-clause-ending g c = c.runs_end_as_shown.ensures _ _ _ _ _ _ _ (whole c.run_over-ending.ensures)
 
 pub returns-clause-output : goal.returns-clause-output
-returns-clause-output g c = c.runs_print_one_text.ensures _ _ _ _ _ _ _ (whole c.run_over-ending.ensures.runs)
+returns-clause-output g c = c.runs_print_one_text.ensures _ _ _ _ _ _ _ (whole c.run_over-ending.ensures)
 
 pub returns-clause-history : goal.returns-clause-history
-returns-clause-history g c = c.runs_have_whole_histories.ensures _ _ _ _ _ _ _ (whole c.run_over-ending.ensures.runs)
+returns-clause-history g c = c.runs_have_whole_histories.ensures _ _ _ _ _ _ _ (whole c.run_over-ending.ensures)
 
 pub returns-clause-disk : goal.returns-clause-disk
-returns-clause-disk g c = c.runs_show_their_disk.ensures _ _ _ _ _ _ _ (whole c.run_over-ending.ensures.runs)
+returns-clause-disk g c = c.runs_show_their_disk.ensures _ _ _ _ _ _ _ (whole c.run_over-ending.ensures)
 
 pub returns-clause-others : goal.returns-clause-others
-returns-clause-others g c = c.runs_leave_other_files.ensures _ _ _ _ _ _ _ (whole c.run_over-ending.ensures.runs)
+returns-clause-others g c = c.runs_leave_other_files.ensures _ _ _ _ _ _ _ (whole c.run_over-ending.ensures)
 
 pub returns-clause-survives : goal.returns-clause-survives
-returns-clause-survives g c = c.runs_survive_crashes.ensures _ _ _ _ _ _ _ (whole c.run_over-ending.ensures.runs)
+returns-clause-survives g c = c.runs_survive_crashes.ensures _ _ _ _ _ _ _ (whole c.run_over-ending.ensures)
 
 pub returns-clause-link : goal.returns-clause-link
 returns-clause-link g c =
     let pair = c.index_mut.result.now in
     of_first _ _ pair (c.run_over-ending.new.link, c.run_over-ending.new.clock) c.index_mut.ensures.value
     (shows_one _ pair (c.run_over-ending.new.link, c.run_over-ending.new.clock)
-    (c.runs_show_their_links.ensures _ _ _ _ _ _ _ _ _
-    (over pair (c.run_over-ending.new.link, c.run_over-ending.new.clock) c.run_over-ending.ensures.runs)))
+    (c.runs_show_their_links.ensures true _ _ _ _ _ _ _ _ _
+    (over pair (c.run_over-ending.new.link, c.run_over-ending.new.clock) c.run_over-ending.ensures)))
 
 pub returns-clause-marks : goal.returns-clause-marks
 returns-clause-marks g c =
@@ -63,19 +65,30 @@ returns-clause-marks g c =
     (λ olds news. IsTrue g.L.Links.tells → SparesServing g.D.Disk g.L.Links (map string_bytes c.args.words.now)
     c.args.gids 0 olds news c.run_over-ending.result)
     _ pair (c.run_over-ending.new.link, c.run_over-ending.new.clock) c.requires c.index_mut.ensures.value
-    (c.runs_spare_serving_mirrors.ensures _ _ _ _ _ _ _ _ _
-    (over pair (c.run_over-ending.new.link, c.run_over-ending.new.clock) c.run_over-ending.ensures.runs))
+    (c.runs_spare_serving_mirrors.ensures true _ _ _ _ _ _ _ _ _
+    (over pair (c.run_over-ending.new.link, c.run_over-ending.new.clock) c.run_over-ending.ensures))
+
+pub returns-clause-unfinished : goal.returns-clause-unfinished
+returns-clause-unfinished g c =
+    let pair = c.index_mut.result.now in
+    of_first_alone
+    (λ olds news. ShowsUnfinished true g.L.Links (map string_bytes c.args.words.now) c.args.gids 0 olds news
+    c.run_over-ending.result)
+    _ pair (c.run_over-ending.new.link, c.run_over-ending.new.clock) c.requires c.index_mut.ensures.value
+    (c.runs_show_why_unfinished.ensures true _ _ _ _ _ _ _ _ _
+    (over pair (c.run_over-ending.new.link, c.run_over-ending.new.clock) c.run_over-ending.ensures)
+    (omega arith))
 
 pub returns-clause-completes : goal.returns-clause-completes
 returns-clause-completes g c =
     let pair = c.index_mut.result.now in
     of_first_alone
-    (λ olds news. IsTrue g.D.Disk.tells → IsTrue g.L.Links.tells → CompletesServed g.D.Disk g.L.Links g.O.Sink
+    (λ olds news. IsTrue g.D.Disk.tells → IsTrue g.L.Links.tells → CompletesServed true g.D.Disk g.L.Links g.O.Sink
     (map string_bytes c.args.words.now) c.args.disk olds c.args.out.now c.run_over-ending.result news
     c.run_over-ending.new.out)
     _ pair (c.run_over-ending.new.link, c.run_over-ending.new.clock) c.requires c.index_mut.ensures.value
-    (c.runs_complete_what_is_served.ensures _ _ _ _ _ _ _ _ _
-    (over pair (c.run_over-ending.new.link, c.run_over-ending.new.clock) c.run_over-ending.ensures.runs)
+    (c.runs_complete_what_is_served.ensures true _ _ _ _ _ _ _ _ _
+    (over pair (c.run_over-ending.new.link, c.run_over-ending.new.clock) c.run_over-ending.ensures)
     (omega arith))
 
 pub returns-clause-completes_pieces : goal.returns-clause-completes_pieces
@@ -87,24 +100,33 @@ returns-clause-completes_pieces g c =
     c.run_over-ending.new.out)
     _ pair (c.run_over-ending.new.link, c.run_over-ending.new.clock) c.requires c.index_mut.ensures.value
     (c.runs_complete_served_pieces.ensures _ _ _ _ _ _ _ _ _
-    (over_its_one pair (c.run_over-ending.new.link, c.run_over-ending.new.clock) c.run_over-ending.ensures.runs))
+    (over_its_one pair (c.run_over-ending.new.link, c.run_over-ending.new.clock) c.run_over-ending.ensures))
 
 pub returns-clause-completes_uris : goal.returns-clause-completes_uris
 returns-clause-completes_uris g c =
     let pair = c.index_mut.result.now in
     of_first_alone
-    (λ olds news. IsTrue g.D.Disk.tells → IsTrue g.L.Links.tells → CompletesUris g.D.Disk g.L.Links g.O.Sink
+    (λ olds news. IsTrue g.D.Disk.tells → IsTrue g.L.Links.tells → CompletesUris true g.D.Disk g.L.Links g.O.Sink
     (map string_bytes c.args.words.now) c.args.disk olds c.args.out.now c.run_over-ending.result news
     c.run_over-ending.new.out)
     _ pair (c.run_over-ending.new.link, c.run_over-ending.new.clock) c.requires c.index_mut.ensures.value
-    (c.runs_complete_uris.ensures _ _ _ _ _ _ _ _ _
-    (over pair (c.run_over-ending.new.link, c.run_over-ending.new.clock) c.run_over-ending.ensures.runs)
+    (c.runs_complete_uris.ensures true _ _ _ _ _ _ _ _ _
+    (over pair (c.run_over-ending.new.link, c.run_over-ending.new.clock) c.run_over-ending.ensures)
     (omega arith))
+
+pub returns-clause-bounds : goal.returns-clause-bounds
+returns-clause-bounds g c =
+    let pair = c.index_mut.result.now in
+    of_first_alone
+    (λ olds news. BoundsFirst g.D.Disk g.O.Sink g.L.Links (map string_bytes c.args.words.now) c.args.gids c.args.disk olds
+    c.args.out.now c.run_over-ending.result news c.run_over-ending.new.out)
+    _ pair (c.run_over-ending.new.link, c.run_over-ending.new.clock) c.requires c.index_mut.ensures.value
+    (bounds_first pair (c.run_over-ending.new.link, c.run_over-ending.new.clock)
+    c.runs_over_one_are_bounded.ensures c.run_over-ending.ensures)
 
 pub returns-clause-untouched : goal.returns-clause-untouched
 returns-clause-untouched g c =
     leaves_unused c.index_mut.result.now (c.run_over-ending.new.link, c.run_over-ending.new.clock)
-    c.run_over-ending.ensures.runs _ c.requires c.index_mut.ensures.value
+    c.run_over-ending.ensures _ c.requires c.index_mut.ensures.value
     (c.begun_runs_are_stopped.ensures _ _ _ _ _ _ _)
-    c.run_over-ending.ensures.clock
-    (c.unbegun_runs_only_read.ensures _ _ _ _ _ _ _ (whole c.run_over-ending.ensures.runs))
+    (c.unbegun_runs_only_read.ensures _ _ _ _ _ _ _ (whole c.run_over-ending.ensures))

@@ -1,5 +1,5 @@
-use Rattle.served_pieces.proofs.Pieced.{completes_pieces}
-use Rattle.served_pieces.proofs.laws.runs_complete_served_pieces.Goals as goal
+use Rattle.solo_run.proofs.Pieced.{completes_pieces}
+use Rattle.solo_run.proofs.laws.runs_complete_served_pieces.Goals as goal
 
 pub returns : goal.returns
 returns g c words gids doors disk old out ended new out' is =

@@ -18,7 +18,7 @@ use Rattle.run_frame.specs.Stops.{all_turns}
 use Rattle.run_frame.specs.declared.ended.Ended.{Ended}
 use Rattle.served_claims.specs.Laws.{UsesClaim}
 use Rattle.served_claims.proofs.Runs.{works_over}
-use Rattle.served_pieces.specs.Pieces.{RanOverOne}
+use Rattle.solo_run.specs.Pieces.{RanOverOne}
 
 -- the newest turn first
 turned : (own worked stop : List RunTurn) (last : RunTurn)

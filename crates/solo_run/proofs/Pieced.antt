@@ -1,10 +1,11 @@
 -- A run over one link, whose mirrors hold the pieces of a payload between them, is done, where nothing cuts it short.
-use Rattle.std.proofs.Common.{◌≡◌, ◌⊎◌, inl, inr, ⊎_elim, ℕ, IsTrue, List, [], ◌∷◌, Some, refl, sym, ap, ◌∙◌, subst, arith}
-use Rattle.std.specs.Prelude.{◌<◌, ◌++◌, reverse}
+use Rattle.std.proofs.Common.{◌≡◌, ◌⊎◌, inl, inr, ⊎_elim, ℕ, true, false, IsTrue, List, [], ◌∷◌, Some, refl, sym, ap, ◌∙◌, subst, arith}
+use Rattle.std.specs.Prelude.{◌++◌, reverse, slice_index_or}
+use Rattle.blameless_mirrors.proofs.Wanting.{wanted_chosen}
 use Rattle.blameless_mirrors.specs.Blameless.{IsListedAlone}
+use Rattle.blameless_mirrors.specs.Chosen.{IsChosenPiece}
 use Rattle.blameless_mirrors.specs.Lone.{IsLoneListed, LacksControlFirst, LoneAreAlone}
-use Rattle.brought_runs.specs.Completes.{IsDone, NamesPayload, WasCutShort}
-use Rattle.brought_runs.specs.CompletesUris.{own_options}
+use Rattle.brought_runs.specs.Completes.{EndsCutShort, IsDone, NamesPayload, own_options}
 use Rattle.brought_runs.specs.Ends.{EndsUnfailed, FinishedAreDone, OnlyCompletes}
 use Rattle.brought_runs.specs.Over.{RanOverLinks}
 use Rattle.brought_runs.specs.OverLaws.{RunsShowLinks}
@@ -19,7 +20,6 @@ use Rattle.command_line.specs.declared.source.Source.{Source}
 use Rattle.conn_worker.specs.Hands.{link_at}
 use Rattle.control_file.specs.declared.want.Want.{Want}
 use Rattle.dl_disk.specs.declared.disk.Disk.{Ghosts as DiskSays}
-use Rattle.dl_kinds.specs.Plan.{pieces_of}
 use Rattle.dl_kinds.specs.declared.gid.Gid.{Gid}
 use Rattle.dl_kinds.specs.declared.outside.Sink.{Ghosts as SinkSays}
 use Rattle.engine_turns.specs.Told.{RunTurn, history_of}
@@ -30,9 +30,10 @@ use Rattle.machine_core.specs.RunLegal.{DownloadsStay, tries_in}
 use Rattle.machine_core.specs.Starts.{Download, Listed, RunStart, Subject}
 use Rattle.machine_core.specs.declared.events.Event.{Event}
 use Rattle.metainfo.specs.declared.meta.Meta.{Meta}
+use Rattle.machine_core.specs.Wanted.{wanted_pieces}
 use Rattle.option_set.specs.Values.{OptionValues, number_value}
 use Rattle.option_set.specs.declared.kinds.Num.TheVariants.{MaxTries}
-use Rattle.paid_marks.specs.Paid.{IsListedRun}
+use Rattle.paid_marks.specs.Paid.{IsListedRun, lengths_of_meta}
 use Rattle.paid_marks.specs.Served.{IsServedPiece, ServedOnlyComplete}
 use Rattle.resume_core.specs.Wants.{control_name, payload_name}
 use Rattle.run_frame.specs.Finishes.{Ran}
@@ -41,9 +42,9 @@ use Rattle.run_frame.specs.Stops.{all_turns}
 use Rattle.run_frame.specs.declared.ended.Ended.{Ended}
 use Rattle.run_frame.proofs.Ran as ran_facts
 use Rattle.run_report.specs.declared.endings.RunEnding.TheVariants.{NoMemory}
-use Rattle.served_pieces.specs.Pieces.{CompletesPieces, IsRunOverOne, IsServedByPieces, RanOverOne}
+use Rattle.solo_run.specs.Pieces.{CompletesPieces, IsRunOverOne, IsServedByPieces, RanOverOne}
 use Rattle.brought_runs.proofs.Unbegun.{never_began}
-use Rattle.served_pieces.proofs.Worked.{worked_over}
+use Rattle.solo_run.proofs.Worked.{worked_over}
 
 -- what is known of every run
 pub record Laws {D O L : Type 0} (K : Type 0) (says : DiskSays D) (sinks : SinkSays O) (links : LinkSays L)
@@ -65,7 +66,7 @@ module _ {D O L K : Type 0} {says : DiskSays D} {sinks : SinkSays O} {links : Li
       (tells : IsTrue says.tells) (link_tells : IsTrue links.tells)
       (named : CommandLine) (meta : Meta) (uris : List (List ℕ))
       (is : IsServedByPieces says links sinks words disk (old ∷ []) out ended (new ∷ []) out' named meta uris) where
-    abbrev it : RanOverLinks says sinks links words gids doors disk (old ∷ []) out ended (new ∷ []) out'
+    abbrev it : RanOverLinks says sinks true links words gids doors disk (old ∷ []) out ended (new ∷ []) out'
     it = run.over
 
     abbrev ran : Ran says sinks words gids doors disk out ended out'
@@ -99,7 +100,7 @@ module _ {D O L K : Type 0} {says : DiskSays D} {sinks : SinkSays O} {links : Li
 
     -- ---- its download
 
-    module _ (one : RanOne ran (Listed meta uris)) where
+    module _ (one : RanOne it (Listed meta uris)) where
       abbrev gid : Gid
       gid = one.download.gid
 
@@ -122,18 +123,26 @@ module _ {D O L K : Type 0} {says : DiskSays D} {sinks : SinkSays O} {links : Li
       download_is : listed.download ≡ one.download
       download_is = let both : Some listed.download ≡ Some one.download = sym listed.added ∙ one.there in cc
 
-      tries_are : number_value (own_options named) MaxTries ≡ tries_in listed.download
-      tries_are =
-          ap (λ (l : CommandLine). number_value (own_options l) MaxTries) line_is
-          ∙ sym (ap tries_in download_is ∙ ap (λ (o : OptionValues). number_value o MaxTries) one.options)
+      options_are : listed.download.options ≡ own_options named
+      options_are = ap (λ (d : Download). d.options) download_is ∙ (one.options ∙ ap own_options (sym line_is))
 
-      serves : (piece : ℕ) → piece < pieces_of meta.plan.total meta.plan.piece_len
+      subject_is : listed.download.subject ≡ Listed meta uris
+      subject_is = ap (λ (d : Download). d.subject) download_is ∙ one.subject_is
+
+      -- a wanted piece is one that the options choose
+      chosen : (piece : ℕ) → slice_index_or (wanted_pieces listed.download (lengths_of_meta meta)) piece false ≡ true
+          → IsChosenPiece meta (own_options named) piece
+      chosen piece wanted =
+          subst (λ (o : OptionValues). IsChosenPiece meta o piece) options_are
+          (wanted_chosen listed.download meta uris subject_is piece wanted)
+
+      serves : (piece : ℕ) → slice_index_or (wanted_pieces listed.download (lengths_of_meta meta)) piece false ≡ true
           → IsServedPiece (links.state old.0).content listed.download.subject (tries_in listed.download) meta piece
-      serves piece low =
+      serves piece wanted =
           subst (λ (s : Subject). IsServedPiece (links.state old.0).content s (tries_in listed.download) meta piece)
-          (sym (ap (λ (d : Download). d.subject) download_is ∙ one.subject_is))
-          (subst (λ (n : ℕ). IsServedPiece (links.state old.0).content (Listed meta uris) n meta piece) tries_are
-          (is.serve 0 old refl piece low))
+          (sym subject_is)
+          (subst (λ (o : OptionValues). IsServedPiece (links.state old.0).content (Listed meta uris)
+          (number_value o MaxTries) meta piece) (sym options_are) (is.serve 0 old refl piece (chosen piece wanted)))
 
       lacks : LacksControlFirst told (says.state ended.disk) want
       lacks =
@@ -154,19 +163,16 @@ module _ {D O L K : Type 0} {says : DiskSays D} {sinks : SinkSays O} {links : Li
       ends = ends_here says sinks laws.disk words gids doors disk out ended out' ran gid
           (laws.complete links.tells start told ended.disk gid meta want (link_at links old.0) link_tells listed_run
           (worked_over run asked_call.its asked_call.is) serves
-          (no_failed_link it (laws.shows words gids doors disk (old ∷ []) out ended (new ∷ []) out' (inr it)) is.well
+          (no_failed_link it (laws.shows true words gids doors disk (old ∷ []) out ended (new ∷ []) out' (inr it)) is.well
           gid)
           one.only lacks)
 
-      done : IsDone ended ⊎ (ended.ending ≡ NoMemory)
-      done = comes {links = links} {olds = old ∷ []} {news = new ∷ []} ran laws.shown is.well (Listed meta uris)
-          laws.done one ends.0 ends.1
+      done : IsDone ended ⊎ (ended.ending ≡ NoMemory) ⊎ EndsCutShort true links (old ∷ []) ended (new ∷ [])
+      done = comes it laws.shown is.well (Listed meta uris) laws.done one ends.0 ends.1
 
-    completes_here : IsDone ended ⊎ (ended.ending ≡ NoMemory) ⊎ WasCutShort D links (old ∷ []) (new ∷ [])
-    completes_here = ⊎_elim
-        (λ (one : RanOne ran (Listed meta uris)). ⊎_elim (λ (well : IsDone ended). inl well)
-        (λ (starved : ended.ending ≡ NoMemory). inr (inl starved)) (done one))
-        (λ more. inr more)
+    completes_here : IsDone ended ⊎ (ended.ending ≡ NoMemory) ⊎ EndsCutShort true links (old ∷ []) ended (new ∷ [])
+    completes_here = ⊎_elim (λ (one : RanOne it (Listed meta uris)). done one)
+        (λ (starved : ended.ending ≡ NoMemory). inr (inl starved))
         (ran_one laws.append laws.stay it asked_call.its asked_call.is (Listed meta uris) asked_call.adds usual
         (omega arith))
 
