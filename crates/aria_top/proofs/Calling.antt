@@ -1,5 +1,5 @@
 -- The calls in the history of a run are the line's own and those of the sessions of its doors.
-use Rattle.std.proofs.Common.{◌≡◌, ◌⊎◌, inl, inr, ⊎_elim, ℕ, zero, suc, Bool, true, false, List, [], ◌∷◌, ◌++◌, Option, None, Some, length, refl, sym, ap, ◌∙◌, subst, append-nil, arith, cond, slice_get}
+use Rattle.std.proofs.Common.{◌≡◌, ◌⊎◌, inl, inr, ⊎_elim, ℕ, zero, suc, Bool, true, false, List, [], ◌∷◌, ◌++◌, Option, None, Some, Ok, length, refl, sym, ap, ◌∙◌, subst, append-nil, arith, cond, slice_get}
 use Rattle.std.specs.Prelude.{◌+◌, ◌-◌, ◌≤◌, ◌<◌, Contains, reverse}
 use Rattle.std.proofs.Math.Dec.{ltb}
 use Rattle.std.proofs.lemmas.Bool.{eqb-true, false≢true, ltb-false, ltb-true}
@@ -15,6 +15,7 @@ use Rattle.console_session.specs.SessionLaws.{CallsStandWhereReplied, call_place
 use Rattle.console_session.specs.declared.serving.Transcript.{Transcript}
 use Rattle.desk_seats.specs.Uses.{Use}
 use Rattle.desk_seats.proofs.Seating.{get_at}
+use Rattle.dl_clock.specs.declared.clock.Clock.{Ghosts as ClockSays}
 use Rattle.dl_disk.specs.declared.disk.Disk.{Ghosts as DiskSays}
 use Rattle.dl_kinds.specs.declared.outside.Sink.{Ghosts as SinkSays}
 use Rattle.door_source.specs.declared.Doors.{Ghosts as DoorSays}
@@ -69,11 +70,12 @@ before_session : (session worker : ℕ) (call : Option Call) (own : List RunTurn
 before_session session zero call own short is t there calls = own_session session call own short is t there calls
 before_session session (suc worker) call own short is t there calls = none_there t there
 
-module _ {D L A K O : Type 0} {says : DiskSays D} {links : LinkSays L} {doors : DoorSays A} {sinks : SinkSays O}
+module _ {D L A K O : Type 0} {says : DiskSays D} {links : LinkSays L} {clocks : ClockSays K} {doors : DoorSays A}
+    {sinks : SinkSays O}
     {words : List (List ℕ)} {gids : ℕ} {disk : D} {olds : Edges L A K} {out : O} {ended : Ended D} {news : Edges L A K}
     {transcripts : List Transcript} {out' : O} where
   module _ (stand : CallsStandWhereReplied)
-      (ran : RanTogether says links doors sinks words gids disk olds out ended news transcripts out') where
+      (ran : RanTogether says links clocks doors sinks words gids disk olds out ended news transcripts out') where
     abbrev turns : List RunTurn
     turns = ran.goes_on.goes.works.turns
 
@@ -87,8 +89,8 @@ module _ {D L A K O : Type 0} {says : DiskSays D} {links : LinkSays L} {doors : 
     items = ended.journal.events.items
 
     abbrev Together : Type 0
-    Together = WorkedTogether D links doors ran.begun.console ran.begun.desk.own (used_edges ran.begun.console.is_on olds)
-        ran.goes_on.used transcripts turns ran.goes_on.goes.works.work_short
+    Together = WorkedTogether D links clocks doors ran.begun.console ran.begun.desk.own
+        (used_edges ran.begun.console.is_on olds) ran.goes_on.used transcripts turns ran.goes_on.goes.works.work_short
 
     abbrev Nobody : Type 0
     Nobody = NobodyWorked ran.begun.desk.own (used_edges ran.begun.console.is_on olds) ran.goes_on.used transcripts turns
@@ -139,18 +141,19 @@ module _ {D L A K O : Type 0} {says : DiskSays D} {links : LinkSays L} {doors : 
       by_link : (session : ℕ) (t : RunTurn) → Contains turns t → calls_by session t.op ≡ true → t.pass < length worked.uses
           → session ≡ 0
       by_link session t there calls low =
-          let its = get_at worked.uses t.pass low in
-          let used = worked.each t.pass its.0 its.1 in
+          let here = get_at worked.uses t.pass low in
+          let used = worked.each t.pass here.0 here.1 in
+          let its = used.by_clock.its in
           ⊎_elim (λ (before : Contains (own_before t.pass ran.begun.desk.own) t).
           before_session session t.pass ran.begins.call ran.begun.desk.own ran.begun.is_short ran.begins.own t before calls)
-          (λ (mine : Contains (used.its.worked ++ used.its.stop) t). ⊎_elim
-          (λ (is : Contains used.its.worked t). work_calls_not session t.op
-          (worked_work links t.pass used.from its.0.old.0 used.to its.0.new.0 used.came used.its t is) calls)
-          (λ (stopped : Contains used.its.stop t). op_calls_not session t.op
-          (operation.Stop (record { 0 = used.its.b.moment }))
-          (is_stopping used.came used.its.b.moment used.its.stop t used.its.stops stopped) refl calls)
-          (Contains-append_cases used.its.worked used.its.stop t mine))
-          (Contains-append_cases (own_before t.pass ran.begun.desk.own) (used.its.worked ++ used.its.stop) t
+          (λ (mine : Contains (its.worked ++ its.stop) t). ⊎_elim
+          (λ (is : Contains its.worked t). work_calls_not session t.op
+          (worked_work links t.pass used.from here.0.old.0 used.to here.0.new.0 (Ok used.came) its t is) calls)
+          (λ (stopped : Contains its.stop t). op_calls_not session t.op
+          (operation.Stop (record { 0 = its.b.moment }))
+          (is_stopping (Ok used.came) its.b.moment its.stop t its.stops stopped) refl calls)
+          (Contains-append_cases its.worked its.stop t mine))
+          (Contains-append_cases (own_before t.pass ran.begun.desk.own) (its.worked ++ its.stop) t
           (subst (λ (ts : List RunTurn). Contains ts t) used.own (by_pass t.pass turns t there refl)))
 
       by_door : (session : ℕ) (t : RunTurn) → Contains turns t → calls_by session t.op ≡ true → length worked.uses ≤ t.pass

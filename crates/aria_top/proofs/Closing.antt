@@ -7,6 +7,7 @@ use Rattle.desk_seats.specs.Seats.{edge_of, participants_from}
 use Rattle.desk_seats.specs.Uses.{AllTookPart, Use, UsedInTurns, UsedWithPass}
 use Rattle.desk_seats.proofs.Seating.{get_at}
 use Rattle.desk_seats.proofs.Uses.{came_in, get_left, get_right, map_length, pass_in, some_at, used_in_turns}
+use Rattle.dl_clock.specs.declared.clock.Clock.{Ghosts as ClockSays}
 use Rattle.door_source.specs.declared.Doors.{Ghosts as DoorSays}
 use Rattle.engine_core.specs.Beginnings.{ties_run}
 use Rattle.engine_core.specs.EngineViews.{EngineStart}
@@ -25,17 +26,19 @@ had_before : {D : Type 0} (solo : RunSight D) (desk : RunDesk D) (worker : ℕ) 
 had_before solo desk zero pass new = new.first (omega arith)
 had_before solo desk (suc worker) pass new = new.others (omega arith)
 
-module _ {D L K : Type 0} (links : LinkSays L) (solo : RunSight D) (desk : RunDesk D) (turns : List RunTurn) where
-  link_used : (worker : ℕ) (used : Use L K Bool) → UsedWithPass (WorksAt {K = K} links) solo desk turns 0 worker used
-      → UsesLink D links solo.own turns worker used
+module _ {D L K : Type 0} (links : LinkSays L) (clocks : ClockSays K) (solo : RunSight D) (desk : RunDesk D)
+    (turns : List RunTurn) where
+  link_used : (worker : ℕ) (used : Use L K Bool) → UsedWithPass (WorksAt links clocks) solo desk turns 0 worker used
+      → UsesLink D links clocks solo.own turns worker used
   link_used worker used is =
       let none : 0 + worker ≡ worker = omega arith in
-      let went = is.did.worked.went in
-      let mine = is.did.worked.worked ++ is.did.worked.stop in record {
+      let its = is.did.worked.its in
+      let went = its.went in
+      let mine = its.worked ++ its.stop in record {
         from = _;
         to = _;
         came = is.did.came;
-        its = is.did.worked;
+        by_clock = is.did.worked;
         own = ap (λ (n : ℕ). turns_by n turns) (sym none)
             ∙ (is.own
             ∙ (went.own ∙ ap (λ (ts : List RunTurn). ts ++ mine) (had_before solo desk worker is.from is.new)));
@@ -56,14 +59,14 @@ module _ {D A K : Type 0} (doors : DoorSays A) (console : ConsoleTerms) (solo : 
         own = is.own ∙ (is.did.went.own ∙ ap (λ (ts : List RunTurn). ts ++ mine) none);
       }
 
-module _ {D L A K : Type 0} {links : LinkSays L} {doors : DoorSays A} (console : ConsoleTerms) (solo : RunSight D)
-    (desk : RunDesk D) (olds news : Edges L A K) (transcripts : List Transcript) (shorts : List Bool)
+module _ {D L A K : Type 0} {links : LinkSays L} {clocks : ClockSays K} {doors : DoorSays A} (console : ConsoleTerms)
+    (solo : RunSight D) (desk : RunDesk D) (olds news : Edges L A K) (transcripts : List Transcript) (shorts : List Bool)
     (wp kp passes' : List (RunPass D)) (ws' : List (Worker D L K)) (ks' : List (DoorKeeper D A K)) (turns : List RunTurn)
     (w_same : length wp ≡ length olds.links) (k_same : length kp ≡ length olds.doors)
     (w_new : (place : ℕ) (pass : RunPass D) → slice_get wp place ≡ Some pass → IsNewPass solo desk (0 + place) pass)
     (k_new : (place : ℕ) (pass : RunPass D) → slice_get kp place ≡ Some pass
     → IsNewPass solo desk (length olds.links + place) pass)
-    (w_took : AllTookPart desk (WorksAt links) (participants_from 0 wp olds.links) ws')
+    (w_took : AllTookPart desk (WorksAt links clocks) (participants_from 0 wp olds.links) ws')
     (k_took : AllTookPart desk (ServesAt doors console) (participants_from 0 kp olds.doors) ks')
     (w_edges : map edge_of ws' ≡ news.links) (w_came : map came_in ws' ≡ map Some shorts)
     (k_edges : map edge_of ks' ≡ news.doors) (k_came : map came_in ks' ≡ map Some transcripts)
@@ -71,9 +74,9 @@ module _ {D L A K : Type 0} {links : LinkSays L} {doors : DoorSays A} (console :
     (passes_are : map Some passes' ≡ map pass_in ws' ++ map pass_in ks')
     (count : desk.passes ≡ length olds.links + length olds.doors)
     (closed : IsClosed ties_run desk passes' turns) where
-  by_links : UsedInTurns (WorksAt links) solo desk turns 0 olds.links news.links shorts
-  by_links = used_in_turns desk (WorksAt links) ties_run solo 0 wp olds.links news.links ws' shorts turns passes'
-      (λ n s s' e e' y did. did.worked.went.number) w_same w_new w_took w_edges w_came
+  by_links : UsedInTurns (WorksAt links clocks) solo desk turns 0 olds.links news.links shorts
+  by_links = used_in_turns desk (WorksAt links clocks) ties_run solo 0 wp olds.links news.links ws' shorts turns passes'
+      (λ n s s' e e' y did. did.worked.its.went.number) w_same w_new w_took w_edges w_came
       (λ place pass is.
       let none : 0 + place ≡ place = omega arith in
       ap (slice_get passes') none
@@ -91,8 +94,8 @@ module _ {D L A K : Type 0} {links : LinkSays L} {doors : DoorSays A} (console :
       ∙ (get_right (map pass_in ws') (map pass_in ks') place ∙ is))) closed
 
   each_link : (worker : ℕ) (one : Use L K Bool) → slice_get by_links.uses worker ≡ Some one
-      → UsesLink D links solo.own turns worker one
-  each_link worker one there = link_used links solo desk turns worker one (by_links.each worker one there)
+      → UsesLink D links clocks solo.own turns worker one
+  each_link worker one there = link_used links clocks solo desk turns worker one (by_links.each worker one there)
 
   -- the line's own call is the first of all
   call_first : 1 ≤ length olds.links → RankZeroIsFirst {T = EngineStart D} ties_run → ComesFirst solo.own
@@ -102,14 +105,14 @@ module _ {D L A K : Type 0} {links : LinkSays L} {doors : DoorSays A} (console :
       let many = by_links.many in
       let first = get_at by_links.uses 0 (omega (arith, some, many)) in
       let own = each_link 0 first.0 first.1 in
-      let behind = own.its.worked ++ own.its.stop in
+      let behind = own.by_clock.its.worked ++ own.by_clock.its.stop in
       let cut = zero_first desk.given turns 0 one.0 behind closed.whole
       (own.own ∙ ap (λ (ts : List RunTurn). ts ++ behind) one.1) one.2 in
       (cut.0, cut.1 ∙ ap (λ (ts : List RunTurn). ts ++ cut.0) (sym one.1))
 
   pub worked_together : (short : Bool) → short ≡ list_any (λ (its : Bool). its) shorts → 1 ≤ length olds.links
       → RankZeroIsFirst {T = EngineStart D} ties_run → ComesFirst solo.own
-      → WorkedTogether D links doors console solo.own olds news transcripts turns short
+      → WorkedTogether D links clocks doors console solo.own olds news transcripts turns short
   worked_together short short_is some zero_first first =
       let many = by_links.many in
       let many_doors = by_doors.many in

@@ -9,6 +9,7 @@ use Rattle.console_session.specs.SessionLaws.{CallsStandWhereReplied, RepliesAre
 use Rattle.console_session.specs.declared.serving.Transcript.{Transcript}
 use Rattle.desk_seats.specs.Uses.{Use}
 use Rattle.desk_seats.proofs.Uses.{map_length}
+use Rattle.dl_clock.specs.declared.clock.Clock.{Ghosts as ClockSays}
 use Rattle.dl_disk.specs.declared.disk.Disk.{Ghosts as DiskSays}
 use Rattle.dl_kinds.specs.declared.outside.Sink.{Ghosts as SinkSays}
 use Rattle.dl_kinds.specs.declared.runs.Moment.{Moment}
@@ -113,11 +114,12 @@ reply_at session (t ∷ ts) kinds place there =
     by operation.Pulse op_is is within rest = later_reply session t ts place (rest within)
     by other op_is is within rest = absurd is
 
-module _ {D L A K O : Type 0} {says : DiskSays D} {links : LinkSays L} {doors : DoorSays A} {sinks : SinkSays O}
+module _ {D L A K O : Type 0} {says : DiskSays D} {links : LinkSays L} {clocks : ClockSays K} {doors : DoorSays A}
+    {sinks : SinkSays O}
     {words : List (List ℕ)} {gids : ℕ} {disk : D} {olds : Edges L A K} {out : O} {ended : Ended D} {news : Edges L A K}
     {transcripts : List Transcript} {out' : O} where
   module _ (append : TurnsAppend) (replies : RepliesAreOfTheHistory) (stand : CallsStandWhereReplied)
-      (ran : RanTogether says links doors sinks words gids disk olds out ended news transcripts out') where
+      (ran : RanTogether says links clocks doors sinks words gids disk olds out ended news transcripts out') where
     abbrev on : Bool
     on = ran.begun.console.is_on
 
@@ -128,8 +130,8 @@ module _ {D L A K O : Type 0} {says : DiskSays D} {links : LinkSays L} {doors : 
     all = all_turns says (framed ran).stops
 
     abbrev Together : Type 0
-    Together = WorkedTogether D links doors ran.begun.console ran.begun.desk.own (used_edges on olds) ran.goes_on.used
-        transcripts turns ran.goes_on.goes.works.work_short
+    Together = WorkedTogether D links clocks doors ran.begun.console ran.begun.desk.own (used_edges on olds)
+        ran.goes_on.used transcripts turns ran.goes_on.goes.works.work_short
 
     abbrev Nobody : Type 0
     Nobody = NobodyWorked ran.begun.desk.own (used_edges on olds) ran.goes_on.used transcripts turns
@@ -252,7 +254,7 @@ module _ {D L A K O : Type 0} {says : DiskSays D} {links : LinkSays L} {doors : 
     by_work false off worked = inl (by_off off worked)
 
   pub shows_doors : TurnsAppend → RepliesAreOfTheHistory → CallsStandWhereReplied
-      → RunsTogether says links doors sinks words gids disk olds out ended news transcripts out'
+      → RunsTogether says links clocks doors sinks words gids disk olds out ended news transcripts out'
       → ShowsDoors doors words gids olds ended news transcripts
   shows_doors append replies stand (inl never) = inl (record {
     same = ap (λ (e : Edges L A K). e.doors) never.1;

@@ -5,6 +5,7 @@ use Rattle.std.proofs.lemmas.Bool.{false≢true}
 use Rattle.std.proofs.lemmas.List.{append-nil}
 use Rattle.conn_worker.specs.Works.{RunSight}
 use Rattle.console_session.specs.declared.serving.Transcript.{Transcript}
+use Rattle.dl_clock.specs.declared.clock.Clock.{Ghosts as ClockSays}
 use Rattle.dl_disk.specs.declared.disk.Disk.{Ghosts as DiskSays}
 use Rattle.dl_kinds.specs.declared.outside.Sink.{Ghosts as SinkSays}
 use Rattle.door_source.specs.declared.Doors.{Ghosts as DoorSays}
@@ -32,15 +33,17 @@ second_false false b is = is
 second_false true b is = absurd (false≢true (sym is))
 
 -- the turns begin with the line's own call
-pub starts_with : {D L A K : Type 0} {links : LinkSays L} {doors : DoorSays A} {console : ConsoleTerms}
+pub starts_with : {D L A K : Type 0} {links : LinkSays L} {clocks : ClockSays K} {doors : DoorSays A}
+    {console : ConsoleTerms}
     (call : List RunTurn) (olds news : Edges L A K) (transcripts : List Transcript) (turns : List RunTurn) (short : Bool)
-    → EdgesUsed D links doors console call olds news transcripts turns short → StartsWith turns call
+    → EdgesUsed D links clocks doors console call olds news transcripts turns short → StartsWith turns call
 starts_with call olds news transcripts turns short (inl worked) = worked.first
 starts_with call olds news transcripts turns short (inr nobody) = ([], nobody.none ∙ sym (append-nil call))
 
-module _ {D L A K : Type 0} {says : DiskSays D} {links : LinkSays L} {doors : DoorSays A} {console : ConsoleTerms}
+module _ {D L A K : Type 0} {says : DiskSays D} {links : LinkSays L} {clocks : ClockSays K} {doors : DoorSays A}
+    {console : ConsoleTerms}
     {s : RunSight D} {olds news : Edges L A K} {transcripts : List Transcript} {v : EngineView D} {short : Bool}
-    (works : WorksAndStops says links doors console s olds news transcripts v short) where
+    (works : WorksAndStops says links clocks doors console s olds news transcripts v short) where
   pub cut : StartsWith works.turns s.own
   cut = starts_with s.own olds news transcripts works.turns works.work_short works.worked
 
@@ -53,10 +56,11 @@ module _ {D L A K : Type 0} {says : DiskSays D} {links : LinkSays L} {doors : Do
     after = subst (λ (ts : List RunTurn). IsAfter says s.given (ts ++ works.last ∷ []) v) cut.1 works.after;
   }
 
-module _ {D L A K O : Type 0} {says : DiskSays D} {links : LinkSays L} {doors : DoorSays A} {sinks : SinkSays O}
+module _ {D L A K O : Type 0} {says : DiskSays D} {links : LinkSays L} {clocks : ClockSays K} {doors : DoorSays A}
+    {sinks : SinkSays O}
     {words : List (List ℕ)} {gids : ℕ} {disk : D} {olds : Edges L A K} {out : O} {ended : Ended D} {news : Edges L A K}
     {transcripts : List Transcript} {out' : O} where
-  abbrev pub framed : RanTogether says links doors sinks words gids disk olds out ended news transcripts out'
+  abbrev pub framed : RanTogether says links clocks doors sinks words gids disk olds out ended news transcripts out'
       → Ran says sinks words gids (length olds.doors) disk out ended out'
   framed ran = record {
     begun = ran.begun;
@@ -67,7 +71,7 @@ module _ {D L A K O : Type 0} {says : DiskSays D} {links : LinkSays L} {doors : 
     finishes = ran.goes_on.goes.finishes;
   }
 
-  pub whole : RunsTogether says links doors sinks words gids disk olds out ended news transcripts out'
+  pub whole : RunsTogether says links clocks doors sinks words gids disk olds out ended news transcripts out'
       → IsWholeRun says sinks words gids (length olds.doors) disk out ended out'
   whole (inl never) = inl never.0
   whole (inr ran) = inr (framed ran)

@@ -6,6 +6,7 @@ use Rattle.console_session.specs.declared.serving.Transcript.{Transcript}
 use Rattle.desk_seats.specs.Seats.{last_for, participants_from, rest_for}
 use Rattle.desk_seats.specs.Uses.{AllTookPart}
 use Rattle.desk_seats.proofs.Uses.{from_length, get_drop, get_take, map_length, pass_in}
+use Rattle.dl_clock.specs.declared.clock.Clock.{Ghosts as ClockSays}
 use Rattle.door_source.specs.declared.Doors.{Ghosts as DoorSays}
 use Rattle.link_source.specs.declared.Links.{Ghosts as LinkSays}
 use Rattle.turn_desk.specs.Passes.{IsNewPass}
@@ -69,10 +70,10 @@ module _ {D L A K : Type 0} (solo : RunSight D) (shared : Shared D L A K) (links
 
   -- ---- behind the work
 
-  module _ {links_say : LinkSays L} {doors_say : DoorSays A} (console : ConsoleTerms) (workers ws' : List (Worker D L K))
-      (keepers ks' : List (DoorKeeper D A K)) (w_seated : workers ≡ participants_from 0 (last_for links front) links)
+  module _ {links_say : LinkSays L} {clocks_say : ClockSays K} {doors_say : DoorSays A} (console : ConsoleTerms)
+      (workers ws' : List (Worker D L K)) (keepers ks' : List (DoorKeeper D A K)) (w_seated : workers ≡ participants_from 0 (last_for links front) links)
       (k_seated : keepers ≡ participants_from 0 (last_for doors passes) doors)
-      (worked : AllTookPart shared.desk (WorksAt links_say) workers ws')
+      (worked : AllTookPart shared.desk (WorksAt links_say clocks_say) workers ws')
       (served : AllTookPart shared.desk (ServesAt doors_say console) keepers ks') where
     pub many_workers : length ws' ≡ length links
     many_workers = worked.many ∙ (ap length w_seated ∙ from_length Bool 0 (last_for links front) links for_links)

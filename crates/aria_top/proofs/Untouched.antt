@@ -10,6 +10,7 @@ use Rattle.console_session.specs.declared.serving.Transcript.{Transcript}
 use Rattle.desk_seats.specs.Uses.{Use}
 use Rattle.desk_seats.proofs.Seating.{get_at, index_at}
 use Rattle.desk_seats.proofs.Uses.{map_get, map_length, same_some}
+use Rattle.dl_clock.specs.declared.clock.Clock.{Ghosts as ClockSays}
 use Rattle.dl_disk.specs.declared.disk.Disk.{Ghosts as DiskSays}
 use Rattle.dl_kinds.specs.declared.outside.Sink.{Ghosts as SinkSays}
 use Rattle.door_source.specs.declared.Doors.{Ghosts as DoorSays}
@@ -17,7 +18,7 @@ use Rattle.engine_turns.specs.Told.{RunTurn}
 use Rattle.link_source.specs.declared.Links.{Ghosts as LinkSays}
 use Rattle.machine_core.specs.declared.events.Event.{Event}
 use Rattle.machine_core.specs.declared.events.Event.TheVariants.{Stopped}
-use Rattle.std.proofs.Common.{Result}
+use Rattle.std.proofs.Common.{Ok, Result}
 use Rattle.run_frame.specs.Finishes.{Ran}
 use Rattle.run_frame.specs.Untouched.{OnlyReads}
 use Rattle.run_frame.specs.declared.console.ConsoleTerms.{ConsoleTerms}
@@ -59,9 +60,9 @@ module _ {L K : Type 0} (links : LinkSays L) where
       subst (λ (l : L × K). IsLaterLink links.tells (link_at links old.0) (link_at links l.0)) one
       (stays links.tells (link_at links old.0))
 
-  module _ {A : Type 0} (doors : DoorSays A) (D : Type 0) (console : ConsoleTerms) (call : List RunTurn) (olds news : Edges L A K)
-      (transcripts : List Transcript) (turns : List RunTurn) (short : Bool)
-      (worked : WorkedTogether D links doors console call olds news transcripts turns short) where
+  module _ {A : Type 0} (clocks : ClockSays K) (doors : DoorSays A) (D : Type 0) (console : ConsoleTerms)
+      (call : List RunTurn) (olds news : Edges L A K) (transcripts : List Transcript) (turns : List RunTurn) (short : Bool)
+      (worked : WorkedTogether D links clocks doors console call olds news transcripts turns short) where
     used_go_on : LinksGoOn → GoOn olds.links news.links
     used_go_on go_on place old new old_is new_is =
         let are = worked.used in
@@ -78,7 +79,7 @@ module _ {L K : Type 0} (links : LinkSays L) where
         ∙ (ap (λ (ls : List (L × K)). slice_get ls place) (sym are.news_are) ∙ new_is)) in
         subst (λ (l : L × K). IsLaterLink links.tells (link_at links l.0) (link_at links new.0)) old_same
         (subst (λ (l : L × K). IsLaterLink links.tells (link_at links u.old.0) (link_at links l.0)) new_same
-        (worker_goes_on place used.from used.to u.old.0 u.new.0 used.came go_on used.its))
+        (worker_goes_on place used.from used.to u.old.0 u.new.0 (Ok used.came) go_on used.by_clock.its))
 
     used_many : length news.links ≡ length olds.links
     used_many =
@@ -87,10 +88,11 @@ module _ {L K : Type 0} (links : LinkSays L) where
         ∙ (map_length (λ (u : Use L K Bool). u.new) worked.uses
         ∙ sym (ap length are.olds_are ∙ map_length (λ (u : Use L K Bool). u.old) worked.uses))
 
-module _ {D L A K O : Type 0} {says : DiskSays D} {links : LinkSays L} {doors : DoorSays A} {sinks : SinkSays O}
+module _ {D L A K O : Type 0} {says : DiskSays D} {links : LinkSays L} {clocks : ClockSays K} {doors : DoorSays A}
+    {sinks : SinkSays O}
     {words : List (List ℕ)} {gids : ℕ} {disk : D} {olds : Edges L A K} {out : O} {ended : Ended D} {news : Edges L A K}
     {transcripts : List Transcript} {out' : O} where
-  module _ (ran : RanTogether says links doors sinks words gids disk olds out ended news transcripts out') where
+  module _ (ran : RanTogether says links clocks doors sinks words gids disk olds out ended news transcripts out') where
     abbrev before : Edges L A K
     before = used_edges ran.begun.console.is_on olds
 
@@ -106,13 +108,13 @@ module _ {D L A K O : Type 0} {says : DiskSays D} {links : LinkSays L} {doors : 
 
     ran_many : length used.links ≡ length olds.links
     ran_many = ⊎_elim
-        (λ worked. used_many links doors D ran.begun.console ran.begun.desk.own before used transcripts
+        (λ worked. used_many links clocks doors D ran.begun.console ran.begun.desk.own before used transcripts
         ran.goes_on.goes.works.turns ran.goes_on.goes.works.work_short worked)
         (λ (nobody : Nobody). ap (λ (e : Edges L A K). length e.links) nobody.same) ran.goes_on.goes.works.worked
 
     ran_go_on : LinksGoOn → GoOn links olds.links used.links
     ran_go_on go_on = ⊎_elim
-        (λ worked. used_go_on links doors D ran.begun.console ran.begun.desk.own before used transcripts
+        (λ worked. used_go_on links clocks doors D ran.begun.console ran.begun.desk.own before used transcripts
         ran.goes_on.goes.works.turns ran.goes_on.goes.works.work_short worked go_on)
         (λ (nobody : Nobody).
         same_go_on links olds.links used.links (ap (λ (e : Edges L A K). e.links) nobody.same))
@@ -120,7 +122,7 @@ module _ {D L A K O : Type 0} {says : DiskSays D} {links : LinkSays L} {doors : 
 
   pub leaves_links : ((ran : Ran says sinks words gids (length olds.doors) disk out ended out')
       → Contains ended.journal.events.items Stopped) → LinksGoOn → OnlyReads says disk ended
-      → RunsTogether says links doors sinks words gids disk olds out ended news transcripts out'
+      → RunsTogether says links clocks doors sinks words gids disk olds out ended news transcripts out'
       → LeavesLinks says links disk olds.links ended news.links
   leaves_links stopped go_on reads (inl never) =
       let same = ap (λ (e : Edges L A K). e.links) never.1 in record {

@@ -1,11 +1,11 @@
 -- Who takes part in the desk of a run, and what each does there.
-use Rattle.std.specs.Prelude.{◌≡◌, ◌+◌, ℕ, Bool, Result}
-use Rattle.conn_worker.specs.Works.{RunSight, Worked}
-use Rattle.conn_worker.specs.declared.ends.Spent.{Spent}
+use Rattle.std.specs.Prelude.{◌≡◌, ◌+◌, ℕ, Bool, Ok}
+use Rattle.conn_worker.specs.Works.{RunSight, WorkedByClock}
 use Rattle.conn_worker.specs.declared.ends.WorkEnd.{WorkEnd}
 use Rattle.console_session.specs.DoorSessions.{ServesDoor}
 use Rattle.console_session.specs.declared.serving.Transcript.{Transcript}
 use Rattle.desk_seats.specs.declared.participants.Participant.{Participant}
+use Rattle.dl_clock.specs.declared.clock.Clock.{Ghosts as ClockSays}
 use Rattle.door_source.specs.declared.Doors.{Ghosts as DoorSays}
 use Rattle.engine_core.specs.EngineViews.{EngineStart}
 use Rattle.engine_turns.specs.declared.operations.Answer.{Answer}
@@ -37,12 +37,13 @@ abbrev pub session_of : ℕ → ℕ
 session_of door = door + 1
 
 module _ {D K : Type 0} where
-  -- The worker of this number worked over its link, and it was seen whether memory was wanting.
-  pub record WorksAt {L : Type 0} (links : LinkSays L) (worker : ℕ) (from : RunSight D) (old : L × K) (to : RunSight D)
-      (new : L × K) (short : Bool) : Type 0 where
-    pub came : Result WorkEnd Spent
-    pub worked : Worked links worker from old.0 to new.0 came
-    pub short_is : short ≡ ends_short came
+  -- The worker of this number worked over its link, by its clock, until a turn ended its work. It was seen whether
+  -- memory was wanting.
+  pub record WorksAt {L : Type 0} (links : LinkSays L) (clocks : ClockSays K) (worker : ℕ) (from : RunSight D)
+      (old : L × K) (to : RunSight D) (new : L × K) (short : Bool) : Type 0 where
+    pub came : WorkEnd
+    pub worked : WorkedByClock links clocks worker from old to new (Ok came)
+    pub short_is : short ≡ ends_short (Ok came)
 
   -- the session of the door served it, as the console asks
   abbrev pub ServesAt : {A : Type 0} → DoorSays A → ConsoleTerms → ℕ → RunSight D → A × K → RunSight D → A × K

@@ -1,6 +1,7 @@
 -- What a run over all of its links and doors did, from the words to the summary.
 use Rattle.std.specs.Prelude.{◌≡◌, ◌⊎◌, ◌||◌, ℕ, if◌then◌else◌, Bool, List, [], length}
 use Rattle.console_session.specs.declared.serving.Transcript.{Transcript}
+use Rattle.dl_clock.specs.declared.clock.Clock.{Ghosts as ClockSays}
 use Rattle.dl_disk.specs.declared.disk.Disk.{Ghosts as DiskSays}
 use Rattle.dl_kinds.specs.declared.outside.Sink.{Ghosts as SinkSays}
 use Rattle.door_source.specs.declared.Doors.{Ghosts as DoorSays}
@@ -33,14 +34,15 @@ module _ {L A K : Type 0} where
   abbrev pub with_unused : Bool → (olds used : Edges L A K) → Edges L A K
   with_unused on olds used = record { links = used.links; doors = if on then used.doors else olds.doors }
 
-module _ {D L A K O : Type 0} (says : DiskSays D) (links : LinkSays L) (doors : DoorSays A) (sinks : SinkSays O) where
+module _ {D L A K O : Type 0} (says : DiskSays D) (links : LinkSays L) (clocks : ClockSays K) (doors : DoorSays A)
+    (sinks : SinkSays O) where
   -- From the command line's own call on its workers worked, each over its link, and its doors were served; it was stopped
   -- and ended.
   pub record GoesTogether (begun : Begun D) (olds : Edges L A K) (out : O) (ended : Ended D) (news : Edges L A K)
       (transcripts : List Transcript) (out' : O) : Type 0 where
     pub engine : EngineView D
     pub work_short : Bool
-    pub works : WorksAndStops says links doors begun.console begun.desk olds news transcripts engine work_short
+    pub works : WorksAndStops says links clocks doors begun.console begun.desk olds news transcripts engine work_short
     pub finishes : Finishes sinks engine (begun.is_short || work_short) out ended out'
 
   -- .. with its doors, where the console is on; otherwise each door is as it was

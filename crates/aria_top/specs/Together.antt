@@ -1,13 +1,13 @@
 -- What the workers of a run and the sessions of its doors did together, and its last turn.
-use Rattle.std.specs.Prelude.{◌≡◌, ◌⊎◌, ◌+◌, ◌++◌, ◌||◌, ℕ, zero, suc, Bool, true, List, [], ◌∷◌, Result, Some, length, slice_get}
+use Rattle.std.specs.Prelude.{◌≡◌, ◌⊎◌, ◌+◌, ◌++◌, ◌||◌, ℕ, zero, suc, Bool, true, List, [], ◌∷◌, Ok, Some, length, slice_get}
 use Rattle.std.specs.List.{All, list_any}
-use Rattle.conn_worker.specs.Works.{RunSight, Worked}
-use Rattle.conn_worker.specs.declared.ends.Spent.{Spent}
+use Rattle.conn_worker.specs.Works.{RunSight, WorkedByClock}
 use Rattle.conn_worker.specs.declared.ends.WorkEnd.{WorkEnd}
 use Rattle.console_session.specs.DoorSessions.{ServesDoor}
 use Rattle.console_session.specs.declared.serving.Transcript.{Transcript}
 use Rattle.desk_seats.specs.Seats.{HasSeatsFor}
 use Rattle.desk_seats.specs.Uses.{AreUsed, Use}
+use Rattle.dl_clock.specs.declared.clock.Clock.{Ghosts as ClockSays}
 use Rattle.dl_disk.specs.declared.disk.Disk.{Ghosts as DiskSays}
 use Rattle.door_source.specs.declared.Doors.{Ghosts as DoorSays}
 use Rattle.engine_core.specs.EngineViews.{EngineStart, EngineView}
@@ -56,15 +56,15 @@ abbrev pub own_before : ℕ → List RunTurn → List RunTurn
 own_before zero call = call
 own_before (suc worker) call = []
 
--- The worker's turns among all are those that it took over its link.
-pub record UsesLink {L K : Type 0} (D : Type 0) (links : LinkSays L) (call turns : List RunTurn) (worker : ℕ)
-    (used : Use L K Bool) : Type 0 where
+-- The worker's turns among all are those that it took over its link, by its clock, until one of them ended its work.
+pub record UsesLink {L K : Type 0} (D : Type 0) (links : LinkSays L) (clocks : ClockSays K) (call turns : List RunTurn)
+    (worker : ℕ) (used : Use L K Bool) : Type 0 where
   pub from : RunSight D
   pub to : RunSight D
-  pub came : Result WorkEnd Spent
-  pub its : Worked links worker from used.old.0 to used.new.0 came
-  pub own : turns_by worker turns ≡ own_before worker call ++ (its.worked ++ its.stop)
-  pub short_is : used.came ≡ ends_short came
+  pub came : WorkEnd
+  pub by_clock : WorkedByClock links clocks worker from used.old to used.new (Ok came)
+  pub own : turns_by worker turns ≡ own_before worker call ++ (by_clock.its.worked ++ by_clock.its.stop)
+  pub short_is : used.came ≡ ends_short (Ok came)
 
 -- The turns of this pass among all are those by which the session of the door served it.
 pub record UsesDoor {A K : Type 0} (D : Type 0) (doors : DoorSays A) (console : ConsoleTerms) (turns : List RunTurn)
@@ -76,7 +76,8 @@ pub record UsesDoor {A K : Type 0} (D : Type 0) (doors : DoorSays A) (console : 
 
 -- ---- all together
 
-module _ {L A K : Type 0} (D : Type 0) (links : LinkSays L) (doors : DoorSays A) (console : ConsoleTerms) where
+module _ {L A K : Type 0} (D : Type 0) (links : LinkSays L) (clocks : ClockSays K) (doors : DoorSays A)
+    (console : ConsoleTerms) where
   -- Each link was used by the worker of its number, and each door by the session of its number. All turns are theirs,
   -- behind the line's own call.
   pub record WorkedTogether (call : List RunTurn) (olds news : Edges L A K) (transcripts : List Transcript)
@@ -90,7 +91,7 @@ module _ {L A K : Type 0} (D : Type 0) (links : LinkSays L) (doors : DoorSays A)
     pub first : StartsWith turns call
     pub numbered : AreNumbered (length uses + length door_uses) turns
     pub each : (worker : ℕ) (one : Use L K Bool) → slice_get uses worker ≡ Some one
-        → UsesLink D links call turns worker one
+        → UsesLink D links clocks call turns worker one
     pub each_door : (door : ℕ) (one : Use A K Transcript) → slice_get door_uses door ≡ Some one
         → UsesDoor D doors console turns (length uses + door) door one
 
@@ -102,18 +103,19 @@ pub record NobodyWorked {E : Type 0} (call : List RunTurn) (olds news : E) (tran
   pub none : turns ≡ call
   pub short_is : short ≡ true
 
-abbrev pub EdgesUsed : {L A K : Type 0} → (D : Type 0) → LinkSays L → DoorSays A → ConsoleTerms → List RunTurn
-    → (olds news : Edges L A K) → List Transcript → List RunTurn → Bool → Type 0
-EdgesUsed {L} {A} {K} D links doors console call olds news transcripts turns short =
-    WorkedTogether D links doors console call olds news transcripts turns short
+abbrev pub EdgesUsed : {L A K : Type 0} → (D : Type 0) → LinkSays L → ClockSays K → DoorSays A → ConsoleTerms
+    → List RunTurn → (olds news : Edges L A K) → List Transcript → List RunTurn → Bool → Type 0
+EdgesUsed {L} {A} {K} D links clocks doors console call olds news transcripts turns short =
+    WorkedTogether D links clocks doors console call olds news transcripts turns short
     ⊎ NobodyWorked call olds news transcripts turns short
 
-module _ {D L A K : Type 0} (says : DiskSays D) (links : LinkSays L) (doors : DoorSays A) (console : ConsoleTerms) where
+module _ {D L A K : Type 0} (says : DiskSays D) (links : LinkSays L) (clocks : ClockSays K) (doors : DoorSays A)
+    (console : ConsoleTerms) where
   -- the engine is the one after all turns of those who took part
   pub record WorkEnds (s : RunSight D) (olds news : Edges L A K) (transcripts : List Transcript) (v : EngineView D)
       (short : Bool) : Type 0 where
     pub turns : List RunTurn
-    pub worked : EdgesUsed D links doors console s.own olds news transcripts turns short
+    pub worked : EdgesUsed D links clocks doors console s.own olds news transcripts turns short
     pub after : IsAfter says s.given turns v
 
 -- ---- the last turn
@@ -124,13 +126,14 @@ pub record StopsBehind {D : Type 0} (says : DiskSays D) (old new : EngineView D)
       → (last : RunTurn) × (last.op ≡ Stop (record { 0 = 0 })) × (short ≡ is_no_memory last.answer.said)
       × IsAfter says given (turns ++ last ∷ []) new
 
-module _ {D L A K : Type 0} (says : DiskSays D) (links : LinkSays L) (doors : DoorSays A) (console : ConsoleTerms) where
+module _ {D L A K : Type 0} (says : DiskSays D) (links : LinkSays L) (clocks : ClockSays K) (doors : DoorSays A)
+    (console : ConsoleTerms) where
   -- All turns of those who took part came, and a last one that stops the run; of all it was seen whether memory was wanting.
   pub record WorksAndStops (s : RunSight D) (olds news : Edges L A K) (transcripts : List Transcript) (v : EngineView D)
       (short : Bool) : Type 0 where
     pub turns : List RunTurn
     pub work_short : Bool
-    pub worked : EdgesUsed D links doors console s.own olds news transcripts turns work_short
+    pub worked : EdgesUsed D links clocks doors console s.own olds news transcripts turns work_short
     pub last : RunTurn
     pub op : last.op ≡ Stop (record { 0 = 0 })
     pub short_is : short ≡ work_short || is_no_memory last.answer.said

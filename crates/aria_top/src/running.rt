@@ -1,9 +1,10 @@
 // A run over all links and doors.
-ghost use Rattle.std.specs.Prelude.{◌≡◌, ◌≤◌, ◌||◌, IsTrue, length, map, string_bytes};
+ghost use Rattle.std.specs.Prelude.{◌≡◌, ◌≤◌, ◌||◌, false, IsTrue, length, map, string_bytes};
 ghost use Rattle.brought_runs.specs.Completes.{CompletesServed};
 ghost use Rattle.brought_runs.specs.CompletesUris.{CompletesUris};
 ghost use Rattle.brought_runs.specs.LinksCauses.{ShowsLinks};
 ghost use Rattle.brought_runs.specs.Served.{SparesServing};
+ghost use Rattle.brought_runs.specs.Unfinished.{ShowsUnfinished};
 ghost use Rattle.run_frame.specs.DiskCauses.{LeavesOtherFiles, ShowsDisk};
 ghost use Rattle.run_frame.specs.Endings.{EndsAsShown};
 ghost use Rattle.run_frame.specs.Histories.{IsHistory};
@@ -19,7 +20,7 @@ use crate::finished::FinishedRun;
 use crate::work::{Work, work_through};
 use brought_runs::{
     runs_complete_uris, runs_complete_what_is_served, runs_show_their_links,
-    runs_spare_serving_mirrors,
+    runs_show_why_unfinished, runs_spare_serving_mirrors,
 };
 use conn_worker::turns_bring_what_came;
 use console_session::{Transcript, calls_stand_where_replied, replies_are_of_the_history};
@@ -74,9 +75,9 @@ fn go_through<
     requires links { (1 ≤ length links.items) × (length links.items ≤ MAX_LINKS) }
     requires doors { length doors.items ≤ CONSOLE_DOORS }
     requires first { ComesFirst begun.desk.own }
-    ensures { GoesTogether D.Disk L.Links A.Doors O.Sink begun (edges links.items doors.items)
-        out.old result.ended (edges result.links.items result.doors.items)
-        result.transcripts.items out.new }
+    ensures { GoesTogether D.Disk L.Links K.Clock A.Doors O.Sink begun
+        (edges links.items doors.items) out.old result.ended
+        (edges result.links.items result.doors.items) result.transcripts.items out.new }
 {
     let Begun {
         desk,
@@ -118,9 +119,9 @@ fn go_on<
     requires links { (1 ≤ length links.items) × (length links.items ≤ MAX_LINKS) }
     requires doors { length doors.items ≤ CONSOLE_DOORS }
     requires first { ComesFirst begun.desk.own }
-    ensures { GoesOnBegun D.Disk L.Links A.Doors O.Sink begun (edges links.items doors.items)
-        out.old result.ended (edges result.links.items result.doors.items)
-        result.transcripts.items out.new }
+    ensures { GoesOnBegun D.Disk L.Links K.Clock A.Doors O.Sink begun
+        (edges links.items doors.items) out.old result.ended
+        (edges result.links.items result.doors.items) result.transcripts.items out.new }
 {
     if begun.console.is_on {
         return go_through(rt, alloc, begun, over, links, doors, out);
@@ -162,8 +163,8 @@ fn run_through<
 ) -> Left<D, L, A, K>
     requires links { (1 ≤ length links.items) × (length links.items ≤ MAX_LINKS) }
     requires doors { length doors.items ≤ CONSOLE_DOORS }
-    ensures { RunsTogether D.Disk L.Links A.Doors O.Sink (map string_bytes words.now) gids disk
-        (edges links.items doors.items) out.old result.ended
+    ensures { RunsTogether D.Disk L.Links K.Clock A.Doors O.Sink (map string_bytes words.now) gids
+        disk (edges links.items doors.items) out.old result.ended
         (edges result.links.items result.doors.items) result.transcripts.items out.new }
 {
     match begin(alloc, words, disk, gids, doors.len() as u16) {
@@ -207,8 +208,8 @@ pub fn run<
     requires links { (1 ≤ length links.items) × (length links.items ≤ MAX_LINKS) }
     requires doors { length doors.items ≤ CONSOLE_DOORS }
     // What was done over the links and at the doors, from the words to the summary.
-    ensures does { RunsTogether D.Disk L.Links A.Doors O.Sink (map string_bytes words.now) gids disk
-        (edges links.items doors.items) out.old (ended_run result) (edges_left result)
+    ensures does { RunsTogether D.Disk L.Links K.Clock A.Doors O.Sink (map string_bytes words.now)
+        gids disk (edges links.items doors.items) out.old (ended_run result) (edges_left result)
         result.transcripts.items out.new }
     // How it ended is shown.
     ensures ending { EndsAsShown D.Disk O.Sink (map string_bytes words.now) gids
@@ -216,6 +217,9 @@ pub fn run<
     // Why it didn't begin is printed, or the summary, and nothing else.
     ensures output { PrintsText D.Disk O.Sink (map string_bytes words.now) gids
         (length doors.items) disk out.old (ended_run result) out.new }
+    // Where it is unfinished it was told to shut down, or a worker met a full journal, or only paused downloads were left.
+    ensures unfinished { ShowsUnfinished false L.Links (map string_bytes words.now) gids
+        (length doors.items) links.items result.links.items (ended_run result) }
     // One legal history, which begins with the call of the line and leaves nothing unsaved.
     ensures history { IsHistory D.Disk (map string_bytes words.now) gids
         (length doors.items) disk (ended_run result) }
@@ -228,17 +232,17 @@ pub fn run<
     ensures links { ShowsLinks L.Links (map string_bytes words.now) gids (length doors.items)
         result.journal.events.items links.items result.links.items }
     // A mirror that serves a payload is held to account for faults of links alone.
-    ensures marks { IsTrue L.tells → SparesServing D.Disk L.Links (map string_bytes words.now) gids
-        (length doors.items) links.items result.links.items (ended_run result) }
+    ensures marks { IsTrue L.tells → SparesServing D.Disk L.Links (map string_bytes words.now)
+        gids (length doors.items) links.items result.links.items (ended_run result) }
     // What is served comes: a run whose links lead to all of a metainfo file's payload is done, unless it was cut short.
-    ensures completes { IsTrue D.tells → IsTrue L.tells → CompletesServed D.Disk L.Links O.Sink
-        (map string_bytes words.now) disk links.items out.old (ended_run result) result.links.items
-        out.new }
+    ensures completes { IsTrue D.tells → IsTrue L.tells → CompletesServed false D.Disk
+        L.Links O.Sink (map string_bytes words.now) disk links.items out.old (ended_run result)
+        result.links.items out.new }
     // So it does without a metainfo file, where all mirrors lead alike to one resource and no file stands in its folder; and
     // then its file has just the resource's bytes.
-    ensures completes_uris { IsTrue D.tells → IsTrue L.tells → CompletesUris D.Disk L.Links O.Sink
-        (map string_bytes words.now) disk links.items out.old (ended_run result) result.links.items
-        out.new }
+    ensures completes_uris { IsTrue D.tells → IsTrue L.tells → CompletesUris false D.Disk
+        L.Links O.Sink (map string_bytes words.now) disk links.items out.old (ended_run result)
+        result.links.items out.new }
     // What is complete has its digests, and nothing that was promised is lost by a crash.
     ensures survives { IsTrue D.tells → SurvivesRun D.Disk (map string_bytes words.now) gids
         (length doors.items) disk (ended_run result) }
@@ -258,6 +262,7 @@ pub fn run<
     runs_show_their_disk::<D, O>();
     runs_leave_other_files::<D, O>();
     runs_show_their_links::<D, L, K, O>();
+    runs_show_why_unfinished::<D, L, K, O>();
     runs_spare_serving_mirrors::<D, L, K, O>();
     runs_complete_what_is_served::<D, L, K, O>();
     runs_complete_uris::<D, L, K, O>();

@@ -1,11 +1,11 @@
 // What one does who takes part in the desk of a run.
-ghost use Rattle.std.specs.Prelude.{◌≡◌, ◌<◌, ◌+◌, ◌^◌, option_copied};
+ghost use Rattle.std.specs.Prelude.{◌≡◌, ◌<◌, ◌+◌, ◌^◌, Ok, option_copied};
 ghost use Rattle.console_session.specs.DoorSessions.{ServesDoor};
 ghost use Rattle.run_frame.specs.Stops as stops;
 ghost use Rattle.aria_top.specs.Participants.{ServesAt, WorksAt, session_of};
 ghost use Rattle.desk_seats.specs.Uses.{MayTakePart, TookPart};
 
-use conn_worker::{Spent, WorkEnd, work};
+use conn_worker::{WorkEnd, keep_work};
 use console_http::DoorEnd;
 use console_session::{Transcript, serve_door};
 use desk_seats::Participant;
@@ -21,10 +21,10 @@ use std::sync::atomic::{AtomicBool, Ordering};
 use turn_desk::{Desk, Pass, TurnDesk};
 
 // Memory was wanting for a worker.
-fn ends_short(came: Result<WorkEnd, Spent>) -> bool
-    ensures { result ≡ stops.ends_short came }
+fn ends_short(came: WorkEnd) -> bool
+    ensures { result ≡ stops.ends_short (Ok came) }
 {
-    came == Ok(WorkEnd::NoMemory)
+    came == WorkEnd::NoMemory
 }
 
 /// One worker works over its link, until its work ends. Then the run is over: it is finished, or the worker stopped it.
@@ -36,13 +36,14 @@ pub(crate) fn work_at<R: Wait, D: Disk, L: Links, K: Clock>(
     worker: &mut Participant<Pass<Engine<D>>, L, K, bool>,
 )
     requires { MayTakePart desk.now worker.old }
-    ensures { TookPart desk.now (WorksAt L.Links) worker.old worker.new }
+    ensures { TookPart desk.now (WorksAt L.Links K.Clock) worker.old worker.new }
 {
     let Some(pass) = worker.pass.take() else {
         unreachable!()
     };
     let mut chair = desk.chair(rt, pass);
-    let came = work(
+    let came = keep_work(
+        rt,
         alloc,
         &mut chair,
         worker.number,

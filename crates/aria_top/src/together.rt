@@ -36,7 +36,7 @@ fn spread<
 )
     requires workers { AllMayTakePart desk.now workers.old }
     requires doors { AllMayTakePart desk.now keepers.old }
-    ensures workers { AllTookPart desk.now (WorksAt L.Links) workers.old workers.new }
+    ensures workers { AllTookPart desk.now (WorksAt L.Links K.Clock) workers.old workers.new }
     ensures doors { AllTookPart desk.now (ServesAt A.Doors console.now) keepers.old keepers.new }
 {
     for_each_of_both(
@@ -50,7 +50,7 @@ fn spread<
         { serve_at(rt, alloc, desk, over, console, keeper) },
         &|_: usize, worker: &mut Participant<Pass<Engine<D>>, L, K, bool>|
             requires { MayTakePart desk.now worker.now }
-            ensures { TookPart desk.entry.now (WorksAt L.Links)
+            ensures { TookPart desk.entry.now (WorksAt L.Links K.Clock)
                 worker.entry.now worker.exit.now }
         { work_at(rt, alloc, desk, over, worker) },
     );
@@ -75,7 +75,8 @@ pub(crate) fn take_part<
 )
     requires workers { AllMayTakePart desk.now workers.old.items }
     requires doors { AllMayTakePart desk.now keepers.old.items }
-    ensures workers { AllTookPart desk.now (WorksAt L.Links) workers.old.items workers.new.items }
+    ensures workers { AllTookPart desk.now (WorksAt L.Links K.Clock) workers.old.items
+        workers.new.items }
     ensures doors { AllTookPart desk.now (ServesAt A.Doors console.now)
         keepers.old.items keepers.new.items }
 {

@@ -105,7 +105,7 @@ fn work_shared<
         × IsShared solo (length links.items + length doors.items) shared }
     ensures { (solo : RunSight D) → IsShared solo (length links.items + length doors.items) shared
         → ComesFirst solo.own
-        → WorkEnds D.Disk L.Links A.Doors console.now solo (edges links.items doors.items)
+        → WorkEnds D.Disk L.Links K.Clock A.Doors console.now solo (edges links.items doors.items)
         (edges result.links.items result.doors.items) result.transcripts.items
         result.engine result.is_short }
 {
@@ -163,9 +163,9 @@ fn work_edges<
     requires links { (1 ≤ length links.items) × (length links.items ≤ MAX_LINKS) }
     requires doors { length doors.items ≤ CONSOLE_DOORS }
     requires first { ComesFirst solo.own }
-    ensures { WorkEnds D.Disk L.Links A.Doors console.now solo (edges links.items doors.items)
-        (edges result.links.items result.doors.items) result.transcripts.items
-        result.engine result.is_short }
+    ensures { WorkEnds D.Disk L.Links K.Clock A.Doors console.now solo
+        (edges links.items doors.items) (edges result.links.items result.doors.items)
+        result.transcripts.items result.engine result.is_short }
 {
     match share(alloc, solo, links.len() as u32, doors.len() as u32) {
         Ok(shared) => work_shared(rt, alloc, shared, console, over, links, doors),
@@ -204,9 +204,9 @@ pub(crate) fn work_through<
     requires links { (1 ≤ length links.items) × (length links.items ≤ MAX_LINKS) }
     requires doors { length doors.items ≤ CONSOLE_DOORS }
     requires first { ComesFirst solo.own }
-    ensures { WorksAndStops D.Disk L.Links A.Doors console.now solo (edges links.items doors.items)
-        (edges result.links.items result.doors.items) result.transcripts.items
-        result.engine result.is_short }
+    ensures { WorksAndStops D.Disk L.Links K.Clock A.Doors console.now solo
+        (edges links.items doors.items) (edges result.links.items result.doors.items)
+        result.transcripts.items result.engine result.is_short }
 {
     let Work {
         engine,

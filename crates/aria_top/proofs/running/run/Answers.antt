@@ -1,3 +1,4 @@
+use Rattle.std.proofs.Common.{false}
 use Rattle.aria_top.proofs.Doors.{shows_doors}
 use Rattle.aria_top.proofs.Framed.{whole}
 use Rattle.aria_top.proofs.Over.{over}
@@ -24,7 +25,7 @@ returns-clause-survives g c = c.runs_survive_crashes.ensures _ _ _ _ _ _ _ (whol
 
 pub returns-clause-links : goal.returns-clause-links
 returns-clause-links g c =
-    c.runs_show_their_links.ensures _ _ _ _ _ _ _ _ _ (over c.requires.links.0 c.run_through-ended.ensures)
+    c.runs_show_their_links.ensures false _ _ _ _ _ _ _ _ _ (over c.requires.links.0 c.run_through-ended.ensures)
 
 pub returns-clause-untouched : goal.returns-clause-untouched
 returns-clause-untouched g c =
@@ -38,13 +39,19 @@ returns-clause-doors g c =
 
 pub returns-clause-marks : goal.returns-clause-marks
 returns-clause-marks g c =
-    c.runs_spare_serving_mirrors.ensures _ _ _ _ _ _ _ _ _ (over c.requires.links.0 c.run_through-ended.ensures)
+    c.runs_spare_serving_mirrors.ensures false _ _ _ _ _ _ _ _ _ (over c.requires.links.0 c.run_through-ended.ensures)
 
 pub returns-clause-completes : goal.returns-clause-completes
 returns-clause-completes g c =
-    c.runs_complete_what_is_served.ensures _ _ _ _ _ _ _ _ _ (over c.requires.links.0 c.run_through-ended.ensures)
+    c.runs_complete_what_is_served.ensures false _ _ _ _ _ _ _ _ _ (over c.requires.links.0 c.run_through-ended.ensures)
     c.requires.links.0
 
 pub returns-clause-completes_uris : goal.returns-clause-completes_uris
 returns-clause-completes_uris g c =
-    c.runs_complete_uris.ensures _ _ _ _ _ _ _ _ _ (over c.requires.links.0 c.run_through-ended.ensures) c.requires.links.0
+    c.runs_complete_uris.ensures false _ _ _ _ _ _ _ _ _ (over c.requires.links.0 c.run_through-ended.ensures)
+    c.requires.links.0
+
+pub returns-clause-unfinished : goal.returns-clause-unfinished
+returns-clause-unfinished g c =
+    c.runs_show_why_unfinished.ensures false _ _ _ _ _ _ _ _ _ (over c.requires.links.0 c.run_through-ended.ensures)
+    c.requires.links.0

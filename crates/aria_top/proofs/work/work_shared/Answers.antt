@@ -29,8 +29,8 @@ take_part-requires-clause-doors g c κs within =
 
 pub unseat_all-requires-clause-done : goal.unseat_all-requires-clause-done
 unseat_all-requires-clause-done g c =
-    are_done c.args.shared.desk (WorksAt g.L.Links) c.seat_all-2.new.seats.items c.take_part.new.workers.items
-    (took_all c.args.shared.desk (WorksAt g.L.Links) c.seat_all-2.new.seats.items c.take_part.new.workers.items
+    are_done c.args.shared.desk (WorksAt g.L.Links g.K.Clock) c.seat_all-2.new.seats.items c.take_part.new.workers.items
+    (took_all c.args.shared.desk (WorksAt g.L.Links g.K.Clock) c.seat_all-2.new.seats.items c.take_part.new.workers.items
     c.take_part.ensures.workers)
 
 pub unseat_all-requires-2-clause-done : goal.unseat_all-requires-2-clause-done
@@ -120,8 +120,8 @@ close-requires g c =
     c.take_part.ensures.doors
     c.seat_all-2.new.passes.items c.unseat_all.new.passes.items c.seat_all-2.ensures.rest
     c.unseat_all.ensures.back.passes_are c.unseat_all-2.new.passes.items c.unseat_all-2.ensures.back.passes_are in
-    let workers = of_desk desk (WorksAt g.L.Links) c.seat_all-2.new.seats.items c.take_part.new.workers.items
-    (took_all desk (WorksAt g.L.Links) c.seat_all-2.new.seats.items c.take_part.new.workers.items
+    let workers = of_desk desk (WorksAt g.L.Links g.K.Clock) c.seat_all-2.new.seats.items c.take_part.new.workers.items
+    (took_all desk (WorksAt g.L.Links g.K.Clock) c.seat_all-2.new.seats.items c.take_part.new.workers.items
     c.take_part.ensures.workers) in
     let keepers = of_desk desk (ServesAt g.A.Doors c.args.console.now) c.seat_all.new.seats.items
     c.take_part.new.keepers.items
@@ -155,7 +155,7 @@ returns g c solo is first =
     let doors = c.args.doors.items in
     let ws' = c.take_part.new.workers.items in
     let ks' = c.take_part.new.keepers.items in
-    let worked = subst (λ ws. AllTookPart desk (WorksAt g.L.Links) ws ws') c.seat_all-2.ensures.seated
+    let worked = subst (λ ws. AllTookPart desk (WorksAt g.L.Links g.K.Clock) ws ws') c.seat_all-2.ensures.seated
     c.take_part.ensures.workers in
     let served = subst (λ ks. AllTookPart desk (ServesAt g.A.Doors c.args.console.now) ks ks') c.seat_all.ensures.seated
     c.take_part.ensures.doors in
