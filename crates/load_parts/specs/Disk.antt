@@ -1,15 +1,16 @@
 -- The disk of a load.
-use Rattle.std.specs.Prelude.{◌≡◌, ℕ, List, [], ◌∷◌, codes, unwrap_or}
+use Rattle.std.specs.Prelude.{ℕ, List, [], ◌∷◌, codes, unwrap_or}
 use Rattle.dl_disk.specs.Contents.{files_listed}
 use Rattle.dl_disk.specs.Files.{Files}
-use Rattle.dl_disk.specs.MemDisk.{IsFresh, failing_calls}
-use Rattle.dl_disk.specs.declared.memory.MemDisk.{MemDisk}
+use Rattle.dl_disk.specs.MemDisk.{IsFresh}
 use Rattle.load_parts.specs.Metainfo.{metainfo_by}
+use Rattle.load_parts.specs.Sound.{inner_disk}
+use Rattle.load_parts.specs.declared.sound_disk.SoundDisk.{SoundDisk}
 
--- the metainfo file of these digests stands there alone, and no call will fail
-pub record IsLoadDisk (digests : List (List ℕ)) (disk : MemDisk) : Type 0 where
-  pub fresh : IsFresh (files_listed ((codes "load.torrent", metainfo_by digests) ∷ [])) disk
-  pub sound : failing_calls disk ≡ []
+-- the metainfo file of these digests stands there alone
+abbrev pub IsLoadDisk : List (List ℕ) → SoundDisk → Type 0
+IsLoadDisk digests disk =
+    IsFresh (files_listed ((codes "load.torrent", metainfo_by digests) ∷ [])) (inner_disk disk)
 
 -- the payload, and nothing where there is none
 abbrev pub payload_read : Files → List ℕ

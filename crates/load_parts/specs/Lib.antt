@@ -5,4 +5,5 @@ pub mod LoadLine
 pub mod Metainfo
 pub mod Payload
 pub mod Said
+pub mod Sound
 pub mod Words

@@ -3,13 +3,13 @@ use Rattle.std.specs.Prelude.{◌≡◌, ℕ, ◌+◌, ◌*◌, ◌%◌, false, 
 use Rattle.link_source.specs.Files.{Bytes}
 use Rattle.link_source.specs.Link.{LinkState}
 use Rattle.link_source.specs.Load.{load_bytes}
-use Rattle.link_source.specs.MemLinks.{failing_numbers, link_faults, link_state}
 use Rattle.link_source.specs.Mirrors.{Content, Mirror}
 use Rattle.link_source.specs.declared.bad_answers.Bad.{Bad}
 use Rattle.link_source.specs.declared.bad_answers.BadKind.TheVariants.{Flip}
-use Rattle.link_source.specs.declared.memory.MemLinks.{MemLinks}
 use Rattle.link_source.specs.declared.mirrors.Manner.TheVariants.{Ranges}
+use Rattle.load_parts.specs.Sound.{sound_links_state}
 use Rattle.load_parts.specs.declared.payload.TheConstants.{PIECE, TOTAL}
+use Rattle.load_parts.specs.declared.sound_links.SoundLinks.{SoundLinks}
 
 -- the mirror at this host has the payload
 unfoldable pub load_mirror : ℕ → List ℕ → Mirror
@@ -36,8 +36,6 @@ abbrev pub load_state : ℕ → ℕ → LinkState
 load_state n link =
     record { content = load_content n link; exchanges = []; due = []; peer = None; listens = false }
 
--- it is the link of this number, and none of its calls will fail
-pub record IsLoadLink (n link : ℕ) (links : MemLinks) : Type 0 where
-  pub state : link_state links ≡ load_state n link
-  pub faults : link_faults links ≡ 0
-  pub sound : failing_numbers links ≡ []
+-- it is the link of this number
+abbrev pub IsLoadLink : (n link : ℕ) → SoundLinks → Type 0
+IsLoadLink n link links = sound_links_state links ≡ load_state n link

@@ -9,6 +9,8 @@ mod line;
 mod links;
 mod payload;
 mod sink;
+mod sound_disk;
+mod sound_links;
 mod torrent;
 mod words;
 
@@ -19,5 +21,7 @@ pub use line::{failed_line, whole_line};
 pub use links::{LOAD_LINKS, load_link};
 pub use payload::{PIECE, PIECES, TOTAL, load_digests};
 pub use sink::UnseenSink;
+pub use sound_disk::SoundDisk;
+pub use sound_links::SoundLinks;
 pub use torrent::{TORRENT, load_metainfo};
 pub use words::{load_of, load_words};

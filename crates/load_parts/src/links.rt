@@ -4,6 +4,7 @@ ghost use Rattle.link_source.specs.Memory.{mirror_of, mirrors_of};
 ghost use Rattle.load_parts.specs.Links.{IsLoadLink, bad_answer, load_mirror, load_mirrors};
 
 use crate::payload::{PIECE, TOTAL};
+use crate::sound_links::SoundLinks;
 use dl_kinds::{NoMemory, Text};
 use link_source::{Bad, BadKind, MOST_RECEIVED, Manner, MemFile, MemLinks, MemMirror};
 use std::alloc::{AllocError, Global};
@@ -52,16 +53,17 @@ fn bad_answer(n: u64, link: u16) -> Bad
 }
 
 /// The link of this number.
-pub fn load_link(alloc: Global, n: u64, link: u16) -> Result<MemLinks, NoMemory>
+pub fn load_link(alloc: Global, n: u64, link: u16) -> Result<SoundLinks, NoMemory>
     ensures { IfOk result (IsLoadLink n link) }
 {
     let mut bad = Vec::with_capacity(alloc, 1)?;
     bad.push(bad_answer(n, link))?;
-    MemLinks::new(
+    let links = MemLinks::new(
         alloc,
         mirrors(alloc, n)?,
         bad,
         MOST_RECEIVED as u32,
         Vec::new(alloc),
-    )
+    )?;
+    Ok(SoundLinks::new(links))
 }

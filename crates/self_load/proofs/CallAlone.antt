@@ -70,9 +70,10 @@ pub record RanOneListed {D O : Type 0} {says : DiskSays D} {sinks : SinkSays O} 
   pub done : (other : Gid) → Contains (history_of (ran_facts.told ran)) (event.Ended other Complete)
       → ending_by_history (ran_facts.start ran) (history_of (ran_facts.told ran)) ≡ Done
 
-module _ {D O L K : Type 0} {says : DiskSays D} {sinks : SinkSays O} {links : LinkSays L} {words : List (List ℕ)}
-    {gids doors : ℕ} {disk : D} {olds : List (L × K)} {out : O} {ended : Ended D} {news : List (L × K)} {out' : O} where
-  module _ (laws : Laws) (it : RanOverLinks says sinks links words gids doors disk olds out ended news out')
+module _ {D O L K : Type 0} {says : DiskSays D} {sinks : SinkSays O} {limited : Bool} {links : LinkSays L}
+    {words : List (List ℕ)} {gids doors : ℕ} {disk : D} {olds : List (L × K)} {out : O} {ended : Ended D}
+    {news : List (L × K)} {out' : O} where
+  module _ (laws : Laws) (it : RanOverLinks says sinks limited links words gids doors disk olds out ended news out')
       (usual : LineUsual it.ran.begins.line) (meta : Meta) (uris : List (List ℕ))
       (asked : CallOfFile it.ran.begins.call meta uris it.ran.begins.line.settings)
       (unshort : (it.ran.begun.is_short || it.ran.short) ≡ false) where

@@ -1,5 +1,5 @@
 -- What a load's mirrors serve comes.
-use Rattle.std.proofs.Common.{◌≡◌, ◌⊎◌, ℕ, List, [], ◌∷◌, ◌++◌, Some, None, cond, drop, get_or, length, slice_get, sym, ap, ◌∙◌, subst, arith}
+use Rattle.std.proofs.Common.{◌≡◌, ◌⊎◌, ℕ, Bool, true, false, List, Result, Ok, Err, [], ◌∷◌, ◌++◌, Some, None, cond, drop, get_or, length, slice_get, sym, ap, ◌∙◌, subst, arith}
 use Rattle.std.specs.Prelude.{codes}
 use Rattle.std.specs.Str.{bytes_eq}
 use Rattle.std.proofs.Math.Seq.{drop-append_seam}
@@ -7,18 +7,23 @@ use Rattle.std.proofs.lemmas.Bool.{false_from_ne_true}
 use Rattle.std.proofs.lemmas.List.{length-append}
 use Rattle.std.proofs.lemmas.Slice.Eq.{bytes_eq-Decides}
 use Rattle.command_line.specs.Lines.{IsLine, has_console}
+use Rattle.conn_worker.specs.declared.ends.Spent.{Spent}
+use Rattle.conn_worker.specs.declared.ends.WorkEnd.{WorkEnd}
+use Rattle.conn_worker.specs.declared.ends.WorkEnd.TheVariants as end
 use Rattle.dl_disk.specs.Contents.{files_listed}
 use Rattle.dl_disk.specs.declared.disk.Disk.{Ghosts as DiskSays}
 use Rattle.dl_kinds.specs.declared.outside.Sink.{Ghosts as SinkSays}
+use Rattle.engine_turns.specs.RunTurns.{is_nearly_full}
 use Rattle.link_source.specs.Load.{load_bytes}
 use Rattle.link_source.specs.Mirrors.{Content}
 use Rattle.link_source.specs.declared.Links.{Ghosts as LinkSays}
 use Rattle.machine_core.specs.Starts.{Listed}
+use Rattle.machine_core.specs.declared.events.Event.{Event}
 use Rattle.metainfo.specs.Info.{info_of}
 use Rattle.run_frame.specs.declared.ended.Ended.{Ended}
 use Rattle.run_report.specs.declared.endings.RunEnding.TheVariants.{NoMemory}
 use Rattle.served_claims.specs.Serving.{ServesRightly}
-use Rattle.brought_runs.specs.Completes.{CompletesServed, HadNoFaults, IsDone, WasCutShort}
+use Rattle.brought_runs.specs.Completes.{CompletesServed, EndsCutShort, HadNoFaults, IsCutShort, IsDone, own_options}
 use Rattle.load_parts.specs.Links.{load_content}
 use Rattle.load_parts.specs.LoadLine.{WordsNameLoad}
 use Rattle.load_parts.specs.Metainfo.{metainfo_by}
@@ -61,12 +66,12 @@ pub record IsLoadGiven {D L K : Type 0} (says : DiskSays D) (links : LinkSays L)
   pub content : (place : ℕ) (old : L × K) → slice_get olds place ≡ Some old
       → (links.state old.0).content ≡ load_content n place
 
-pub comes_well : {D L K O : Type 0} {says : DiskSays D} {links : LinkSays L} {sinks : SinkSays O}
+pub comes_well : {D L K O : Type 0} {limited : Bool} {says : DiskSays D} {links : LinkSays L} {sinks : SinkSays O}
     {words : List (List ℕ)} {disk : D} {olds : List (L × K)} {out : O} {ended : Ended D} {news : List (L × K)} {out' : O} (n : ℕ)
-    → CompletesServed says links sinks words disk olds out ended news out' → IsLoadGiven says links words disk olds n
+    → CompletesServed limited says links sinks words disk olds out ended news out' → IsLoadGiven says links words disk olds n
     → HadNoFaults says links sinks words disk olds out ended news out'
-    → IsDone ended ⊎ (ended.ending ≡ NoMemory) ⊎ WasCutShort D links olds news
-comes_well {D} {L} {K} {O} {says} {links} {sinks} {words} {disk} {olds} n completes is well =
+    → IsDone ended ⊎ (ended.ending ≡ NoMemory) ⊎ EndsCutShort limited links olds ended news
+comes_well {D} {L} {K} {O} {limited} {says} {links} {sinks} {words} {disk} {olds} n completes is well =
     let line = is.words_name.some.0 in
     let names = is.words_name.line line is.words_name.some.1 in
     let meta = (is.files_read n).0 in
@@ -86,12 +91,20 @@ comes_well {D} {L} {K} {O} {says} {links} {sinks} {words} {disk} {olds} n comple
         };
         few = omega (arith, many);
       };
-      of = payload_is n meta told.total told.piece_len told.digests_are;
+      of = payload_is n meta (own_options line) told.total told.piece_len told.digests_are;
       known = omega (arith, many);
       serve = λ place old at.
-          subst (λ (c : Content). ServesRightly c (Listed meta []) 2 (load_bytes n 67108864)) (sym
+          subst (λ (c : Content). ServesRightly c (Listed meta []) (own_options line) 2 (load_bytes n 67108864)) (sym
           (is.content place old at))
-          (serves_rightly n place meta told.files told.total told.seeds);
+          (serves_rightly n place meta (own_options line) told.files told.total told.seeds);
       fresh = is.fresh;
       well = well;
     })
+
+-- where the number of turns isn't limited, a full journal alone cuts a worker short
+pub full_alone : (events : List Event) (came : Result WorkEnd Spent) → IsCutShort false events came
+    → is_nearly_full events ≡ true
+full_alone events (Ok end.JournalFull) why = why
+full_alone events (Ok end.Finished) why = absurd why
+full_alone events (Ok end.NoMemory) why = absurd why
+full_alone events (Err spent) why = absurd cc

@@ -12,7 +12,7 @@ use Rattle.std.proofs.lemmas.Slice.Eq.{bytes_eq-Decides}
 use Rattle.control_file.specs.declared.want.Want.{Want}
 use Rattle.dl_disk.specs.Contents.{files_listed}
 use Rattle.dl_disk.specs.Files.{Files}
-use Rattle.dl_disk.specs.MemDisk.{IsImage, reading}
+use Rattle.dl_disk.specs.MemDisk.{IsFresh, IsImage, reading}
 use Rattle.dl_disk.specs.declared.memory.MemDisk.{MemDisk}
 use Rattle.dl_kinds.specs.Plan.{piece_end, piece_start}
 use Rattle.dl_words.specs.Lists.{part_at}
@@ -23,7 +23,7 @@ use Rattle.resume_core.specs.Resume.{Agrees, AreSound, HasDigest, IsHashed, Soun
 use Rattle.resume_core.specs.Wants.{control_name, files_in}
 use Rattle.sha1.specs.Sha1.{sha1}
 use Rattle.span_map.specs.declared.files.FileLen.{FileLen}
-use Rattle.load_parts.specs.Disk.{IsLoadDisk, payload_read}
+use Rattle.load_parts.specs.Disk.{payload_read}
 use Rattle.load_parts.specs.Metainfo.{metainfo_by}
 use Rattle.load_parts.specs.Payload.{is_right_piece, piece_in}
 use Rattle.load_parts.specs.Said.{load_file}
@@ -42,7 +42,8 @@ pub record IsLoadWant (digests : List (List ℕ)) (want : Want) : Type 0 where
 same_files : (one other : Files) → ((name : List ℕ) → one name ≡ other name) → one ≡ other
 same_files one other same i name = same name i
 
-module _ (digests : List (List ℕ)) (disk : MemDisk) (is : IsLoadDisk digests disk) (want : Want)
+module _ (digests : List (List ℕ)) (disk : MemDisk)
+    (is : IsFresh (files_listed ((codes "load.torrent", metainfo_by digests) ∷ [])) disk) (want : Want)
     (its : IsLoadWant digests want) where
   given : Files
   given = files_listed ((codes "load.torrent", metainfo_by digests) ∷ [])
@@ -53,12 +54,12 @@ module _ (digests : List (List ℕ)) (disk : MemDisk) (is : IsLoadDisk digests d
   -- no control file stands in an image
   absent : (image : Files) → IsImage disk image → found_in want image ≡ Absent
   absent image left =
-      ap (found want) (is.fresh.durable image left (control_name want)
+      ap (found want) (is.durable image left (control_name want)
       ∙ ap (files_listed ((codes "load.torrent", metainfo_by digests) ∷ [])) control_is)
 
   same : (image : Files) → IsImage disk image → image ≡ reading disk
-  same image left = same_files image (reading disk) (λ name. is.fresh.durable image left name ∙ sym
-      (is.fresh.seen name))
+  same image left = same_files image (reading disk) (λ name. is.durable image left name ∙ sym
+      (is.seen name))
 
   no_piece : (f : Found) (piece : ℕ) → f ≡ Absent → ListsPiece f piece → ⊥
   no_piece Absent piece none lists = lists

@@ -144,10 +144,11 @@ abbrev pub IsDoneUnless : {D O : Type 0} → SinkSays O → O → Ended D → O 
 IsDoneUnless sinks out ended out' = (ended.ending ≡ Done) ⊎ (ended.ending ≡ NoMemory)
     ⊎ ((ended.ending ≡ SinkFault) × Rose (sinks.faults out) (sinks.faults out'))
 
-module _ {D O L K : Type 0} {says : DiskSays D} {sinks : SinkSays O} {links : LinkSays L} {words : List (List ℕ)}
-    {gids doors : ℕ} {disk : D} {olds : List (L × K)} {out : O} {ended : Ended D} {news : List (L × K)} {out' : O} where
+module _ {D O L K : Type 0} {says : DiskSays D} {sinks : SinkSays O} {limited : Bool} {links : LinkSays L}
+    {words : List (List ℕ)} {gids doors : ℕ} {disk : D} {olds : List (L × K)} {out : O} {ended : Ended D}
+    {news : List (L × K)} {out' : O} where
   module _ (n : ℕ) (is : IsLoadsRun says words disk n)
-      (it : RanOverLinks says sinks links words gids doors disk olds out ended news out') where
+      (it : RanOverLinks says sinks limited links words gids doors disk olds out ended news out') where
     abbrev ran : Ran says sinks words gids doors disk out ended out'
     ran = it.ran
 
@@ -275,12 +276,12 @@ module _ {D O L K : Type 0} {says : DiskSays D} {sinks : SinkSays O} {links : Li
   -- ---- the run
 
   module _ (n : ℕ) (is : IsLoadsRun says words disk n)
-      (runs : IsRunOver says sinks links words gids doors disk olds out ended news out') where
+      (runs : IsRunOver says sinks limited links words gids doors disk olds out ended news out') where
     complete : ended.ending ≡ Done → TellsComplete ended
     complete is_done = ⊎_elim
         (λ (never : NeverBegan says sinks words disk out ended out').
         absurd (never_done says sinks words disk out ended out' never is_done))
-        (λ (it : RanOverLinks says sinks links words gids doors disk olds out ended news out').
+        (λ (it : RanOverLinks says sinks limited links words gids doors disk olds out ended news out').
         by_memory n is it (λ unshort one. journal_complete n is it unshort one is_done)
         (λ starved. absurd (not_done ended.ending starved is_done))) runs
 
@@ -289,7 +290,7 @@ module _ {D O L K : Type 0} {says : DiskSays D} {sinks : SinkSays O} {links : Li
         (λ (never : NeverBegan says sinks words disk out ended out').
         none_in (event.Ended tells.0 Complete)
         (subst (λ (es : List Event). Contains es (event.Ended tells.0 Complete)) never.journal tells.1))
-        (λ (it : RanOverLinks says sinks links words gids doors disk olds out ended news out').
+        (λ (it : RanOverLinks says sinks limited links words gids doors disk olds out ended news out').
         by_memory n is it (λ unshort one. ends_done n is it unshort one tells) (λ starved. inr (inl starved))) runs
 
     all_right : ended.ending ≡ Done → (piece : ℕ) → piece < 64
@@ -297,7 +298,7 @@ module _ {D O L K : Type 0} {says : DiskSays D} {sinks : SinkSays O} {links : Li
     all_right is_done = ⊎_elim
         (λ (never : NeverBegan says sinks words disk out ended out').
         absurd (never_done says sinks words disk out ended out' never is_done))
-        (λ (it : RanOverLinks says sinks links words gids doors disk olds out ended news out').
+        (λ (it : RanOverLinks says sinks limited links words gids doors disk olds out ended news out').
         by_memory n is it (λ unshort one. pieces_right n is it unshort one is_done)
         (λ starved. absurd (not_done ended.ending starved is_done))) runs
 
@@ -309,8 +310,8 @@ pub record EndsSo {D O : Type 0} (says : DiskSays D) (sinks : SinkSays O) (n : �
   pub right : ended.ending ≡ Done → (piece : ℕ) → piece < 64
       → is_right_piece (digests_of n) (payload_read (says.state ended.disk).seen) piece ≡ true
 
-pub ends_so : {D O L K : Type 0} {says : DiskSays D} {sinks : SinkSays O} {links : LinkSays L} {words : List (List ℕ)}
-    {gids doors : ℕ} {disk : D} {olds : List (L × K)} {out : O} {ended : Ended D} {news : List (L × K)} {out' : O}
-    (n : ℕ) → IsRunOver says sinks links words gids doors disk olds out ended news out' → IsLoadsRun says words disk n
+pub ends_so : {D O L K : Type 0} {says : DiskSays D} {sinks : SinkSays O} {limited : Bool} {links : LinkSays L}
+    {words : List (List ℕ)} {gids doors : ℕ} {disk : D} {olds : List (L × K)} {out : O} {ended : Ended D} {news : List (L × K)} {out' : O}
+    (n : ℕ) → IsRunOver says sinks limited links words gids doors disk olds out ended news out' → IsLoadsRun says words disk n
     → EndsSo says sinks n out ended out'
 ends_so n runs is = record { complete = complete n is runs; done = done n is runs; right = all_right n is runs }

@@ -10,7 +10,7 @@ use Rattle.std.proofs.lemmas.Grind.{same_number_lists}
 use Rattle.std.proofs.lemmas.List.{get_or-drop, get_or-take, length-drop, length-take-le}
 use Rattle.std.proofs.lemmas.List.FromFn.{get_or-map-range_with_len, length-map-range_with_len}
 use Rattle.std.proofs.lemmas.Option.{slice_get-get_or}
-use Rattle.blameless_mirrors.specs.Blameless.{IsPayloadOf}
+use Rattle.blameless_mirrors.specs.Blameless.{HasChosenPieces}
 use Rattle.dl_kinds.specs.Plan.{piece_end, piece_start, pieces_of}
 use Rattle.dl_words.specs.Lists.{part_at}
 use Rattle.link_source.specs.Endpoint.{endpoint_of}
@@ -23,6 +23,7 @@ use Rattle.memory_serving_laws.specs.Leads.{Leads, Redirects, StandsAt}
 use Rattle.memory_serving_laws.specs.Serving.{LeadsThrough, NamesMirror}
 use Rattle.metainfo.specs.Jobs.{len_of_file}
 use Rattle.metainfo.specs.declared.meta.Meta.{Meta}
+use Rattle.option_set.specs.Values.{OptionValues}
 use Rattle.request_chain.specs.Exchanges.{LeadsTo}
 use Rattle.served_claims.specs.Serving.{ServesRightly, file_bytes}
 use Rattle.engine_turns.specs.NextRows.{mirror_url}
@@ -94,12 +95,12 @@ piece_within piece low = omega (arith, low)
 piece_many : (piece : ℕ) → piece < 64 → min ((piece + 1) * 1048576) 67108864 - piece * 1048576 ≡ 1048576
 piece_many piece low = omega (arith, low)
 
-pub payload_is : (n : ℕ) (meta : Meta) → meta.plan.total ≡ 67108864 → meta.plan.piece_len ≡ 1048576
-    → meta.digests ≡ digests_of n → IsPayloadOf meta (load_bytes n 67108864)
-payload_is n meta total piece_len digests = record {
+pub payload_is : (n : ℕ) (meta : Meta) (options : OptionValues) → meta.plan.total ≡ 67108864 → meta.plan.piece_len ≡ 1048576
+    → meta.digests ≡ digests_of n → HasChosenPieces meta options (load_bytes n 67108864)
+payload_is n meta options total piece_len digests = record {
   len = load_long n 67108864 ∙ sym total;
-  digests = λ piece below.
-      let low : piece < 64 = subst (λ m. piece < m) (λ i. pieces_of (total i) (piece_len i)) below in
+  digests = λ piece chosen.
+      let low : piece < 64 = subst (λ m. piece < m) (λ i. pieces_of (total i) (piece_len i)) chosen.within in
       ap (λ ds. slice_get ds piece) digests ∙ (digest_at n piece low
       ∙ ap (λ b. Some (sha1 b)) (sym ((λ i. part_at (load_bytes n 67108864) (piece_start (piece_len i) piece)
       (piece_end (total i) (piece_len i) piece - piece_start (piece_len i) piece))
@@ -225,7 +226,7 @@ module _ (n link : ℕ) where
 
   -- ---- all of it
 
-  module _ (meta : Meta) (layout : meta.layout ≡ load_file ∷ []) (total : meta.plan.total ≡ 67108864)
+  module _ (meta : Meta) (options : OptionValues) (layout : meta.layout ≡ load_file ∷ []) (total : meta.plan.total ≡ 67108864)
       (seeds : meta.seeds ≡ codes "http://m0.test/load.bin" ∷ codes "http://m1.test/load.bin" ∷ last_url ∷ []) where
     base_is : mirror_url (Listed meta []) 2 ≡ last_url
     base_is = ap (λ (urls : List (List ℕ)). slice_index_or (urls ++ []) 2 []) seeds
@@ -247,23 +248,23 @@ module _ (n link : ℕ) where
     url_at : (file : ℕ) → file ≡ 0 → seed_url_of meta.layout (mirror_url (Listed meta []) 2) file ≡ last_url
     url_at file is = ap (seed_url_of meta.layout (mirror_url (Listed meta []) 2)) is ∙ url_is
 
-    pub serves_rightly : ServesRightly content (Listed meta []) 2 payload
+    pub serves_rightly : ServesRightly content (Listed meta []) options 2 payload
     serves_rightly = record {
       of = record {
         serves = record {
           total = load_long n 67108864 ∙ sym total;
           laid = ap total_of layout ∙ sym total;
           small = below_max (length payload) (load_long n 67108864);
-          leads = λ file some.
-              let first = only_first file some in
+          leads = λ file asked.
+              let first = only_first file asked.of.some in
               subst (λ url. Leads content redirect_limit url (file_bytes meta.layout payload file)) (sym
               (url_at file first))
               (inl (subst (λ (b : List ℕ). StandsAt content last_url (Bytes b))
               (sym (ap (file_bytes meta.layout payload) first ∙ file_bytes_are)) stands));
         };
         among = λ number. number == 2;
-        leads = λ file some number leads.
-            let first = only_first file some in
+        leads = λ file asked number leads.
+            let first = only_first file asked.of.some in
             ap (λ k. k == 2) (through redirect_limit number
             (subst (λ url. LeadsThrough content redirect_limit url number) (url_at file first) leads));
       };

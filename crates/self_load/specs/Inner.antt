@@ -1,45 +1,46 @@
 -- The run of a load.
 use Rattle.std.specs.Prelude.{◌≡◌, ◌⊎◌, ◌<◌, ◌+◌, ℕ, true, Contains, List, [], ◌∷◌, length}
-use Rattle.brought_runs.specs.Completes.{HadNoFaults, WasCutShort}
 use Rattle.aria_top.specs.RunsTogether.{RunsTogether, edges, edges_left, ended_run}
 use Rattle.aria_top.specs.declared.finished.FinishedRun.{FinishedRun}
+use Rattle.dl_clock.specs.declared.clock.Clock.{Ghosts as ClockSays}
 use Rattle.dl_clock.specs.declared.memory.MemClock.{MemClock}
-use Rattle.dl_disk.specs.MemDisk.{reading}
 use Rattle.dl_disk.specs.declared.disk.Disk.{Ghosts as DiskSays}
-use Rattle.dl_disk.specs.declared.memory.MemDisk.{MemDisk}
 use Rattle.dl_kinds.specs.declared.gid.Gid.{Gid}
 use Rattle.dl_kinds.specs.declared.outside.Sink.{Ghosts as SinkSays}
 use Rattle.door_source.specs.declared.Doors.{Ghosts as DoorSays}
 use Rattle.door_source.specs.declared.memory.MemDoors.{MemDoors}
+use Rattle.engine_turns.specs.RunTurns.{is_nearly_full}
 use Rattle.link_source.specs.declared.Links.{Ghosts as LinkSays}
-use Rattle.link_source.specs.declared.memory.MemLinks.{MemLinks}
 use Rattle.load_parts.specs.Disk.{IsLoadDisk, payload_read}
 use Rattle.load_parts.specs.Links.{IsLoadLink}
 use Rattle.load_parts.specs.Payload.{digests_of, is_right_piece}
+use Rattle.load_parts.specs.Sound.{sound_reading}
 use Rattle.load_parts.specs.Words.{run_words}
 use Rattle.load_parts.specs.declared.links.TheConstants.{LOAD_LINKS}
 use Rattle.load_parts.specs.declared.payload.TheConstants.{PIECES}
 use Rattle.load_parts.specs.declared.sink.UnseenSink.{UnseenSink}
+use Rattle.load_parts.specs.declared.sound_disk.SoundDisk.{SoundDisk}
+use Rattle.load_parts.specs.declared.sound_links.SoundLinks.{SoundLinks}
 use Rattle.machine_core.specs.declared.ends.End.TheVariants.{Complete}
 use Rattle.machine_core.specs.declared.events.Event.TheVariants.{Ended}
-use Rattle.run_report.specs.declared.endings.RunEnding.TheVariants.{Done, NoMemory}
+use Rattle.run_report.specs.declared.endings.RunEnding.TheVariants.{Done, NoMemory, Unfinished}
 use Rattle.self_load.specs.declared.inner.TheConstants.{GIDS}
 
 -- they are the load's links, from one number on
-abbrev pub AreLinksFrom : ℕ → ℕ → List (MemLinks × MemClock) → Type 0
+abbrev pub AreLinksFrom : ℕ → ℕ → List (SoundLinks × MemClock) → Type 0
 AreLinksFrom n first [] = Unit {0}
 AreLinksFrom n first (link ∷ links) = IsLoadLink n first link.0 × AreLinksFrom n (first + 1) links
 
 -- .. all of them
-abbrev pub AreLoadLinks : ℕ → List (MemLinks × MemClock) → Type 0
+abbrev pub AreLoadLinks : ℕ → List (SoundLinks × MemClock) → Type 0
 AreLoadLinks n links = (length links ≡ LOAD_LINKS) × AreLinksFrom n 0 links
 
 -- what is left of a run in memory
 abbrev pub Left : Type 0
-Left = FinishedRun MemDisk MemLinks MemClock MemDoors
+Left = FinishedRun SoundDisk SoundLinks MemClock MemDoors
 
 abbrev pub payload_left : Left → List ℕ
-payload_left left = payload_read (reading left.disk)
+payload_left left = payload_read (sound_reading left.disk)
 
 -- the journal that is left tells that a download is complete
 abbrev pub HasComplete : Left → Type 0
@@ -50,32 +51,32 @@ abbrev pub IsWholePayload : List (List ℕ) → List ℕ → Type 0
 IsWholePayload digests payload =
     (piece : ℕ) → piece < PIECES → is_right_piece digests payload piece ≡ true
 
+-- the run is unfinished, and its journal has fewer free entries than the events of a turn may take
+abbrev pub EndsFull : Left → Type 0
+EndsFull left =
+    (left.ending ≡ Unfinished) × (is_nearly_full left.journal.events.items ≡ true)
+
 -- Its run is done just where its journal has its Complete, unless memory was wanting; and then the
--- payload is whole.
+-- payload is whole. Where it isn't done memory was wanting, or it ended by a full journal.
 pub record EndsAsLoad (n : ℕ) (left : Left) : Type 0 where
   pub complete : left.ending ≡ Done → HasComplete left
   pub done : HasComplete left → (left.ending ≡ Done) ⊎ (left.ending ≡ NoMemory)
   pub whole : left.ending ≡ Done → IsWholePayload (digests_of n) (payload_left left)
+  pub otherwise : (left.ending ≡ Done) ⊎ (left.ending ≡ NoMemory) ⊎ EndsFull left
 
-module _ (disks : DiskSays MemDisk) (links : LinkSays MemLinks) (doors : DoorSays MemDoors)
-    (sinks : SinkSays UnseenSink) where
-  -- What is left of the run of the load's words over its disk and its links, without doors. Where no
-  -- call of the disk or of a link failed it is done, unless memory was wanting, or a worker was cut
-  -- short.
+module _ (disks : DiskSays SoundDisk) (links : LinkSays SoundLinks)
+    (clocks : ClockSays MemClock) (doors : DoorSays MemDoors) (sinks : SinkSays UnseenSink) where
+  -- What is left of the run of the load's words over its disk and its links, without doors.
   pub record IsInnerRun (n : ℕ) (left : Left) : Type 0 where
     pub words : List (List ℕ)
     pub words_are : words ≡ run_words
-    pub disk : MemDisk
+    pub disk : SoundDisk
     pub disk_is : IsLoadDisk (digests_of n) disk
-    pub olds : List (MemLinks × MemClock)
+    pub olds : List (SoundLinks × MemClock)
     pub olds_are : AreLoadLinks n olds
     pub none : List (MemDoors × MemClock)
     pub none_are : none ≡ []
     pub sink : UnseenSink
     pub shown : UnseenSink
-    pub does : RunsTogether disks links doors sinks words GIDS disk (edges olds none) sink
+    pub does : RunsTogether disks links clocks doors sinks words GIDS disk (edges olds none) sink
         (ended_run left) (edges_left left) left.transcripts.items shown
-    pub served :
-        HadNoFaults disks links sinks words disk olds sink (ended_run left) left.links.items shown
-        → (left.ending ≡ Done) ⊎ (left.ending ≡ NoMemory)
-        ⊎ WasCutShort MemDisk links olds left.links.items

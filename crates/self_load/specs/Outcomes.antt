@@ -1,22 +1,24 @@
 -- What comes of a load, and how that is told.
-use Rattle.std.specs.Prelude.{◌≡◌, ◌≢◌, ◌⊎◌, ◌++◌, ℕ, IsTrue, List}
+use Rattle.std.specs.Prelude.{◌≡◌, ◌⊎◌, ◌++◌, ℕ, IsTrue, List}
+use Rattle.dl_clock.specs.declared.clock.Clock.{Ghosts as ClockSays}
+use Rattle.dl_clock.specs.declared.memory.MemClock.{MemClock}
 use Rattle.dl_disk.specs.declared.disk.Disk.{Ghosts as DiskSays}
-use Rattle.dl_disk.specs.declared.memory.MemDisk.{MemDisk}
 use Rattle.dl_kinds.specs.declared.outside.Sink.{Ghosts as SinkSays}
 use Rattle.dl_words.specs.Counts.{Rose}
 use Rattle.door_source.specs.declared.Doors.{Ghosts as DoorSays}
 use Rattle.door_source.specs.declared.memory.MemDoors.{MemDoors}
 use Rattle.link_source.specs.declared.Links.{Ghosts as LinkSays}
-use Rattle.link_source.specs.declared.memory.MemLinks.{MemLinks}
 use Rattle.load_parts.specs.Line.{failed_line, whole_line}
 use Rattle.load_parts.specs.Payload.{digests_of, right_pieces}
 use Rattle.load_parts.specs.declared.payload.TheConstants.{PIECES}
 use Rattle.load_parts.specs.declared.sink.UnseenSink.{UnseenSink}
+use Rattle.load_parts.specs.declared.sound_disk.SoundDisk.{SoundDisk}
+use Rattle.load_parts.specs.declared.sound_links.SoundLinks.{SoundLinks}
 use Rattle.run_report.specs.Endings.{code_of_ending}
 use Rattle.run_report.specs.declared.endings.RunEnding.{RunEnding}
 use Rattle.run_report.specs.declared.endings.RunEnding.TheVariants as ending
 use Rattle.sha1.specs.Sha1.{sha1}
-use Rattle.self_load.specs.Inner.{HasComplete, IsInnerRun, IsWholePayload, Left, payload_left}
+use Rattle.self_load.specs.Inner.{EndsFull, HasComplete, IsInnerRun, IsWholePayload, Left, payload_left}
 use Rattle.self_load.specs.declared.outcome.Outcome.{Outcome}
 use Rattle.self_load.specs.declared.outcome.Outcome.TheVariants.{Counted, Failed}
 
@@ -35,48 +37,51 @@ IsCountOf digests payload (Counted right digest) =
     (right ≡ right_pieces digests payload) × (digest ≡ sha1 payload)
 IsCountOf digests payload (Failed how) = ⊥
 
-module _ (disks : DiskSays MemDisk) (links : LinkSays MemLinks) (doors : DoorSays MemDoors)
-    (sinks : SinkSays UnseenSink) where
+module _ (disks : DiskSays SoundDisk) (links : LinkSays SoundLinks)
+    (clocks : ClockSays MemClock) (doors : DoorSays MemDoors) (sinks : SinkSays UnseenSink) where
   -- Its run was done, and its journal has its Complete. All pieces on its disk are right, and this is
   -- the digest of the payload there.
   pub record IsCounted (n right : ℕ) (digest : List ℕ) : Type 0 where
     pub left : Left
-    pub inner : IsInnerRun disks links doors sinks n left
+    pub inner : IsInnerRun disks links clocks doors sinks n left
     pub done : left.ending ≡ ending.Done
     pub complete : HasComplete left
     pub right_is : right ≡ PIECES
     pub whole : IsWholePayload (digests_of n) (payload_left left)
     pub digest_is : digest ≡ sha1 (payload_left left)
 
-  -- Its run ended so, and wasn't done; its journal has no Complete, unless memory was wanting.
-  pub record IsFailed (n : ℕ) (how : RunEnding) : Type 0 where
+  -- Its run is unfinished, with a full journal, which has no Complete.
+  pub record IsLeftUnfinished (n : ℕ) (how : RunEnding) : Type 0 where
     pub left : Left
-    pub inner : IsInnerRun disks links doors sinks n left
+    pub inner : IsInnerRun disks links clocks doors sinks n left
     pub ended : left.ending ≡ how
-    pub undone : how ≢ ending.Done
-    pub incomplete : HasComplete left → how ≡ ending.NoMemory
+    pub full : EndsFull left
+    pub incomplete : ¬ HasComplete left
 
   -- it comes of the load; nothing shows want of memory
   abbrev pub ComesOf : ℕ → Outcome → Type 0
   ComesOf n (Counted right digest) = IsCounted n right digest
-  ComesOf n (Failed how) = (how ≡ ending.NoMemory) ⊎ IsFailed n how
+  ComesOf n (Failed how) = (how ≡ ending.NoMemory) ⊎ IsLeftUnfinished n how
 
   -- Its run was done, and its journal has its Complete. On its disk each piece has its digest, so
   -- that all are counted.
   pub record IsRightLoad (n : ℕ) : Type 0 where
     pub left : Left
-    pub inner : IsInnerRun disks links doors sinks n left
+    pub inner : IsInnerRun disks links clocks doors sinks n left
     pub done : left.ending ≡ ending.Done
     pub complete : HasComplete left
     pub whole : IsWholePayload (digests_of n) (payload_left left)
     pub all : right_pieces (digests_of n) (payload_left left) ≡ PIECES
 
-  -- the load is done just where the journal of its run has its Complete
+  -- The load is done just where the journal of its run has its Complete, and otherwise it is
+  -- unfinished, and the journal full.
   pub record IsDoneByJournal (n : ℕ) (how : RunEnding) : Type 0 where
     pub left : Left
-    pub inner : IsInnerRun disks links doors sinks n left
+    pub inner : IsInnerRun disks links clocks doors sinks n left
+    pub ended : left.ending ≡ how
     pub complete : how ≡ ending.Done → HasComplete left
     pub done : HasComplete left → how ≡ ending.Done
+    pub otherwise : (how ≡ ending.Done) ⊎ EndsFull left
 
   module _ {O : Type 0} (outs : SinkSays O) where
     -- it is the ending of what came of the load, whose line alone was printed

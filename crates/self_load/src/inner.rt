@@ -5,14 +5,14 @@ ghost use Rattle.self_load.specs.Inner.{AreLoadLinks, EndsAsLoad, IsInnerRun};
 
 use aria_top::{FinishedRun, run};
 use blameless_mirrors::lone_downloads_end_well;
-use dl_clock::MemClock;
-use dl_disk::{Disk, MemDisk};
+use dl_clock::{Clock, MemClock};
+use dl_disk::Disk;
 use dl_kinds::{Digests, NoMemory, Sink};
 use door_source::{Doors, MemDoors};
-use link_source::{Links, MemLinks};
+use link_source::Links;
 use load_parts::{
-    LOAD_LINKS, UnseenSink, load_disk, load_link, load_words, metainfo_files_say_payloads,
-    words_name_load,
+    LOAD_LINKS, SoundDisk, SoundLinks, UnseenSink, load_disk, load_link, load_words,
+    metainfo_files_say_payloads, words_name_load,
 };
 use machine_core::{downloads_are_legal, downloads_stay};
 use run_promises::disks_keep_runs;
@@ -22,12 +22,12 @@ use std::sync::atomic::AtomicBool;
 use std::thread::Threads;
 
 /// What is left of it.
-pub(crate) type Inner = FinishedRun<MemDisk, MemLinks, MemClock, MemDoors>;
+pub(crate) type Inner = FinishedRun<SoundDisk, SoundLinks, MemClock, MemDoors>;
 
 /// What the ids of its downloads are made from.
 pub(crate) const GIDS: u64 = 1;
 
-fn links(alloc: Global, n: u64) -> Result<Vec<(MemLinks, MemClock)>, NoMemory>
+fn links(alloc: Global, n: u64) -> Result<Vec<(SoundLinks, MemClock)>, NoMemory>
     ensures { IfOk result (λ links. AreLoadLinks n links.items) }
 {
     let mut links = Vec::with_capacity(alloc, LOAD_LINKS as usize)?;
@@ -45,8 +45,8 @@ pub(crate) fn run_inner<R: Threads + Wait + Sync>(
     digests: &Digests,
 ) -> Result<Inner, NoMemory>
     requires { digests.now ≡ digests_of n }
-    ensures run { IfOk result (IsInnerRun ⟦<MemDisk as Disk>⟧ ⟦<MemLinks as Links>⟧
-        ⟦<MemDoors as Doors>⟧ ⟦<UnseenSink as Sink>⟧ n) }
+    ensures run { IfOk result (IsInnerRun ⟦<SoundDisk as Disk>⟧ ⟦<SoundLinks as Links>⟧
+        ⟦<MemClock as Clock>⟧ ⟦<MemDoors as Doors>⟧ ⟦<UnseenSink as Sink>⟧ n) }
     ensures ends { IfOk result (EndsAsLoad n) }
 {
     words_name_load();
@@ -54,7 +54,7 @@ pub(crate) fn run_inner<R: Threads + Wait + Sync>(
     downloads_stay();
     downloads_are_legal();
     lone_downloads_end_well();
-    disks_keep_runs::<MemDisk>();
+    disks_keep_runs::<SoundDisk>();
     let words = load_words(alloc)?;
     let disk = load_disk(alloc, digests)?;
     let links = links(alloc, n)?;

@@ -1,17 +1,21 @@
 // What comes of a load, and how that is told.
 ghost use Rattle.std.specs.Prelude.{◌≡◌, IfOk, length, string_bytes};
-ghost use Rattle.dl_disk.specs.MemDisk.{reading};
 ghost use Rattle.load_parts.specs.Disk.{payload_read};
+ghost use Rattle.load_parts.specs.Sound.{sound_reading};
 ghost use Rattle.load_parts.specs.declared.payload.TheConstants.{PIECES};
 ghost use Rattle.self_load.specs.Outcomes.{ComesOf, IsCountOf, ending_of_outcome, line_by};
 
 use crate::inner::run_inner;
 use aria_top::FinishedRun;
-use dl_disk::{Disk, MemDisk};
+use dl_clock::{Clock, MemClock};
+use dl_disk::Disk;
 use dl_kinds::{Digests, NoMemory, Sink};
 use door_source::{Doors, MemDoors};
-use link_source::{Links, MemLinks};
-use load_parts::{UnseenSink, count_right, failed_line, load_digests, payload_on, whole_line};
+use link_source::Links;
+use load_parts::{
+    SoundDisk, SoundLinks, UnseenSink, count_right, failed_line, load_digests, payload_on,
+    whole_line,
+};
 use run_report::RunEnding;
 use sha1::Sha1;
 use std::alloc::{AllocError, Global};
@@ -23,7 +27,7 @@ use std::thread::Threads;
 pub enum Outcome {
     /// Its run was done. So many pieces on its disk are right, and the payload has this digest.
     Counted { right: u64, digest: [u8; 20] },
-    /// Its run ended otherwise, or memory was wanting.
+    /// Memory was wanting, or its run is unfinished.
     Failed(RunEnding),
 }
 
@@ -32,10 +36,10 @@ fn counted<R: Threads + Sync>(
     rt: &R,
     alloc: Global,
     digests: &Digests,
-    disk: &MemDisk,
+    disk: &SoundDisk,
 ) -> Result<Outcome, AllocError>
     requires { length digests.now ≡ PIECES }
-    ensures { IfOk result (IsCountOf digests.now (payload_read (reading disk.now))) }
+    ensures { IfOk result (IsCountOf digests.now (payload_read (sound_reading disk.now))) }
 {
     let payload = payload_on(disk);
     Ok(Outcome::Counted {
@@ -50,8 +54,8 @@ pub(crate) fn load<R: Threads + Wait + Sync>(
     alloc: Global,
     n: u64,
 ) -> Result<Outcome, NoMemory>
-    ensures { IfOk result (ComesOf ⟦<MemDisk as Disk>⟧ ⟦<MemLinks as Links>⟧
-        ⟦<MemDoors as Doors>⟧ ⟦<UnseenSink as Sink>⟧ n) }
+    ensures { IfOk result (ComesOf ⟦<SoundDisk as Disk>⟧ ⟦<SoundLinks as Links>⟧
+        ⟦<MemClock as Clock>⟧ ⟦<MemDoors as Doors>⟧ ⟦<UnseenSink as Sink>⟧ n) }
 {
     let digests = load_digests(alloc, n)?;
     let FinishedRun {

@@ -6,11 +6,12 @@ ghost use Rattle.run_report.specs.declared.endings.RunEnding.TheVariants.{Done};
 ghost use Rattle.self_load.specs.Outcomes.{ComesOf, EndsByJournal, EndsLoad, IsRightLoad, line_by};
 
 use crate::outcome::{Outcome, ending_of, line_of, load};
-use dl_disk::{Disk, MemDisk};
+use dl_clock::{Clock, MemClock};
+use dl_disk::Disk;
 use dl_kinds::{IoErr, Sink};
 use door_source::{Doors, MemDoors};
-use link_source::{Links, MemLinks};
-use load_parts::UnseenSink;
+use link_source::Links;
+use load_parts::{SoundDisk, SoundLinks, UnseenSink};
 use run_report::RunEnding;
 use std::alloc::Global;
 use std::sync::Wait;
@@ -18,8 +19,8 @@ use std::thread::Threads;
 
 // What comes of the load; where memory is wanting, that.
 fn outcome_of<R: Threads + Wait + Sync>(rt: &R, alloc: Global, n: u64) -> Outcome
-    ensures { ComesOf ⟦<MemDisk as Disk>⟧ ⟦<MemLinks as Links>⟧ ⟦<MemDoors as Doors>⟧
-        ⟦<UnseenSink as Sink>⟧ n result }
+    ensures { ComesOf ⟦<SoundDisk as Disk>⟧ ⟦<SoundLinks as Links>⟧ ⟦<MemClock as Clock>⟧
+        ⟦<MemDoors as Doors>⟧ ⟦<UnseenSink as Sink>⟧ n result }
 {
     match load(rt, alloc, n) {
         Ok(outcome) => outcome,
@@ -43,14 +44,15 @@ pub fn run_load<R: Threads + Wait + Sync, O: Sink>(
     n: u64,
     out: &mut O,
 ) -> RunEnding
-    ensures ends { EndsLoad ⟦<MemDisk as Disk>⟧ ⟦<MemLinks as Links>⟧ ⟦<MemDoors as Doors>⟧
-        ⟦<UnseenSink as Sink>⟧ O.Sink n out.old result out.new }
-    // It is done just where the journal of its run has its Complete.
-    ensures journal { EndsByJournal ⟦<MemDisk as Disk>⟧ ⟦<MemLinks as Links>⟧ ⟦<MemDoors as Doors>⟧
-        ⟦<UnseenSink as Sink>⟧ O.Sink n out.old result out.new }
+    ensures ends { EndsLoad ⟦<SoundDisk as Disk>⟧ ⟦<SoundLinks as Links>⟧ ⟦<MemClock as Clock>⟧
+        ⟦<MemDoors as Doors>⟧ ⟦<UnseenSink as Sink>⟧ O.Sink n out.old result out.new }
+    // It is done just where the journal of its run has its Complete, and otherwise unfinished with
+    // a full journal, unless memory was wanting or the output failed.
+    ensures journal { EndsByJournal ⟦<SoundDisk as Disk>⟧ ⟦<SoundLinks as Links>⟧ ⟦<MemClock as Clock>⟧
+        ⟦<MemDoors as Doors>⟧ ⟦<UnseenSink as Sink>⟧ O.Sink n out.old result out.new }
     // Where it is done, every piece on its disk has its digest.
-    ensures right { result ≡ Done → IsRightLoad ⟦<MemDisk as Disk>⟧ ⟦<MemLinks as Links>⟧
-        ⟦<MemDoors as Doors>⟧ ⟦<UnseenSink as Sink>⟧ n }
+    ensures right { result ≡ Done → IsRightLoad ⟦<SoundDisk as Disk>⟧ ⟦<SoundLinks as Links>⟧
+        ⟦<MemClock as Clock>⟧ ⟦<MemDoors as Doors>⟧ ⟦<UnseenSink as Sink>⟧ n }
 {
     let outcome = outcome_of(rt, alloc, n);
     match told(alloc, n, &outcome, out) {

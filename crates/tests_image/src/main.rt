@@ -9,12 +9,11 @@ mod image;
 use aria_top::{FinishedRun, run};
 use claims::first_claims;
 use dl_clock::MemClock;
-use dl_disk::MemDisk;
 use dl_kinds::NoMemory;
 use door_source::MemDoors;
 use gated::GatedLinks;
 use image::{NUMBER, image_links, image_words};
-use load_parts::{UnseenSink, count_right, load_digests, load_disk, payload_on};
+use load_parts::{SoundDisk, UnseenSink, count_right, load_digests, load_disk, payload_on};
 use std::alloc::Global;
 use std::io;
 use std::process::ExitCode;
@@ -22,7 +21,7 @@ use std::sync::Wait;
 use std::sync::atomic::{AtomicBool, AtomicU64};
 use std::thread::Threads;
 
-type Fetched<'a> = FinishedRun<MemDisk, GatedLinks<'a>, MemClock, MemDoors>;
+type Fetched<'a> = FinishedRun<SoundDisk, GatedLinks<'a>, MemClock, MemDoors>;
 
 // What is left of the run.
 fn fetched<'a, R: Threads + Wait + Sync>(
