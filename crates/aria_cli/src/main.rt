@@ -53,7 +53,8 @@ fn download<R: Threads + Wait + Sync>(
     let words = words(rt)?;
     if let Some(n) = load_of(&words) {
         let mut out = StdOut::new(rt.stdout());
-        return Ok(run_load(threads, rt.alloc(), n, &mut out).code());
+        let loaded = run_load(threads, rt.alloc(), n, &mut out);
+        return Ok(loaded.ending.code());
     }
     // Words without a meaning need one link, which isn't used.
     let needs = needs_of(rt.alloc(), &words)?.unwrap_or(Needs {

@@ -12,6 +12,7 @@ use Rattle.load_parts.specs.Payload.{digests_of, right_pieces}
 use Rattle.load_parts.specs.declared.sink.UnseenSink.{UnseenSink}
 use Rattle.load_parts.specs.declared.sound_disk.SoundDisk.{SoundDisk}
 use Rattle.load_parts.specs.declared.sound_links.SoundLinks.{SoundLinks}
+use Rattle.machine_core.specs.declared.journal.Journal.{Journal}
 use Rattle.run_report.specs.declared.endings.RunEnding.{RunEnding}
 use Rattle.run_report.specs.declared.endings.RunEnding.TheVariants as ending
 use Rattle.self_load.specs.Inner.{EndsAsLoad, EndsFull, IsInnerRun, IsWholePayload, Left, payload_left}
@@ -41,9 +42,10 @@ module _ (disks : DiskSays SoundDisk) (links : LinkSays SoundLinks)
       → IsInnerRun disks links clocks doors sinks n left
       → EndsAsLoad n left → left.ending ≡ ending.Done → digests ≡ digests_of n → IsCountOf digests
       (payload_left left) outcome
-      → ComesOf disks links clocks doors sinks n outcome
+      → ComesOf disks links clocks doors sinks n outcome left.journal
   counted_comes n left digests (Counted right digest) inner ends done digests_are is = record {
     left = left;
+    journal_is = refl;
     inner = inner;
     done = done;
     complete = ends.complete done;
@@ -55,11 +57,12 @@ module _ (disks : DiskSays SoundDisk) (links : LinkSays SoundLinks)
   counted_comes n left digests (Failed how) inner ends done digests_are is = absurd is
 
   pub failed_comes : (n : ℕ) (left : Left) → IsInnerRun disks links clocks doors sinks n left → EndsAsLoad n left
-      → left.ending ≢ ending.Done → ComesOf disks links clocks doors sinks n (Failed left.ending)
+      → left.ending ≢ ending.Done → ComesOf disks links clocks doors sinks n (Failed left.ending) left.journal
   failed_comes n left inner ends undone = ⊎_elim (λ (done : left.ending ≡ ending.Done). absurd (undone done))
       (λ more. ⊎_elim (λ (starved : left.ending ≡ ending.NoMemory). inl starved)
       (λ (full : EndsFull left). inr (record {
         left = left;
+        journal_is = refl;
         inner = inner;
         ended = refl;
         full = full;
@@ -68,35 +71,40 @@ module _ (disks : DiskSays SoundDisk) (links : LinkSays SoundLinks)
       })) more) ends.otherwise
 
   -- a load that is done is right
-  pub right_load : (n : ℕ) (outcome : Outcome) (how : RunEnding) → ComesOf disks links clocks doors sinks n outcome
-      → how ≡ ending_of_outcome outcome → how ≡ ending.Done → IsRightLoad disks links clocks doors sinks n
-  right_load n (Counted right digest) how comes how_is done = record {
+  pub right_load : (n : ℕ) (outcome : Outcome) (how : RunEnding) (journal : Journal)
+      → ComesOf disks links clocks doors sinks n outcome journal
+      → how ≡ ending_of_outcome outcome → how ≡ ending.Done → IsRightLoad disks links clocks doors sinks n journal
+  right_load n (Counted right digest) how journal comes how_is done = record {
     left = comes.left;
+    journal_is = comes.journal_is;
     inner = comes.inner;
     done = comes.done;
     complete = comes.complete;
     whole = comes.whole;
     all = all_whole (digests_of n) (payload_left comes.left) comes.whole;
   }
-  right_load n (Failed other) how (inl starved) how_is done =
+  right_load n (Failed other) how journal (inl starved) how_is done =
       absurd (let never : ending.NoMemory ≡ ending.Done = sym starved ∙ sym how_is ∙ done in cc)
-  right_load n (Failed other) how (inr failed) how_is done =
+  right_load n (Failed other) how journal (inr failed) how_is done =
       absurd (unfinished_undone failed.left.ending failed.full.0 (failed.ended ∙ sym how_is ∙ done))
 
   -- .. and done by its journal, unless memory was wanting
-  pub by_journal : (n : ℕ) (outcome : Outcome) (how : RunEnding) → ComesOf disks links clocks doors sinks n outcome
-      → how ≡ ending_of_outcome outcome → IsDoneByJournal disks links clocks doors sinks n how ⊎ (how ≡ ending.NoMemory)
-  by_journal n (Counted right digest) how comes how_is = inl (record {
+  pub by_journal : (n : ℕ) (outcome : Outcome) (how : RunEnding) (journal : Journal)
+      → ComesOf disks links clocks doors sinks n outcome journal → how ≡ ending_of_outcome outcome
+      → IsDoneByJournal disks links clocks doors sinks n how journal ⊎ (how ≡ ending.NoMemory)
+  by_journal n (Counted right digest) how journal comes how_is = inl (record {
     left = comes.left;
+    journal_is = comes.journal_is;
     inner = comes.inner;
     ended = comes.done ∙ sym how_is;
     complete = λ done. comes.complete;
     done = λ told. how_is;
     otherwise = inl how_is;
   })
-  by_journal n (Failed other) how (inl starved) how_is = inr (how_is ∙ starved)
-  by_journal n (Failed other) how (inr failed) how_is = inl (record {
+  by_journal n (Failed other) how journal (inl starved) how_is = inr (how_is ∙ starved)
+  by_journal n (Failed other) how journal (inr failed) how_is = inl (record {
     left = failed.left;
+    journal_is = failed.journal_is;
     inner = failed.inner;
     ended = failed.ended ∙ sym how_is;
     complete = λ done.

@@ -14,6 +14,7 @@ use Rattle.load_parts.specs.declared.payload.TheConstants.{PIECES}
 use Rattle.load_parts.specs.declared.sink.UnseenSink.{UnseenSink}
 use Rattle.load_parts.specs.declared.sound_disk.SoundDisk.{SoundDisk}
 use Rattle.load_parts.specs.declared.sound_links.SoundLinks.{SoundLinks}
+use Rattle.machine_core.specs.declared.journal.Journal.{Journal}
 use Rattle.run_report.specs.Endings.{code_of_ending}
 use Rattle.run_report.specs.declared.endings.RunEnding.{RunEnding}
 use Rattle.run_report.specs.declared.endings.RunEnding.TheVariants as ending
@@ -21,6 +22,7 @@ use Rattle.sha1.specs.Sha1.{sha1}
 use Rattle.self_load.specs.Inner.{EndsFull, HasComplete, IsInnerRun, IsWholePayload, Left, payload_left}
 use Rattle.self_load.specs.declared.outcome.Outcome.{Outcome}
 use Rattle.self_load.specs.declared.outcome.Outcome.TheVariants.{Counted, Failed}
+use Rattle.self_load.specs.declared.running.Loaded.{Loaded}
 
 -- so a load ends of which this comes
 abbrev pub ending_of_outcome : Outcome → RunEnding
@@ -39,10 +41,11 @@ IsCountOf digests payload (Failed how) = ⊥
 
 module _ (disks : DiskSays SoundDisk) (links : LinkSays SoundLinks)
     (clocks : ClockSays MemClock) (doors : DoorSays MemDoors) (sinks : SinkSays UnseenSink) where
-  -- Its run was done, and its journal has its Complete. All pieces on its disk are right, and this is
-  -- the digest of the payload there.
-  pub record IsCounted (n right : ℕ) (digest : List ℕ) : Type 0 where
+  -- Its run was done, and its journal, which is this, has its Complete. All pieces on its disk are
+  -- right, and this is the digest of the payload there.
+  pub record IsCounted (n right : ℕ) (digest : List ℕ) (journal : Journal) : Type 0 where
     pub left : Left
+    pub journal_is : journal ≡ left.journal
     pub inner : IsInnerRun disks links clocks doors sinks n left
     pub done : left.ending ≡ ending.Done
     pub complete : HasComplete left
@@ -50,33 +53,36 @@ module _ (disks : DiskSays SoundDisk) (links : LinkSays SoundLinks)
     pub whole : IsWholePayload (digests_of n) (payload_left left)
     pub digest_is : digest ≡ sha1 (payload_left left)
 
-  -- Its run is unfinished, with a full journal, which has no Complete.
-  pub record IsLeftUnfinished (n : ℕ) (how : RunEnding) : Type 0 where
+  -- Its run is unfinished, with this journal, which is full and has no Complete.
+  pub record IsLeftUnfinished (n : ℕ) (how : RunEnding) (journal : Journal) : Type 0 where
     pub left : Left
+    pub journal_is : journal ≡ left.journal
     pub inner : IsInnerRun disks links clocks doors sinks n left
     pub ended : left.ending ≡ how
     pub full : EndsFull left
     pub incomplete : ¬ HasComplete left
 
   -- it comes of the load; nothing shows want of memory
-  abbrev pub ComesOf : ℕ → Outcome → Type 0
-  ComesOf n (Counted right digest) = IsCounted n right digest
-  ComesOf n (Failed how) = (how ≡ ending.NoMemory) ⊎ IsLeftUnfinished n how
+  abbrev pub ComesOf : ℕ → Outcome → Journal → Type 0
+  ComesOf n (Counted right digest) journal = IsCounted n right digest journal
+  ComesOf n (Failed how) journal = (how ≡ ending.NoMemory) ⊎ IsLeftUnfinished n how journal
 
-  -- Its run was done, and its journal has its Complete. On its disk each piece has its digest, so
-  -- that all are counted.
-  pub record IsRightLoad (n : ℕ) : Type 0 where
+  -- Its run was done, and its journal, which is this, has its Complete. On its disk each piece has its
+  -- digest, so that all are counted.
+  pub record IsRightLoad (n : ℕ) (journal : Journal) : Type 0 where
     pub left : Left
+    pub journal_is : journal ≡ left.journal
     pub inner : IsInnerRun disks links clocks doors sinks n left
     pub done : left.ending ≡ ending.Done
     pub complete : HasComplete left
     pub whole : IsWholePayload (digests_of n) (payload_left left)
     pub all : right_pieces (digests_of n) (payload_left left) ≡ PIECES
 
-  -- The load is done just where the journal of its run has its Complete, and otherwise it is
-  -- unfinished, and the journal full.
-  pub record IsDoneByJournal (n : ℕ) (how : RunEnding) : Type 0 where
+  -- The load is done just where the journal of its run, which is this, has its Complete, and otherwise
+  -- it is unfinished, and the journal full.
+  pub record IsDoneByJournal (n : ℕ) (how : RunEnding) (journal : Journal) : Type 0 where
     pub left : Left
+    pub journal_is : journal ≡ left.journal
     pub inner : IsInnerRun disks links clocks doors sinks n left
     pub ended : left.ending ≡ how
     pub complete : how ≡ ending.Done → HasComplete left
@@ -84,21 +90,21 @@ module _ (disks : DiskSays SoundDisk) (links : LinkSays SoundLinks)
     pub otherwise : (how ≡ ending.Done) ⊎ EndsFull left
 
   module _ {O : Type 0} (outs : SinkSays O) where
-    -- it is the ending of what came of the load, whose line alone was printed
-    pub record IsToldLoad (n : ℕ) (out : O) (how : RunEnding) (out' : O) : Type 0 where
+    -- it has the ending of what came of the load, whose line alone was printed
+    pub record IsToldLoad (n : ℕ) (out : O) (loaded : Loaded) (out' : O) : Type 0 where
       pub outcome : Outcome
-      pub comes : ComesOf n outcome
-      pub ending_is : how ≡ ending_of_outcome outcome
+      pub comes : ComesOf n outcome loaded.journal
+      pub ending_is : loaded.ending ≡ ending_of_outcome outcome
       pub line : IsTrue outs.tells → outs.taken out' ≡ outs.taken out ++ line_by n outcome
 
     -- that, or memory was wanting, or the output failed
-    abbrev pub EndsLoad : ℕ → O → RunEnding → O → Type 0
-    EndsLoad n out how out' =
-        IsToldLoad n out how out' ⊎ (how ≡ ending.NoMemory)
-        ⊎ ((how ≡ ending.SinkFault) × Rose (outs.faults out) (outs.faults out'))
+    abbrev pub EndsLoad : ℕ → O → Loaded → O → Type 0
+    EndsLoad n out loaded out' =
+        IsToldLoad n out loaded out' ⊎ (loaded.ending ≡ ending.NoMemory)
+        ⊎ ((loaded.ending ≡ ending.SinkFault) × Rose (outs.faults out) (outs.faults out'))
 
     -- it is done by its journal, or memory was wanting, or the output failed
-    abbrev pub EndsByJournal : ℕ → O → RunEnding → O → Type 0
-    EndsByJournal n out how out' =
-        IsDoneByJournal n how ⊎ (how ≡ ending.NoMemory)
-        ⊎ ((how ≡ ending.SinkFault) × Rose (outs.faults out) (outs.faults out'))
+    abbrev pub EndsByJournal : ℕ → O → Loaded → O → Type 0
+    EndsByJournal n out loaded out' =
+        IsDoneByJournal n loaded.ending loaded.journal ⊎ (loaded.ending ≡ ending.NoMemory)
+        ⊎ ((loaded.ending ≡ ending.SinkFault) × Rose (outs.faults out) (outs.faults out'))

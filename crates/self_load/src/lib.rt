@@ -7,4 +7,4 @@ mod running;
 
 pub use load_parts::load_of;
 pub use outcome::Outcome;
-pub use running::run_load;
+pub use running::{Loaded, run_load};

@@ -16,6 +16,7 @@ use load_parts::{
     SoundDisk, SoundLinks, UnseenSink, count_right, failed_line, load_digests, payload_on,
     whole_line,
 };
+use machine_core::Journal;
 use run_report::RunEnding;
 use sha1::Sha1;
 use std::alloc::{AllocError, Global};
@@ -29,6 +30,12 @@ pub enum Outcome {
     Counted { right: u64, digest: [u8; 20] },
     /// Memory was wanting, or its run is unfinished.
     Failed(RunEnding),
+}
+
+/// What comes of a load, and the journal of its run.
+pub(crate) struct Came {
+    pub(crate) outcome: Outcome,
+    pub(crate) journal: Journal,
 }
 
 // What the disk shows behind a run that was done.
@@ -53,9 +60,10 @@ pub(crate) fn load<R: Threads + Wait + Sync>(
     rt: &R,
     alloc: Global,
     n: u64,
-) -> Result<Outcome, NoMemory>
-    ensures { IfOk result (ComesOf ⟦<SoundDisk as Disk>⟧ ⟦<SoundLinks as Links>⟧
-        ⟦<MemClock as Clock>⟧ ⟦<MemDoors as Doors>⟧ ⟦<UnseenSink as Sink>⟧ n) }
+) -> Result<Came, NoMemory>
+    ensures { IfOk result (λ came. ComesOf ⟦<SoundDisk as Disk>⟧ ⟦<SoundLinks as Links>⟧
+        ⟦<MemClock as Clock>⟧ ⟦<MemDoors as Doors>⟧ ⟦<UnseenSink as Sink>⟧ n came.outcome
+        came.journal) }
 {
     let digests = load_digests(alloc, n)?;
     let FinishedRun {
@@ -64,11 +72,17 @@ pub(crate) fn load<R: Threads + Wait + Sync>(
         links: _links,
         doors: _doors,
         transcripts: _transcripts,
-        journal: _journal,
+        journal,
     } = run_inner(rt, alloc, n, &digests)?;
     match ending {
-        RunEnding::Done => Ok(counted(rt, alloc, &digests, &disk)?),
-        _ => Ok(Outcome::Failed(ending)),
+        RunEnding::Done => {
+            let outcome = counted(rt, alloc, &digests, &disk)?;
+            Ok(Came { outcome, journal })
+        }
+        _ => Ok(Came {
+            outcome: Outcome::Failed(ending),
+            journal,
+        }),
     }
 }
 

@@ -5,26 +5,38 @@ ghost use Rattle.dl_kinds.specs.Sinks.{Takes};
 ghost use Rattle.run_report.specs.declared.endings.RunEnding.TheVariants.{Done};
 ghost use Rattle.self_load.specs.Outcomes.{ComesOf, EndsByJournal, EndsLoad, IsRightLoad, line_by};
 
-use crate::outcome::{Outcome, ending_of, line_of, load};
+use crate::outcome::{Came, Outcome, ending_of, line_of, load};
 use dl_clock::{Clock, MemClock};
 use dl_disk::Disk;
 use dl_kinds::{IoErr, Sink};
 use door_source::{Doors, MemDoors};
 use link_source::Links;
 use load_parts::{SoundDisk, SoundLinks, UnseenSink};
+use machine_core::Journal;
 use run_report::RunEnding;
 use std::alloc::Global;
 use std::sync::Wait;
 use std::thread::Threads;
 
+/// What is left of a load.
+#[derive(Debug, Drop)]
+pub struct Loaded {
+    pub ending: RunEnding,
+    /// The journal of its run. It is empty where memory was wanting before that.
+    pub journal: Journal,
+}
+
 // What comes of the load; where memory is wanting, that.
-fn outcome_of<R: Threads + Wait + Sync>(rt: &R, alloc: Global, n: u64) -> Outcome
+fn came_of<R: Threads + Wait + Sync>(rt: &R, alloc: Global, n: u64) -> Came
     ensures { ComesOf ⟦<SoundDisk as Disk>⟧ ⟦<SoundLinks as Links>⟧ ⟦<MemClock as Clock>⟧
-        ⟦<MemDoors as Doors>⟧ ⟦<UnseenSink as Sink>⟧ n result }
+        ⟦<MemDoors as Doors>⟧ ⟦<UnseenSink as Sink>⟧ n result.outcome result.journal }
 {
     match load(rt, alloc, n) {
-        Ok(outcome) => outcome,
-        Err(_) => Outcome::Failed(RunEnding::NoMemory),
+        Ok(came) => came,
+        Err(_) => Came {
+            outcome: Outcome::Failed(RunEnding::NoMemory),
+            journal: Journal::new(alloc),
+        },
     }
 }
 
@@ -43,21 +55,31 @@ pub fn run_load<R: Threads + Wait + Sync, O: Sink>(
     alloc: Global,
     n: u64,
     out: &mut O,
-) -> RunEnding
+) -> Loaded
     ensures ends { EndsLoad ⟦<SoundDisk as Disk>⟧ ⟦<SoundLinks as Links>⟧ ⟦<MemClock as Clock>⟧
         ⟦<MemDoors as Doors>⟧ ⟦<UnseenSink as Sink>⟧ O.Sink n out.old result out.new }
-    // It is done just where the journal of its run has its Complete, and otherwise unfinished with
-    // a full journal, unless memory was wanting or the output failed.
+    // It is done just where the journal of its run, which is handed back, has its Complete, and otherwise
+    // unfinished with a full journal, unless memory was wanting or the output failed.
     ensures journal { EndsByJournal ⟦<SoundDisk as Disk>⟧ ⟦<SoundLinks as Links>⟧ ⟦<MemClock as Clock>⟧
         ⟦<MemDoors as Doors>⟧ ⟦<UnseenSink as Sink>⟧ O.Sink n out.old result out.new }
     // Where it is done, every piece on its disk has its digest.
-    ensures right { result ≡ Done → IsRightLoad ⟦<SoundDisk as Disk>⟧ ⟦<SoundLinks as Links>⟧
-        ⟦<MemClock as Clock>⟧ ⟦<MemDoors as Doors>⟧ ⟦<UnseenSink as Sink>⟧ n }
+    ensures right { result.ending ≡ Done → IsRightLoad ⟦<SoundDisk as Disk>⟧
+        ⟦<SoundLinks as Links>⟧ ⟦<MemClock as Clock>⟧ ⟦<MemDoors as Doors>⟧ ⟦<UnseenSink as Sink>⟧ n
+        result.journal }
 {
-    let outcome = outcome_of(rt, alloc, n);
+    let Came { outcome, journal } = came_of(rt, alloc, n);
     match told(alloc, n, &outcome, out) {
-        Ok(()) => ending_of(&outcome),
-        Err(IoErr::Fault) => RunEnding::SinkFault,
-        Err(IoErr::NoMemory) => RunEnding::NoMemory,
+        Ok(()) => Loaded {
+            ending: ending_of(&outcome),
+            journal,
+        },
+        Err(IoErr::Fault) => Loaded {
+            ending: RunEnding::SinkFault,
+            journal,
+        },
+        Err(IoErr::NoMemory) => Loaded {
+            ending: RunEnding::NoMemory,
+            journal,
+        },
     }
 }

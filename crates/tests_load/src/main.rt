@@ -13,11 +13,11 @@ const NUMBER: u64 = 1;
 fn load<R: Threads + Wait + Sync>(threads: &R, rt: &HostRuntime) -> io::Result<u8> {
     let alloc = rt.alloc();
     let mut out = MemSink::new(alloc, Vec::new(alloc));
-    let ending = run_load(threads, alloc, NUMBER, &mut out);
+    let loaded = run_load(threads, alloc, NUMBER, &mut out);
     if let Ok(line) = std::str::from_utf8(out.bytes()) {
         print!(rt; "{line}")?;
     }
-    Ok(ending.code())
+    Ok(loaded.ending.code())
 }
 
 fn main(rt: HostRuntime) -> ExitCode {

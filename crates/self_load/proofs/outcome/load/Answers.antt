@@ -8,9 +8,9 @@ counted-requires-after_bounds g c κs within = ap length c.in_ok-digests.ensures
 
 pub returns-in-Done : goal.returns-in-Done
 returns-in-Done g c =
-    counted_comes _ _ _ _ _ c.args.n c.in_ok-ending.field-0 c.in_ok-digests.digests c.in_ok-counted-in-Done.field-0
+    counted_comes _ _ _ _ _ c.args.n c.in_ok-ending.field-0 c.in_ok-digests.digests c.in_ok-outcome-in-Done.outcome
     c.in_ok-ending.ensures.run c.in_ok-ending.ensures.ends c.in-Done.is c.in_ok-digests.ensures
-    c.in_ok-counted-in-Done.ensures
+    c.in_ok-outcome-in-Done.ensures
 
 pub returns : goal.returns
 returns g c =
