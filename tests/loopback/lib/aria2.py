@@ -1,6 +1,7 @@
 """aria2 beside the program: it is stopped in the midst of a download, and goes on with one."""
 import signal
 import subprocess
+import threading
 import time
 
 from lib.controls import BLOCK
@@ -26,14 +27,15 @@ class Stalling(Site):
 
     def __init__(self, files, most):
         super().__init__(files)
-        self.left = most
+        self.left, self.lock = most, threading.Lock()
 
     def converse(self, connection):
         while asked := one_request(connection):
             self.requests.append(asked)
             begin, _, content = self.answer(asked).partition(b"\r\n\r\n")
-            given = content[: self.left]
-            self.left -= len(given)
+            with self.lock:
+                given = content[: self.left]
+                self.left -= len(given)
             connection.sendall(begin + b"\r\n\r\n" + given)
             if len(given) < len(content):
                 rest_of(connection)
