@@ -235,13 +235,14 @@ def _(room):
 def _(room):
     room.unlisted()
     empty = hashlib.sha1(b"").hexdigest()
+    other = LONG[:-1] + bytes([LONG[-1] ^ 1])
     with Site({"/a.bin": b"", "/b": LONG}) as site:
         room.fetches(b"", "a.bin", words=[f"--checksum=sha-1={empty}", uri(site)])
         room.fails(32, b"", 0, "a.bin", words=[f"--checksum=sha-1={empty[1:]}0", uri(site)])
         for digest, content, status in (
             (LONG, LONG, 0),
-            (LONG, LONG[:-1] + b"x", 32),
-            (LONG[:-1] + b"x", LONG[:-1] + b"x", 0),
+            (LONG, other, 32),
+            (other, other, 0),
         ):
             site.requests.clear()
             room.put("b", content)
