@@ -9,7 +9,7 @@ import sys
 
 from lib import controls
 from lib.torrents import bencoded, info_of, whole, written
-from lib.wants import Wrong, want
+from lib.wants import Skipped, Wrong, want
 
 TOP = os.path.realpath(f"{os.path.dirname(__file__)}/../../..")
 BUILT = f"{TOP}/crates/aria_cli/out/aria_cli"
@@ -38,6 +38,13 @@ BY_MIB = ("--split=64", "--min-split-size=1M", *ONCE)
 
 # The statuses of a download that was opened and that no mirror could complete.
 LOST = {3, 6, 22, 23, 24, 29, 32}
+
+
+def built(program):
+    """A program that tests alone need, where it is built."""
+    if not os.access(program, os.X_OK):
+        raise Skipped(f"it needs {os.path.basename(program)}, which isn't built: rt ci makes it")
+    return program
 
 
 def case(name, *needs, slow=False, alone=False):
@@ -152,7 +159,7 @@ class Room:
         it is the run without threads.
         """
         if program == PROGRAM and (self.is_alone or "--split=64" in words):
-            program = ALONE
+            program = built(ALONE)
         elif not any(str(it).startswith(("--split", "-s")) for it in words):
             words = ("--split=1", *words)
         begin = ["sh", "-c", f'{shell}\nexec "$@"', "sh"] if shell else []
@@ -192,7 +199,7 @@ class Room:
     def store(self, *words):
         """What the store tells of each of these words about the download of the metainfo file, in this folder."""
         ran = subprocess.run(
-            [STORE, "t.torrent", ".", *words],
+            [built(STORE), "t.torrent", ".", *words],
             cwd=self.folder,
             stdin=subprocess.DEVNULL,
             capture_output=True,
