@@ -3,7 +3,7 @@ use Rattle.std.proofs.Common.{◌≡◌, ⊎_elim, ℕ, zero, suc, Bool, true, f
 use Rattle.std.specs.Prelude.{◌+◌, All, Contains, if◌then◌else◌}
 use Rattle.std.proofs.lemmas.Bool.{eq-eqb, false≢true}
 use Rattle.std.proofs.lemmas.List.Elements.{All-head, All-tail, Contains-append_right}
-use Rattle.brought_runs.proofs.TurnLists.{behind, first_or_later, here, none_there}
+use Rattle.served_runs.proofs.TurnLists.{behind, first_or_later, here, none_there}
 use Rattle.console_session.specs.CallTurns.{IsOfSession, call_turns, is_call, reply_places}
 use Rattle.console_session.specs.SessionLaws.{call_places_from, calls_by, is_call_of, turns_calling}
 use Rattle.dl_kinds.specs.declared.runs.Moment.{Moment}

@@ -5,11 +5,11 @@ use Rattle.std.proofs.Math.Dec.{ltb}
 use Rattle.std.proofs.lemmas.Bool.{eqb-true, false≢true, ltb-false, ltb-true}
 use Rattle.std.proofs.lemmas.List.{reverse-reverse}
 use Rattle.std.proofs.lemmas.List.Elements.{All-contains, Contains-append_cases, Contains-push_cases, filter-append}
-use Rattle.brought_runs.proofs.ToldRuns.{all_reversed}
-use Rattle.brought_runs.proofs.TurnLists.{none_there}
-use Rattle.brought_runs.proofs.WorkEnds.{worked_work}
-use Rattle.brought_runs.proofs.Workers.{is_stopping}
-use Rattle.brought_runs.specs.Over.{IsWork}
+use Rattle.served_runs.proofs.ToldRuns.{all_reversed}
+use Rattle.served_runs.proofs.TurnLists.{none_there}
+use Rattle.served_runs.proofs.WorkEnds.{worked_work}
+use Rattle.served_runs.proofs.Workers.{is_stopping}
+use Rattle.served_runs.specs.Over.{IsWork}
 use Rattle.console_session.specs.CallTurns.{IsOfSession, reply_places}
 use Rattle.console_session.specs.SessionLaws.{CallsStandWhereReplied, call_places, calls_by, turns_calling}
 use Rattle.console_session.specs.declared.serving.Transcript.{Transcript}

@@ -2,8 +2,8 @@
 use Rattle.std.proofs.Common.{◌≡◌, ◌⊎◌, inl, inr, ⊎_elim, ℕ, Bool, true, false, List, [], ◌∷◌, ◌++◌, Some, length, map, refl, sym, ap, ◌∙◌, subst, arith, slice_get}
 use Rattle.std.specs.Prelude.{◌||◌, ◌+◌, if◌then◌else◌, All, Contains}
 use Rattle.std.proofs.lemmas.List.Elements.{All-head, All-tail, Contains-append_cases, Contains-append_left, Contains-push_cases}
-use Rattle.brought_runs.proofs.TurnLists.{behind, here}
-use Rattle.brought_runs.proofs.Workers.{ends_so}
+use Rattle.served_runs.proofs.TurnLists.{behind, here}
+use Rattle.served_runs.proofs.Workers.{ends_so}
 use Rattle.console_session.specs.CallTurns.{IsOfSession, call_turns, is_call, places_by, reply_places}
 use Rattle.console_session.specs.SessionLaws.{CallsStandWhereReplied, RepliesAreOfTheHistory, call_places}
 use Rattle.console_session.specs.declared.serving.Transcript.{Transcript}

@@ -6,8 +6,8 @@ use Rattle.std.proofs.Math.Dec.{ltb}
 use Rattle.std.proofs.lemmas.Bool.{false≢true, ltb-false, ltb-true}
 use Rattle.std.proofs.lemmas.List.{length-append}
 use Rattle.std.proofs.lemmas.List.Elements.{All-contains, Contains-append_left, Contains-append_right, Contains-push_cases}
-use Rattle.brought_runs.proofs.TurnLists.{none_there}
-use Rattle.brought_runs.specs.Over.{IsOfWorker, IsRunOver, IsWork, RanOverLinks, WorkedOver}
+use Rattle.served_runs.proofs.TurnLists.{none_there}
+use Rattle.served_runs.specs.Over.{IsOfWorker, IsRunOver, IsWork, RanOverLinks, WorkedOver}
 use Rattle.console_session.specs.CallTurns.{IsOfSession}
 use Rattle.console_session.specs.declared.serving.Transcript.{Transcript}
 use Rattle.desk_seats.specs.Uses.{Use}

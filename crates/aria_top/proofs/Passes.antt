@@ -2,7 +2,7 @@
 use Rattle.std.proofs.Common.{◌≡◌, ⊎_elim, ℕ, zero, suc, Bool, true, false, List, [], ◌∷◌, ◌++◌, Option, None, Some, cond, eq-eqb, eqb, refl, sym, ap, ◌∙◌, subst, arith}
 use Rattle.std.specs.Prelude.{Contains}
 use Rattle.std.proofs.lemmas.Bool.{eqb-true}
-use Rattle.brought_runs.proofs.TurnLists.{behind, first_or_later, here, none_there}
+use Rattle.served_runs.proofs.TurnLists.{behind, first_or_later, here, none_there}
 use Rattle.engine_turns.specs.Told.{RunTurn}
 use Rattle.machine_core.specs.declared.calls.Call.{Call}
 use Rattle.run_frame.specs.Begins.{IsOwnCall}

@@ -1,10 +1,10 @@
 // A run over all links and doors.
 ghost use Rattle.std.specs.Prelude.{◌≡◌, ◌≤◌, ◌||◌, false, IsTrue, length, map, string_bytes};
-ghost use Rattle.brought_runs.specs.Completes.{CompletesServed};
-ghost use Rattle.brought_runs.specs.CompletesUris.{CompletesUris};
-ghost use Rattle.brought_runs.specs.LinksCauses.{ShowsLinks};
-ghost use Rattle.brought_runs.specs.Served.{SparesServing};
-ghost use Rattle.brought_runs.specs.Unfinished.{ShowsUnfinished};
+ghost use Rattle.served_runs.specs.Completes.{CompletesServed};
+ghost use Rattle.served_runs.specs.CompletesUris.{CompletesUris};
+ghost use Rattle.served_runs.specs.LinksCauses.{ShowsLinks};
+ghost use Rattle.served_runs.specs.Served.{SparesServing};
+ghost use Rattle.served_runs.specs.Unfinished.{ShowsUnfinished};
 ghost use Rattle.run_frame.specs.DiskCauses.{LeavesOtherFiles, ShowsDisk};
 ghost use Rattle.run_frame.specs.Endings.{EndsAsShown};
 ghost use Rattle.run_frame.specs.Histories.{IsHistory};
@@ -18,7 +18,7 @@ ghost use Rattle.aria_top.specs.Together.{ComesFirst};
 
 use crate::finished::FinishedRun;
 use crate::work::{Work, work_through};
-use brought_runs::{
+use served_runs::{
     runs_complete_uris, runs_complete_what_is_served, runs_show_their_links,
     runs_show_why_unfinished, runs_spare_serving_mirrors,
 };

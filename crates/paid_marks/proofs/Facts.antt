@@ -22,8 +22,8 @@ use Rattle.run_frame.proofs.Rows.{turn_brings}
 use Rattle.span_map.specs.declared.jobs.Job.{Job}
 use Rattle.blameless_mirrors.specs.Blameless.{HasFailedLink}
 use Rattle.blameless_mirrors.proofs.ListedLengths.{known_listed}
-use Rattle.served_claims.proofs.Histories.{CameAt, brought_there, granted_at, landed_came, may_at, probe_unlisted, there_on}
-use Rattle.served_claims.proofs.Working.{OfGrant}
+use Rattle.served_runs.proofs.ServedHistories.{CameAt, brought_there, granted_at, landed_came, may_at, probe_unlisted, there_on}
+use Rattle.served_runs.proofs.Working.{OfGrant}
 use Rattle.paid_marks.specs.Holding.{HoldsPiece}
 use Rattle.paid_marks.specs.Paid.{lengths_of_meta}
 use Rattle.paid_marks.proofs.Fetch.{IsJobFor, PayingLaws}

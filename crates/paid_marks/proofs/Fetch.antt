@@ -41,7 +41,7 @@ use Rattle.span_map.specs.declared.files.Part.{Part}
 use Rattle.span_map.specs.declared.jobs.Job.{Job}
 use Rattle.span_map.specs.declared.jobs.JobPart.{JobPart}
 use Rattle.stored_run.proofs.PartBytes.{starts_rise}
-use Rattle.served_claims.proofs.Chosen.{below_right, byte_of_piece}
+use Rattle.served_runs.proofs.Chosen.{below_right, byte_of_piece}
 use Rattle.paid_marks.specs.Holding.{HoldsPiece}
 use Rattle.paid_marks.specs.Paid.{HasRightBytes, lengths_of_meta}
 use Rattle.paid_marks.proofs.Differs.{differing_none, next_at}

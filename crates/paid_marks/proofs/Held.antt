@@ -12,8 +12,8 @@ use Rattle.conn_worker.specs.Table.{FollowsAnswer, FollowsDelivery, FollowsFetch
 use Rattle.conn_worker.specs.declared.hands.Gain.{Gain}
 use Rattle.conn_worker.specs.declared.hands.Gain.TheVariants.{Lost, Open, Ready, Starved}
 use Rattle.conn_worker.proofs.Allowing.{fetch_followed, nothing_followed, probe_followed, seal_followed}
-use Rattle.served_claims.proofs.Working.{GrantedBy, OfGrant, Reached, StandsBehind}
-use Rattle.served_claims.proofs.Answered.{answered_by, answered_on}
+use Rattle.served_runs.proofs.Working.{GrantedBy, OfGrant, Reached, StandsBehind}
+use Rattle.served_runs.proofs.Answered.{answered_by, answered_on}
 
 granted_later : (turns : List RunTurn) (t : RunTurn) (granted : Grant) → GrantedBy turns granted
     → GrantedBy (turns ++ t ∷ []) granted

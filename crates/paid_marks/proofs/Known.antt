@@ -17,7 +17,7 @@ use Rattle.memory_serving_laws.specs.Serving.{UrlLeadsAmong}
 use Rattle.metainfo.specs.Jobs.{len_of_file, mirror_part}
 use Rattle.metainfo.specs.Urls.{seed_url_of}
 use Rattle.request_chain.specs.Redirects.{redirect_limit}
-use Rattle.served_claims.specs.Serving.{file_bytes}
+use Rattle.served_runs.specs.Serving.{file_bytes}
 use Rattle.span_map.specs.Layout.{total_of}
 use Rattle.span_map.specs.Slices.{Fills, IsPart, PartsHoldSlices, part_bytes, slice_of}
 use Rattle.span_map.specs.declared.files.FileLen.{FileLen}

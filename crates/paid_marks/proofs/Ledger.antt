@@ -35,7 +35,7 @@ use Rattle.mirror_blame.specs.Marks.{IsEligible, is_of}
 use Rattle.mirror_blame.specs.declared.blame.Blame.{Blame}
 use Rattle.piece_table.specs.declared.giver.Giver.TheVariants.{One}
 use Rattle.run_frame.proofs.Rows.{turn_brings}
-use Rattle.served_claims.specs.Laws.{UsesClaim}
+use Rattle.served_runs.specs.ServingLaws.{UsesClaim}
 use Rattle.stored_run.proofs.Doing.{history_on, own_grows_on}
 use Rattle.stored_run.proofs.Left.{one_of}
 use Rattle.stored_run.proofs.PlainEvents.{gid_added}

@@ -9,7 +9,7 @@ use Rattle.link_source.specs.Mirrors.{Content, UsesBadAnswer}
 use Rattle.link_source.specs.declared.bad_answers.Bad.{Bad}
 use Rattle.memory_serving_laws.specs.Serving.{used_among}
 use Rattle.request_chain.specs.Answered.{Gave, GaveAll}
-use Rattle.served_claims.specs.Answering.{HasAnswered}
+use Rattle.served_runs.specs.Answering.{HasAnswered}
 use Rattle.paid_marks.specs.Holding.{bad_among}
 
 module _ (among : ℕ → Bool) where

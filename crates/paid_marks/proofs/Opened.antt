@@ -53,8 +53,8 @@ use Rattle.blameless_mirrors.specs.Lone.{HasNoDiskFault}
 use Rattle.blameless_mirrors.proofs.ListedLengths.{known_listed}
 use Rattle.blameless_mirrors.proofs.Parts.{delivered_part}
 use Rattle.blameless_mirrors.proofs.Rows.{of_each}
-use Rattle.served_claims.proofs.Histories.{brought_there, legal_on, may_at}
-use Rattle.served_claims.proofs.Working.{StandsBehind}
+use Rattle.served_runs.proofs.ServedHistories.{brought_there, legal_on, may_at}
+use Rattle.served_runs.proofs.Working.{StandsBehind}
 use Rattle.paid_marks.proofs.Ledger.{there_after}
 use Rattle.paid_marks.proofs.Opening.{ClaimsNot, all_landed, find_from, lands_for, none_broken, open_after}
 use Rattle.paid_marks.proofs.Paying.{found_or_none}

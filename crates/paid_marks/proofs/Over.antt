@@ -22,8 +22,8 @@ use Rattle.machine_core.specs.Starts.{Download, Listed, RunStart}
 use Rattle.machine_core.specs.declared.events.Event.TheVariants.{Lost}
 use Rattle.metainfo.specs.declared.meta.Meta.{Meta}
 use Rattle.blameless_mirrors.specs.Blameless.{HasFailedLink}
-use Rattle.served_claims.specs.Answering.{HasAnswered}
-use Rattle.served_claims.proofs.Working.{StandsBehind}
+use Rattle.served_runs.specs.Answering.{HasAnswered}
+use Rattle.served_runs.proofs.Working.{StandsBehind}
 use Rattle.paid_marks.specs.Holding.{HoldsPiece}
 use Rattle.paid_marks.proofs.Facts.{turn_facts}
 use Rattle.paid_marks.proofs.Fetch.{PayingLaws}

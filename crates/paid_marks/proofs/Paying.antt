@@ -45,11 +45,11 @@ use Rattle.request_chain.specs.Links.{CountsLinkLoss}
 use Rattle.request_chain.specs.Plans as plans
 use Rattle.span_map.specs.declared.jobs.Job.{Job}
 use Rattle.stored_run.proofs.Left.{one_of}
-use Rattle.served_claims.specs.Answering.{HasAnswered}
-use Rattle.served_claims.specs.Laws.{UsesClaim}
-use Rattle.served_claims.proofs.Answered.{answered_by}
-use Rattle.served_claims.proofs.Fronts.{IsToldOf, due_of, told_of}
-use Rattle.served_claims.proofs.Working.{HoldsProbe, OfGrant, StandsBehind}
+use Rattle.served_runs.specs.Answering.{HasAnswered}
+use Rattle.served_runs.specs.ServingLaws.{UsesClaim}
+use Rattle.served_runs.proofs.Answered.{answered_by}
+use Rattle.served_runs.proofs.Fronts.{IsToldOf, due_of, told_of}
+use Rattle.served_runs.proofs.Working.{HoldsProbe, OfGrant, StandsBehind}
 use Rattle.paid_marks.specs.Holding.{HoldsPiece}
 use Rattle.paid_marks.specs.Paid.{CostAtMost, HasRightBytes, IsRightFor, lengths_of_meta}
 use Rattle.paid_marks.proofs.Differs.{differing_both}

@@ -18,9 +18,9 @@ use Rattle.machine_core.specs.declared.events.Event.TheVariants.{Lost}
 use Rattle.metainfo.specs.declared.meta.Meta.{Meta}
 use Rattle.run_frame.proofs.Rows.{turn_brings}
 use Rattle.blameless_mirrors.specs.Blameless.{HasFailedLink}
-use Rattle.served_claims.specs.Laws.{UsesClaim}
-use Rattle.served_claims.proofs.Histories.{may_at}
-use Rattle.served_claims.proofs.Working.{StandsBehind, stands_first}
+use Rattle.served_runs.specs.ServingLaws.{UsesClaim}
+use Rattle.served_runs.proofs.ServedHistories.{may_at}
+use Rattle.served_runs.proofs.Working.{StandsBehind, stands_first}
 use Rattle.paid_marks.specs.Holding.{HoldsPiece, bad_among}
 use Rattle.paid_marks.specs.Paid.{AffordedNeverDie, CostAtMost, IsRightFor}
 use Rattle.paid_marks.specs.Served.{IsWorkOfOne, ServedNeverDie}

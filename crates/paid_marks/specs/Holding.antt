@@ -6,7 +6,7 @@ use Rattle.memory_serving_laws.specs.Serving.{UrlLeadsAmong}
 use Rattle.metainfo.specs.Urls.{seed_url_of}
 use Rattle.metainfo.specs.declared.meta.Meta.{Meta}
 use Rattle.request_chain.specs.Redirects.{redirect_limit}
-use Rattle.served_claims.specs.Serving.{IsFileOfPiece, file_bytes}
+use Rattle.served_runs.specs.Serving.{IsFileOfPiece, file_bytes}
 use Rattle.span_map.specs.Layout.{total_of}
 use Rattle.paid_marks.specs.Paid.{HasPiece}
 

@@ -21,7 +21,7 @@ use Rattle.mirror_payloads.specs.Faithful.{run_begin, run_finish}
 use Rattle.sha1.specs.Sha1.{sha1}
 use Rattle.blameless_mirrors.specs.Blameless.{IsListedAlone, IsToldRun, piece_bytes}
 use Rattle.blameless_mirrors.specs.Lone.{HasNoDiskFault, HaveMemory}
-use Rattle.served_claims.specs.Laws.{UsesClaim}
+use Rattle.served_runs.specs.ServingLaws.{UsesClaim}
 
 -- ---- a piece
 

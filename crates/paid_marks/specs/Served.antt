@@ -18,8 +18,8 @@ use Rattle.machine_core.specs.declared.events.Event.TheVariants.{Ended}
 use Rattle.metainfo.specs.declared.meta.Meta.{Meta}
 use Rattle.blameless_mirrors.specs.Blameless.{HasFailedLink}
 use Rattle.blameless_mirrors.specs.Lone.{IsOnly, LacksControlFirst}
-use Rattle.served_claims.specs.Answering.{WorksOver}
-use Rattle.served_claims.specs.Laws.{UsesClaim}
+use Rattle.served_runs.specs.Answering.{WorksOver}
+use Rattle.served_runs.specs.ServingLaws.{UsesClaim}
 use Rattle.paid_marks.specs.Holding.{HoldsPiece, bad_among}
 use Rattle.paid_marks.specs.Paid.{IsListedRun, lengths_of_meta}
 

@@ -7,7 +7,7 @@ use Rattle.dl_disk.specs.State.{LeftSince}
 use Rattle.dl_disk.specs.declared.disk.Disk.{Ghosts as DiskSays}
 use Rattle.dl_kinds.specs.declared.outside.Sink.{Ghosts as SinkSays}
 use Rattle.resume_core.specs.Resume.{Agrees, AreSound, Sound}
-use Rattle.run_promises.specs.Promises.{CompletedAreRight, CrashesKeepRuns, IsRun, StartsSound}
+use Rattle.run_frame.specs.Promises.{CompletedAreRight, CrashesKeepRuns, IsRun, StartsSound}
 use Rattle.run_frame.specs.Finishes.{Ran}
 use Rattle.run_frame.specs.Survivals.{LeavesKept}
 use Rattle.run_frame.specs.declared.ended.Ended.{Ended}

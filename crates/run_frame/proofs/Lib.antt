@@ -1,3 +1,5 @@
+pub mod Completed
+pub mod Crashes
 pub mod FirstTurn
 pub mod Kept
 pub mod Refused

@@ -10,6 +10,7 @@ pub mod Untouched
 pub mod Histories
 pub mod DiskCauses
 pub mod LinkCauses
+pub mod Promises
 pub mod Survivals
 pub mod FrameLaws
 pub mod LinkLaws

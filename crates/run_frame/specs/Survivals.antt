@@ -7,7 +7,7 @@ use Rattle.dl_disk.specs.declared.disk.Disk.{Ghosts as DiskSays}
 use Rattle.dl_kinds.specs.declared.gid.Gid.{Gid}
 use Rattle.engine_core.specs.Askings.{IsOpenedWant}
 use Rattle.engine_turns.specs.Told.{RunTurn, history_of}
-use Rattle.run_promises.specs.Promises.{HaveDigests, StartsSound, SurvivesCrash}
+use Rattle.run_frame.specs.Promises.{HaveDigests, StartsSound, SurvivesCrash}
 use Rattle.run_frame.specs.Begins.{start_of_line}
 use Rattle.run_frame.specs.declared.ended.Ended.{Ended}
 

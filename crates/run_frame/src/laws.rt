@@ -1,5 +1,6 @@
 // What follows from all that a run did. Laws do nothing when they run.
 ghost use Rattle.run_frame.specs.FrameLaws.{BegunAreStopped, RunsEndAsShown, RunsHaveHistories, RunsLeaveOtherFiles, RunsPrintText, RunsShowDisk, RunsSurvive, UnbegunOnlyRead};
+ghost use Rattle.run_frame.specs.Promises.{CompletedAreRight, CrashesKeepRuns};
 ghost use Rattle.run_frame.specs.LinkLaws.{LengthsComeOfWorkers, LossesComeOfWorkers, WorkersShowLengths, WorkersShowLosses};
 
 use command_line::lines_are_one;
@@ -9,7 +10,7 @@ use dl_kinds::Sink;
 use engine_turns::{downloads_go_on_once, turns_tell_runs};
 use link_source::Links;
 use machine_core::{downloads_stay, wants_stay};
-use run_promises::disks_keep_runs;
+use stored_run::runs_follow;
 
 /// A run that began was stopped, so its history isn't empty.
 pub fn begun_runs_are_stopped<D: Disk, O: Sink>()
@@ -82,4 +83,14 @@ pub fn workers_show_their_link<D: Disk, L: Links, O: Sink>()
 {
     downloads_stay();
     turns_bring_what_came();
+}
+
+/// Where all images of the disk that a run was given were sound for what it opens, each is so at any moment of the run, and
+/// gives what its saves promised, or the payload stands whole; and what is told complete has its listed digests. It does
+/// nothing when it runs.
+pub fn disks_keep_runs<D: Disk>()
+    ensures complete { CompletedAreRight D.state }
+    ensures crash { CrashesKeepRuns D.state }
+{
+    runs_follow();
 }

@@ -6,18 +6,18 @@ use Rattle.std.proofs.lemmas.Bool.{false≢true}
 use Rattle.std.proofs.lemmas.List.{reverse-append}
 use Rattle.std.proofs.lemmas.List.Elements.{Contains-append_cases, Contains-append_right, Contains-push_cases}
 use Rattle.blameless_mirrors.specs.Lone.{IsLoneListed, LoneAreAlone, LoneDownloadsEndWell}
-use Rattle.brought_runs.specs.Ends.{HasNoCall}
-use Rattle.brought_runs.specs.Over.{RanOverLinks}
-use Rattle.brought_runs.proofs.Done.{no_call_reversed}
-use Rattle.brought_runs.proofs.FileCalls.{CallOfFile, download_on}
-use Rattle.brought_runs.proofs.Finishing.{stop_emptied}
-use Rattle.brought_runs.proofs.FirstAdded.{AddedFirst, first_added}
-use Rattle.brought_runs.proofs.LineOptions.{LineUsual}
-use Rattle.brought_runs.proofs.OneCall.{only_one}
-use Rattle.brought_runs.proofs.TurnCalls.{CallFirst, call_first, no_call_of, stop_no_call, work_of_ones}
-use Rattle.brought_runs.proofs.TurnLists.{behind, here}
-use Rattle.brought_runs.proofs.WorkEnds.{worked_work}
-use Rattle.brought_runs.proofs.Workers.{is_stopping}
+use Rattle.served_runs.specs.Ends.{HasNoCall}
+use Rattle.served_runs.specs.Over.{RanOverLinks}
+use Rattle.served_runs.proofs.Done.{no_call_reversed}
+use Rattle.served_runs.proofs.FileCalls.{CallOfFile, download_on}
+use Rattle.served_runs.proofs.Finishing.{stop_emptied}
+use Rattle.served_runs.proofs.FirstAdded.{AddedFirst, first_added}
+use Rattle.served_runs.proofs.LineOptions.{LineUsual}
+use Rattle.served_runs.proofs.OneCall.{only_one}
+use Rattle.served_runs.proofs.TurnCalls.{CallFirst, call_first, no_call_of, stop_no_call, work_of_ones}
+use Rattle.served_runs.proofs.TurnLists.{behind, here}
+use Rattle.served_runs.proofs.WorkEnds.{worked_work}
+use Rattle.served_runs.proofs.Workers.{is_stopping}
 use Rattle.dl_disk.specs.declared.disk.Disk.{Ghosts as DiskSays}
 use Rattle.dl_kinds.specs.declared.gid.Gid.{Gid}
 use Rattle.dl_kinds.specs.declared.outside.Sink.{Ghosts as SinkSays}

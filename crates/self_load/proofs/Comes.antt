@@ -22,8 +22,8 @@ use Rattle.machine_core.specs.declared.events.Event.{Event}
 use Rattle.metainfo.specs.Info.{info_of}
 use Rattle.run_frame.specs.declared.ended.Ended.{Ended}
 use Rattle.run_report.specs.declared.endings.RunEnding.TheVariants.{NoMemory}
-use Rattle.served_claims.specs.Serving.{ServesRightly}
-use Rattle.brought_runs.specs.Completes.{CompletesServed, EndsCutShort, HadNoFaults, IsCutShort, IsDone, own_options}
+use Rattle.served_runs.specs.Serving.{ServesRightly}
+use Rattle.served_runs.specs.Completes.{CompletesServed, EndsCutShort, HadNoFaults, IsCutShort, IsDone, own_options}
 use Rattle.load_parts.specs.Links.{load_content}
 use Rattle.load_parts.specs.LoadLine.{WordsNameLoad}
 use Rattle.load_parts.specs.Metainfo.{metainfo_by}

@@ -4,8 +4,8 @@ use Rattle.std.specs.Prelude.{◌||◌, ◌==◌, ◌&&◌, Contains, not}
 use Rattle.std.specs.List.{filter_map}
 use Rattle.std.proofs.lemmas.Bool.{false≢true}
 use Rattle.std.proofs.lemmas.List.Elements.{Contains-append_cases, Contains-append_left, Contains-append_right, Contains-push_cases}
-use Rattle.brought_runs.proofs.Finishing.{IsEmptied}
-use Rattle.brought_runs.specs.Ends.{HasNoCall}
+use Rattle.served_runs.proofs.Finishing.{IsEmptied}
+use Rattle.served_runs.specs.Ends.{HasNoCall}
 use Rattle.dl_history.specs.OwnEvents.{OwnEvent, Halts}
 use Rattle.dl_history.specs.PayloadParts.{is_ended, is_ending}
 use Rattle.dl_kinds.specs.declared.gid.Gid.{Gid}

@@ -3,7 +3,7 @@ use Rattle.std.proofs.Common.{◌≡◌, ℕ, ◌<◌, true, false, List, [], Op
 use Rattle.std.specs.Prelude.{codes, Contains, slice_index_or, unwrap_or}
 use Rattle.std.specs.Option.{option_and_then}
 use Rattle.blameless_mirrors.specs.Lone.{IsLoneListed, LoneAreAlone}
-use Rattle.brought_runs.proofs.FileCalls.{has_want, want_of}
+use Rattle.served_runs.proofs.FileCalls.{has_want, want_of}
 use Rattle.control_file.specs.declared.want.Want.{Want}
 use Rattle.dl_disk.specs.State.{DiskState}
 use Rattle.dl_kinds.specs.declared.gid.Gid.{Gid}
@@ -25,7 +25,7 @@ use Rattle.metainfo.specs.declared.meta.Meta.{Meta}
 use Rattle.option_set.specs.Values.{OptionValues, text_of_word}
 use Rattle.option_set.specs.declared.kinds.Word.TheVariants.{Dir, SelectFile}
 use Rattle.resume_core.specs.Resume.{AreSound}
-use Rattle.run_promises.specs.Promises.{HaveDigests, StartsSound}
+use Rattle.run_frame.specs.Promises.{HaveDigests, StartsSound}
 use Rattle.load_parts.specs.Disk.{payload_read}
 use Rattle.load_parts.specs.Payload.{is_right_piece}
 use Rattle.load_parts.specs.Said.{SaysPayload}

@@ -2,11 +2,11 @@
 use Rattle.std.proofs.Common.{◌≡◌, ◌⊎◌, inl, inr, ⊎_elim, ℕ, ◌<◌, Bool, true, false, IsTrue, List, [], Option, Some, None, Ok, refl, sym, ap, ◌∙◌, subst}
 use Rattle.std.specs.Prelude.{◌||◌, box_value, codes, Contains, reverse}
 use Rattle.std.proofs.lemmas.List.{reverse-reverse}
-use Rattle.brought_runs.specs.Over.{IsRunOver, RanOverLinks}
-use Rattle.brought_runs.proofs.Endings.{in_reverse}
-use Rattle.brought_runs.proofs.FileCalls.{CallOfFile}
-use Rattle.brought_runs.proofs.LineOptions.{LineUsual, line_usual}
-use Rattle.brought_runs.proofs.Workers.{ends_so as starved_so}
+use Rattle.served_runs.specs.Over.{IsRunOver, RanOverLinks}
+use Rattle.served_runs.proofs.Endings.{in_reverse}
+use Rattle.served_runs.proofs.FileCalls.{CallOfFile}
+use Rattle.served_runs.proofs.LineOptions.{LineUsual, line_usual}
+use Rattle.served_runs.proofs.Workers.{ends_so as starved_so}
 use Rattle.command_line.specs.Lines.{IsLine, has_console}
 use Rattle.command_line.specs.declared.source.Source.{Source}
 use Rattle.command_line.specs.declared.source.Source.TheVariants.{Metainfo}
@@ -48,7 +48,7 @@ use Rattle.run_frame.specs.Finishes.{EndsBy, NeverBegan, PrintsRefusal, Ran, Rep
 use Rattle.run_frame.specs.declared.ended.Ended.{Ended}
 use Rattle.run_frame.proofs.Kept.{seen_same}
 use Rattle.run_frame.proofs.Ran as ran_facts
-use Rattle.run_promises.specs.Promises.{CompletedAreRight, HaveDigests, StartsSound}
+use Rattle.run_frame.specs.Promises.{CompletedAreRight, HaveDigests, StartsSound}
 use Rattle.run_report.specs.Failures.{ending_by_history}
 use Rattle.run_report.specs.declared.endings.RunEnding.{RunEnding}
 use Rattle.run_report.specs.declared.endings.RunEnding.TheVariants.{Done, NoMeaning, NoMemory, SinkFault}

@@ -25,7 +25,7 @@ use Rattle.metainfo.specs.Jobs.{len_of_file}
 use Rattle.metainfo.specs.declared.meta.Meta.{Meta}
 use Rattle.option_set.specs.Values.{OptionValues}
 use Rattle.request_chain.specs.Exchanges.{LeadsTo}
-use Rattle.served_claims.specs.Serving.{ServesRightly, file_bytes}
+use Rattle.served_runs.specs.Serving.{ServesRightly, file_bytes}
 use Rattle.engine_turns.specs.NextRows.{mirror_url}
 use Rattle.metainfo.specs.Urls.{seed_url_of}
 use Rattle.request_chain.specs.Redirects.{redirect_limit}

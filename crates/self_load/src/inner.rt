@@ -15,7 +15,7 @@ use load_parts::{
     metainfo_files_say_payloads, words_name_load,
 };
 use machine_core::{downloads_are_legal, downloads_stay};
-use run_promises::disks_keep_runs;
+use run_frame::disks_keep_runs;
 use std::alloc::Global;
 use std::sync::Wait;
 use std::sync::atomic::AtomicBool;

@@ -1,7 +1,7 @@
 -- Runs over one link are bounded.
 use Rattle.std.proofs.Common.{◌≡◌, inl, inr, ℕ, List, Some, None, sym, ap, ◌∙◌, subst}
 use Rattle.std.specs.Prelude.{reverse}
-use Rattle.brought_runs.proofs.LineOptions.{line_usual}
+use Rattle.served_runs.proofs.LineOptions.{line_usual}
 use Rattle.command_line.specs.LineLaws.{LinesAreOne}
 use Rattle.command_line.specs.Lines.{IsLine}
 use Rattle.command_line.specs.declared.line.CommandLine.{CommandLine}

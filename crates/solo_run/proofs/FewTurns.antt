@@ -6,14 +6,14 @@ use Rattle.std.proofs.lemmas.List.Elements.{Contains-append_left, Contains-appen
 use Rattle.engine_turns.specs.declared.limits.TheConstants.{MAX_ENTRIES}
 use Rattle.machine_core.specs.declared.journal.TheConstants.{TURN_EVENTS}
 use Rattle.std.specs.Prelude.{Err, IfSome, Ok, Result, reverse}
-use Rattle.brought_runs.proofs.LineOptions.{LineUsual}
-use Rattle.brought_runs.proofs.ToldRuns.{told_run}
-use Rattle.brought_runs.proofs.TurnCalls.{work_of_ones}
-use Rattle.brought_runs.proofs.TurnLists.{behind, here}
-use Rattle.brought_runs.proofs.WorkEnds.{came_ends, full_by, worked_work}
-use Rattle.brought_runs.proofs.Workers.{full_for}
-use Rattle.brought_runs.specs.Ends.{FinishedAreDone}
-use Rattle.brought_runs.specs.Over.{IsWork}
+use Rattle.served_runs.proofs.LineOptions.{LineUsual}
+use Rattle.served_runs.proofs.ToldRuns.{told_run}
+use Rattle.served_runs.proofs.TurnCalls.{work_of_ones}
+use Rattle.served_runs.proofs.TurnLists.{behind, here}
+use Rattle.served_runs.proofs.WorkEnds.{came_ends, full_by, worked_work}
+use Rattle.served_runs.proofs.Workers.{full_for}
+use Rattle.served_runs.specs.Ends.{FinishedAreDone}
+use Rattle.served_runs.specs.Over.{IsWork}
 use Rattle.command_line.specs.Lines.{has_console}
 use Rattle.std.specs.Prelude.{Contains}
 use Rattle.blameless_mirrors.specs.Blameless.{IsToldRun}

@@ -2,13 +2,13 @@
 use Rattle.std.proofs.Common.{◌≡◌, ◌⊎◌, inl, inr, ℕ, List, [], ◌++◌, Option, Some, None, Bool, true, false, refl, sym, ap, ◌∙◌, subst}
 use Rattle.std.specs.Prelude.{◌||◌, Contains, Err, Ok, box_value}
 use Rattle.std.proofs.lemmas.List.{append-nil}
-use Rattle.brought_runs.proofs.FirstAdded.{AddsFirst}
-use Rattle.brought_runs.proofs.LineOptions.{LineUsual}
-use Rattle.brought_runs.proofs.OneAdded.{finished_once}
-use Rattle.brought_runs.proofs.Unfinished.{unshort}
-use Rattle.brought_runs.proofs.WorkEnds.{came_finished, worked_work}
-use Rattle.brought_runs.proofs.Workers.{came_so, unless_true}
-use Rattle.brought_runs.specs.Ends.{FinishedAreDone, IsFinishedOnce}
+use Rattle.served_runs.proofs.FirstAdded.{AddsFirst}
+use Rattle.served_runs.proofs.LineOptions.{LineUsual}
+use Rattle.served_runs.proofs.OneAdded.{finished_once}
+use Rattle.served_runs.proofs.Unfinished.{unshort}
+use Rattle.served_runs.proofs.WorkEnds.{came_finished, worked_work}
+use Rattle.served_runs.proofs.Workers.{came_so, unless_true}
+use Rattle.served_runs.specs.Ends.{FinishedAreDone, IsFinishedOnce}
 use Rattle.command_line.specs.Lines.{has_console}
 use Rattle.command_line.specs.Sources.{IsSource}
 use Rattle.command_line.specs.declared.source.Source.{Source}

@@ -3,8 +3,8 @@ use Rattle.std.proofs.Common.{◌≡◌, ◌≤◌, inl, inr, ℕ, zero, suc, Bo
 use Rattle.std.specs.Prelude.{◌<◌, ◌||◌, Contains}
 use Rattle.std.proofs.lemmas.Bool.{false≢true}
 use Rattle.std.proofs.lemmas.List.Elements.{Contains-append_left}
-use Rattle.brought_runs.specs.LinksCauses.{ShowsLinks}
-use Rattle.brought_runs.specs.Over.{IsOfWorker, IsRunOver, RanOverLinks, WorkedOver}
+use Rattle.served_runs.specs.LinksCauses.{ShowsLinks}
+use Rattle.served_runs.specs.Over.{IsOfWorker, IsRunOver, RanOverLinks, WorkedOver}
 use Rattle.dl_clock.specs.declared.clock.Clock.{Ghosts as ClockSays}
 use Rattle.dl_disk.specs.declared.disk.Disk.{Ghosts as DiskSays}
 use Rattle.dl_kinds.specs.declared.outside.Sink.{Ghosts as SinkSays}

@@ -2,7 +2,7 @@
 use Rattle.std.proofs.Common.{◌≡◌, ◌⊎◌, ℕ, Bool, true, false, cond, List, [], ◌∷◌, ◌++◌, append_assoc, Option, Some, None, refl, sym, ap, ◌∙◌, subst, inl, inr, arith}
 use Rattle.std.specs.Prelude.{Ok, Result, reverse}
 use Rattle.std.proofs.lemmas.List.{append-nil, reverse-append}
-use Rattle.brought_runs.proofs.ToldRuns.{all_reversed}
+use Rattle.served_runs.proofs.ToldRuns.{all_reversed}
 use Rattle.command_line.specs.declared.source.Source.{Source}
 use Rattle.conn_worker.specs.Hands.{fresh, link_at}
 use Rattle.conn_worker.specs.Works.{ComesOut, HasNoRoom, StopsUnlessFinished}

@@ -5,15 +5,15 @@ use Rattle.blameless_mirrors.proofs.Wanting.{wanted_chosen}
 use Rattle.blameless_mirrors.specs.Blameless.{IsListedAlone}
 use Rattle.blameless_mirrors.specs.Chosen.{IsChosenPiece}
 use Rattle.blameless_mirrors.specs.Lone.{IsLoneListed, LacksControlFirst, LoneAreAlone}
-use Rattle.brought_runs.specs.Completes.{EndsCutShort, IsDone, NamesPayload, own_options}
-use Rattle.brought_runs.specs.Ends.{EndsUnfailed, FinishedAreDone, OnlyCompletes}
-use Rattle.brought_runs.specs.Over.{RanOverLinks}
-use Rattle.brought_runs.specs.OverLaws.{RunsShowLinks}
-use Rattle.brought_runs.proofs.Endings.{ends_here, faultless, some_turns}
-use Rattle.brought_runs.proofs.FileCalls.{CallOfFile, call_of_file, has_want, want_of}
-use Rattle.brought_runs.proofs.LineOptions.{LineUsual, line_usual}
-use Rattle.brought_runs.proofs.OneAdded.{RanOne, comes, no_failed_link, ran_one}
-use Rattle.brought_runs.proofs.ToldRuns.{read_first, told_run}
+use Rattle.served_runs.specs.Completes.{EndsCutShort, IsDone, NamesPayload, own_options}
+use Rattle.served_runs.specs.Ends.{EndsUnfailed, FinishedAreDone, OnlyCompletes}
+use Rattle.served_runs.specs.Over.{RanOverLinks}
+use Rattle.served_runs.specs.OverLaws.{RunsShowLinks}
+use Rattle.served_runs.proofs.Endings.{ends_here, faultless, some_turns}
+use Rattle.served_runs.proofs.FileCalls.{CallOfFile, call_of_file, has_want, want_of}
+use Rattle.served_runs.proofs.LineOptions.{LineUsual, line_usual}
+use Rattle.served_runs.proofs.OneAdded.{RanOne, comes, no_failed_link, ran_one}
+use Rattle.served_runs.proofs.ToldRuns.{read_first, told_run}
 use Rattle.command_line.specs.LineLaws.{LinesAreOne}
 use Rattle.command_line.specs.declared.line.CommandLine.{CommandLine}
 use Rattle.command_line.specs.declared.source.Source.{Source}
@@ -43,7 +43,7 @@ use Rattle.run_frame.specs.declared.ended.Ended.{Ended}
 use Rattle.run_frame.proofs.Ran as ran_facts
 use Rattle.run_report.specs.declared.endings.RunEnding.TheVariants.{NoMemory}
 use Rattle.solo_run.specs.Pieces.{CompletesPieces, IsRunOverOne, IsServedByPieces, RanOverOne}
-use Rattle.brought_runs.proofs.Unbegun.{never_began}
+use Rattle.served_runs.proofs.Unbegun.{never_began}
 use Rattle.solo_run.proofs.Worked.{worked_over}
 
 -- what is known of every run

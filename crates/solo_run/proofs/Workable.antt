@@ -11,7 +11,7 @@ use Rattle.dl_queue.specs.Lists.{QueueLists}
 use Rattle.dl_queue.specs.Places.{status_of}
 use Rattle.dl_queue.specs.declared.kinds.Ending.{Ending}
 use Rattle.dl_queue.specs.declared.kinds.QueueErr.{QueueErr}
-use Rattle.brought_runs.proofs.TurnCalls.{AreOfOnes, IsOfOne}
+use Rattle.served_runs.proofs.TurnCalls.{AreOfOnes, IsOfOne}
 use Rattle.command_line.specs.declared.source.Source.{Source}
 use Rattle.command_line.specs.declared.source.Source.TheVariants as source
 use Rattle.engine_turns.specs.Told.{history_after}

@@ -2,9 +2,9 @@
 use Rattle.std.proofs.Common.{◌≡◌, ⊎_elim, ℕ, List, [], ◌∷◌, ◌++◌, append_assoc, Option, Some, sym, ap, ◌∙◌, subst}
 use Rattle.std.specs.Prelude.{Contains, reverse}
 use Rattle.std.proofs.lemmas.List.{reverse-append, reverse-reverse}
-use Rattle.brought_runs.proofs.Endings.{in_reverse}
-use Rattle.brought_runs.proofs.TurnLists.{first_or_later, none_there}
-use Rattle.brought_runs.proofs.Workers.{is_stopping}
+use Rattle.served_runs.proofs.Endings.{in_reverse}
+use Rattle.served_runs.proofs.TurnLists.{first_or_later, none_there}
+use Rattle.served_runs.proofs.Workers.{is_stopping}
 use Rattle.conn_worker.specs.Hands.{link_at}
 use Rattle.dl_disk.specs.declared.disk.Disk.{Ghosts as DiskSays}
 use Rattle.dl_kinds.specs.declared.outside.Sink.{Ghosts as SinkSays}
@@ -16,8 +16,8 @@ use Rattle.run_frame.specs.Begins.{IsOwnCall}
 use Rattle.run_frame.specs.Finishes.{Ran}
 use Rattle.run_frame.specs.Stops.{all_turns}
 use Rattle.run_frame.specs.declared.ended.Ended.{Ended}
-use Rattle.served_claims.specs.Laws.{UsesClaim}
-use Rattle.served_claims.proofs.Runs.{works_over}
+use Rattle.served_runs.specs.ServingLaws.{UsesClaim}
+use Rattle.served_runs.proofs.ServedRuns.{works_over}
 use Rattle.solo_run.specs.Pieces.{RanOverOne}
 
 -- the newest turn first

@@ -1,8 +1,8 @@
 -- What a run over one link comes to, where each piece of a payload has a mirror in memory.
 use Rattle.std.specs.Prelude.{◌≡◌, ◌⊎◌, ◌≤◌, ◌+◌, ◌||◌, ◌++◌, ℕ, true, IsTrue, codes, None, Some, List, [], ◌∷◌, Result, length, slice_get}
 use Rattle.blameless_mirrors.specs.Chosen.{IsChosenPiece}
-use Rattle.brought_runs.specs.Completes.{EndsCutShort, HadNoFaults, IsDone, NamesPayload, own_options}
-use Rattle.brought_runs.specs.Over.{RanOverLinks}
+use Rattle.served_runs.specs.Completes.{EndsCutShort, HadNoFaults, IsDone, NamesPayload, own_options}
+use Rattle.served_runs.specs.Over.{RanOverLinks}
 use Rattle.command_line.specs.declared.line.CommandLine.{CommandLine}
 use Rattle.conn_worker.specs.Works.{IsWithinTurns, RunSight, Worked}
 use Rattle.conn_worker.specs.declared.ends.Spent.{Spent}

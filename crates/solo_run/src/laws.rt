@@ -4,7 +4,7 @@ ghost use Rattle.solo_run.specs.BoundedRuns.{RunsOverOneAreBounded};
 ghost use Rattle.solo_run.specs.Pieces.{RunsCompletePieces};
 
 use blameless_mirrors::lone_downloads_end_well;
-use brought_runs::{finished_runs_are_done, runs_show_their_links};
+use served_runs::{finished_runs_are_done, runs_show_their_links};
 use command_line::lines_are_one;
 use dl_disk::Disk;
 use dl_kinds::Sink;

@@ -1,9 +1,9 @@
 // A run over one link.
 ghost use Rattle.std.specs.Prelude.{◌≡◌, ◌≤◌, true, IsTrue, length, map, string_bytes, take};
-ghost use Rattle.brought_runs.specs.Completes.{CompletesServed};
-ghost use Rattle.brought_runs.specs.CompletesUris.{CompletesUris};
-ghost use Rattle.brought_runs.specs.Served.{SparesServing};
-ghost use Rattle.brought_runs.specs.Unfinished.{ShowsUnfinished};
+ghost use Rattle.served_runs.specs.Completes.{CompletesServed};
+ghost use Rattle.served_runs.specs.CompletesUris.{CompletesUris};
+ghost use Rattle.served_runs.specs.Served.{SparesServing};
+ghost use Rattle.served_runs.specs.Unfinished.{ShowsUnfinished};
 ghost use Rattle.run_frame.specs.DiskCauses.{LeavesOtherFiles, ShowsDisk};
 ghost use Rattle.run_frame.specs.Endings.{EndsAsShown};
 ghost use Rattle.run_frame.specs.Histories.{IsHistory};
@@ -18,7 +18,7 @@ ghost use Rattle.solo_run.specs.Untouched.{LeavesUnused};
 
 use crate::laws::{runs_complete_served_pieces, runs_over_one_are_bounded};
 use crate::over::run_over;
-use brought_runs::{
+use served_runs::{
     runs_complete_uris, runs_complete_what_is_served, runs_show_their_links,
     runs_show_why_unfinished, runs_spare_serving_mirrors,
 };

@@ -1,9 +1,9 @@
 use Rattle.std.proofs.Common.{◌≡◌, ap, ◌∙◌, slice_index_or, slice_set, subst, arith}
 use Rattle.std.specs.Prelude.{true, IsTrue, map, string_bytes}
-use Rattle.brought_runs.specs.Completes.{CompletesServed}
-use Rattle.brought_runs.specs.CompletesUris.{CompletesUris}
-use Rattle.brought_runs.specs.Served.{SparesServing}
-use Rattle.brought_runs.specs.Unfinished.{ShowsUnfinished}
+use Rattle.served_runs.specs.Completes.{CompletesServed}
+use Rattle.served_runs.specs.CompletesUris.{CompletesUris}
+use Rattle.served_runs.specs.Served.{SparesServing}
+use Rattle.served_runs.specs.Unfinished.{ShowsUnfinished}
 use Rattle.solo_run.specs.Pieces.{CompletesPieces}
 use Rattle.solo_run.specs.Bounded.{BoundsFirst}
 use Rattle.solo_run.specs.Runs.{RunsOver}

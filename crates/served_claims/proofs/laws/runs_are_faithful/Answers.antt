@@ -1,5 +1,0 @@
-use Rattle.served_claims.proofs.Runs.{runs_are_faithful}
-use Rattle.served_claims.proofs.laws.runs_are_faithful.Goals as goal
-
-pub returns : goal.returns
-returns g c = runs_are_faithful g.D.Disk g.O.Sink g.L.Links c.served_claims_are_faithful.ensures.claims

@@ -1,0 +1,12 @@
+pub mod Answering
+pub mod ServingLaws
+pub mod ServedRuns
+pub mod Serving
+pub mod Ends
+pub mod Over
+pub mod LinksCauses
+pub mod Served
+pub mod Completes
+pub mod OverLaws
+pub mod CompletesUris
+pub mod Unfinished
