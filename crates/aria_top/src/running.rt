@@ -18,10 +18,6 @@ ghost use Rattle.aria_top.specs.Together.{ComesFirst};
 
 use crate::finished::FinishedRun;
 use crate::work::{Work, work_through};
-use served_runs::{
-    runs_complete_uris, runs_complete_what_is_served, runs_show_their_links,
-    runs_show_why_unfinished, runs_spare_serving_mirrors,
-};
 use conn_worker::turns_bring_what_came;
 use console_session::{Transcript, calls_stand_where_replied, replies_are_of_the_history};
 use dl_clock::Clock;
@@ -35,6 +31,10 @@ use run_frame::{
     Begun, Ended, Unbegun, begin, begun_runs_are_stopped, finish, refuse, runs_end_as_shown,
     runs_have_whole_histories, runs_leave_other_files, runs_print_one_text, runs_show_their_disk,
     runs_survive_crashes, unbegun_runs_only_read,
+};
+use served_runs::{
+    runs_complete_uris, runs_complete_what_is_served, runs_show_their_links,
+    runs_show_why_unfinished, runs_spare_serving_mirrors,
 };
 use std::alloc::Global;
 use std::sync::Wait;

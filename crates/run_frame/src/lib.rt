@@ -13,7 +13,7 @@ pub use console::{ConsoleTerms, is_console_on};
 pub use ended::{Ended, Finished};
 pub use finishing::{finish, refuse};
 pub use laws::{
-    begun_runs_are_stopped, disks_keep_runs, losses_come_of_workers, runs_end_as_shown, runs_have_whole_histories,
-    runs_leave_other_files, runs_print_one_text, runs_show_their_disk, runs_survive_crashes,
-    unbegun_runs_only_read, workers_show_their_link,
+    begun_runs_are_stopped, disks_keep_runs, losses_come_of_workers, runs_end_as_shown,
+    runs_have_whole_histories, runs_leave_other_files, runs_print_one_text, runs_show_their_disk,
+    runs_survive_crashes, unbegun_runs_only_read, workers_show_their_link,
 };

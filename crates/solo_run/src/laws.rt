@@ -4,7 +4,6 @@ ghost use Rattle.solo_run.specs.BoundedRuns.{RunsOverOneAreBounded};
 ghost use Rattle.solo_run.specs.Pieces.{RunsCompletePieces};
 
 use blameless_mirrors::lone_downloads_end_well;
-use served_runs::{finished_runs_are_done, runs_show_their_links};
 use command_line::lines_are_one;
 use dl_disk::Disk;
 use dl_kinds::Sink;
@@ -13,6 +12,7 @@ use link_source::Links;
 use machine_core::{downloads_are_legal, downloads_stay};
 use paid_marks::served_downloads_only_complete;
 use run_frame::{runs_end_as_shown, runs_show_their_disk};
+use served_runs::{finished_runs_are_done, runs_show_their_links};
 use stored_run::runs_follow;
 use work_bounds::{claims_are_bounded, histories_are_bounded, pieces_are_cleared_seldom};
 use work_turns::solo_runs_find_offers;

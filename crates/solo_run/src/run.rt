@@ -18,10 +18,6 @@ ghost use Rattle.solo_run.specs.Untouched.{LeavesUnused};
 
 use crate::laws::{runs_complete_served_pieces, runs_over_one_are_bounded};
 use crate::over::run_over;
-use served_runs::{
-    runs_complete_uris, runs_complete_what_is_served, runs_show_their_links,
-    runs_show_why_unfinished, runs_spare_serving_mirrors,
-};
 use dl_clock::Clock;
 use dl_disk::Disk;
 use dl_kinds::Sink;
@@ -30,6 +26,10 @@ use run_frame::{
     Ended, Finished, begun_runs_are_stopped, runs_end_as_shown, runs_have_whole_histories,
     runs_leave_other_files, runs_print_one_text, runs_show_their_disk, runs_survive_crashes,
     unbegun_runs_only_read,
+};
+use served_runs::{
+    runs_complete_uris, runs_complete_what_is_served, runs_show_their_links,
+    runs_show_why_unfinished, runs_spare_serving_mirrors,
 };
 use std::alloc::Global;
 
