@@ -1,5 +1,5 @@
 // A run whose steps have no premises: what may not come is left out.
-ghost use Rattle.std.specs.Prelude.{◌≡◌, ◌+◌, ◌<◌, ◌≤◌, ◌^◌, false, true, IfOk, IfSome, OnOk, length};
+ghost use Rattle.std.specs.Prelude.{◌≡◌, ◌+◌, ◌<◌, ◌≤◌, ◌^◌, false, true, IfOk, IfSome, OnOk};
 ghost use Rattle.std.specs.Option.{is_some};
 ghost use Rattle.dl_history.specs.OwnEvents.{Halts};
 ghost use Rattle.machine_core.specs.Claiming.{MayBeTaken};
@@ -15,11 +15,9 @@ use crate::ends::{goes_on, is_too_long};
 use crate::rates::as_rate;
 use bit_rows::BitRow;
 use control_file::Opened;
-use dl_kinds::{Code, Gid, MAX_MIRRORS, Mark, Moment, Plan, Run, Text, Texts};
-use link_source::is_usable;
+use dl_kinds::{Code, Gid, Mark, Moment, Plan, Run};
 use machine_core::{Applied, Call, HandedPieces, Machine, Offer, Offered, downloads_stay};
-use metainfo::Meta;
-use option_set::{Num, Options, Settings};
+use option_set::{Num, Options};
 use rate_limits::RateLimits;
 use std::alloc::{AllocError, Global};
 
@@ -30,90 +28,56 @@ pub struct Rig {
     pub(crate) handed: HandedPieces,
     pub(crate) limits: RateLimits,
     pub(crate) now: Moment,
+    // How many claims were granted.
+    claims: u64,
     ghost later: { IsLaterThan machine.past now },
 }
 
-/// What a worker was given.
+/// What a worker has to do.
 #[derive(Clone, Copy, Debug, PartialEq, Eq)]
-pub enum Taken {
+pub enum Work {
     Claim {
         id: u64,
-        gid: Gid,
         mirror: u16,
         run: Run,
         victim: Option<u64>,
     },
     Probe {
         id: u64,
-        gid: Gid,
         mirror: u16,
     },
     /// A full piece, which was found right.
     Right {
-        gid: Gid,
         piece: u32,
     },
     /// One which was found wrong, and cleared.
     Wrong {
-        gid: Gid,
         piece: u32,
     },
     /// One which the worker compares from now on.
     Handed {
-        gid: Gid,
         piece: u32,
     },
-    Held {
-        ms: u64,
-    },
+}
+
+/// What a worker was given.
+#[derive(Clone, Copy, Debug, PartialEq, Eq)]
+pub enum Taken {
+    Work { gid: Gid, work: Work },
+    Held { ms: u64 },
     Idle,
 }
 
-// A call that adds a download of this URL, where it can be asked.
-fn uri_call(alloc: Global, url: &str) -> Result<Option<Call>, AllocError>
-    ensures { IfOk result (λ call. IfSome call IsLawful) }
-{
-    if !is_usable(alloc, url)? {
-        return Ok(None);
-    }
-    let mut uris = Texts::new(alloc);
-    uris.push(Text::of(alloc, url)?)?;
-    Ok(Some(Call::AddUri {
-        uris,
-        options: Settings::new(alloc),
-        position: None,
-    }))
-}
-
-// A call that adds the download of a metainfo file, which has web seeds.
-fn torrent_call(alloc: Global, bytes: &[u8]) -> Result<Option<Call>, AllocError>
-    requires { length bytes.now < 2 ^ 32 }
-    ensures { IfOk result (λ call. IfSome call IsLawful) }
-{
-    let Ok(meta) = Meta::read(alloc, bytes) else {
-        return Ok(None);
-    };
-    if meta.seeds.is_empty() || meta.seeds.len() > MAX_MIRRORS as usize {
-        return Ok(None);
-    }
-    Ok(Some(Call::AddTorrent {
-        meta: Box::new(alloc, meta)?,
-        uris: Texts::new(alloc),
-        options: Settings::new(alloc),
-        position: None,
-    }))
-}
-
 // Rows of which these blocks have landed, and no piece is verified.
-fn rows(alloc: Global, plan: &Plan, landed: &[u32]) -> Result<Opened, AllocError>
+fn rows(alloc: Global, plan: &Plan, landed: &[u64]) -> Result<Opened, AllocError>
     ensures { IfOk result (λ opened.
         IsStart plan.now.total plan.now.piece_len opened.verified opened.blocks) }
 {
     let verified = BitRow::new(alloc, plan.pieces)?;
     let mut blocks = BitRow::new(alloc, plan.blocks())?;
     for block in landed {
-        if *block < blocks.len() {
-            blocks.set(*block);
+        if *block < blocks.len() as u64 {
+            blocks.set(*block as u32);
         }
     }
     Ok(Opened { verified, blocks })
@@ -128,6 +92,7 @@ impl Rig {
             handed: HandedPieces::new(alloc),
             limits: RateLimits::new(alloc, rate, Moment(0)),
             now: Moment(0),
+            claims: 0,
         })
     }
 
@@ -135,16 +100,24 @@ impl Rig {
         &self.machine
     }
 
+    /// How many claims were granted. They are numbered from 0.
+    pub fn claims(&self) -> u64 {
+        self.claims
+    }
+
     /// Time goes on.
     pub fn pass(&mut self, ms: u64) {
         self.now = Moment(self.now.0.saturating_add(ms));
     }
 
-    /// A call comes. A download that it adds gets a bucket, and one that leaves the active list takes its pieces from the
-    /// workers.
-    pub fn call(&mut self, alloc: Global, call: Call) -> Result<Applied, AllocError>
-        requires { IsLawful call }
+    /// A call comes, if there is one. A download that it adds gets a bucket, and one that leaves the active list takes its
+    /// pieces from the workers.
+    pub fn call(&mut self, alloc: Global, call: Option<Call>) -> Result<Option<Applied>, AllocError>
+        requires { IfSome call IsLawful }
     {
+        let Some(call) = call else {
+            return Ok(None);
+        };
         self.limits.reserve(1)?;
         let applied = self.machine.apply_call(alloc, 0, call, self.now)?;
         if let Applied::Added { gid } = applied {
@@ -152,35 +125,12 @@ impl Rig {
             self.limits.add(rate, self.now);
         }
         self.handed.keep_active(&self.machine);
-        Ok(applied)
-    }
-
-    /// A download of a URL is added, where it can be asked.
-    pub fn add_uri(&mut self, alloc: Global, url: &str) -> Result<Option<Applied>, AllocError> {
-        match uri_call(alloc, url)? {
-            Some(call) => Ok(Some(self.call(alloc, call)?)),
-            None => Ok(None),
-        }
-    }
-
-    /// A download of a metainfo file is added, where the bytes are one with web seeds. They are 1,000,000 at most.
-    pub fn add_torrent(
-        &mut self,
-        alloc: Global,
-        bytes: &[u8],
-    ) -> Result<Option<Applied>, AllocError> {
-        if bytes.len() > 1_000_000 {
-            return Ok(None);
-        }
-        match torrent_call(alloc, bytes)? {
-            Some(call) => Ok(Some(self.call(alloc, call)?)),
-            None => Ok(None),
-        }
+        Ok(Some(applied))
     }
 
     /// An active download whose length is known is opened, with these blocks landed and no piece verified. Told is whether
     /// it was.
-    pub fn open(&mut self, alloc: Global, gid: Gid, landed: &[u32]) -> Result<bool, AllocError> {
+    pub fn open(&mut self, alloc: Global, gid: Gid, landed: &[u64]) -> Result<bool, AllocError> {
         if self.machine.table(gid).is_some() || !self.machine.is_active(gid) {
             return Ok(false);
         }
@@ -243,7 +193,7 @@ impl Rig {
         right: bool,
         gid: Gid,
         offer: Offer,
-    ) -> Result<Taken, AllocError>
+    ) -> Result<Work, AllocError>
         requires due { MayBeTaken self.old.machine self.old.now (Next gid offer) }
         requires room { 3 ≤ self.old.machine.spare }
         requires marks { HasTurnMarkRoom self.old.machine }
@@ -257,9 +207,9 @@ impl Rig {
                 let id = self
                     .machine
                     .claimed(gid, worker, mirror, run, victim, self.now)?;
-                Ok(Taken::Claim {
+                self.claims = id.saturating_add(1);
+                Ok(Work::Claim {
                     id,
-                    gid,
                     mirror,
                     run,
                     victim,
@@ -270,14 +220,15 @@ impl Rig {
                 let id = self
                     .machine
                     .claimed(gid, worker, mirror, run, None, self.now)?;
-                Ok(Taken::Probe { id, gid, mirror })
+                self.claims = id.saturating_add(1);
+                Ok(Work::Probe { id, mirror })
             }
             Offer::Whole { piece } => {
                 if !right && self.find_wrong(alloc, gid, piece)? {
-                    return Ok(Taken::Wrong { gid, piece });
+                    return Ok(Work::Wrong { piece });
                 }
                 self.machine.settled(gid, piece, true);
-                Ok(Taken::Right { gid, piece })
+                Ok(Work::Right { piece })
             }
         }
     }
@@ -301,7 +252,10 @@ impl Rig {
     /// A worker gets what is offered: a claim is made, and a full piece is found right or wrong.
     pub fn take(&mut self, alloc: Global, worker: u32, right: bool) -> Result<Taken, AllocError> {
         match self.next()? {
-            Offered::Next { gid, offer } => self.give(alloc, worker, right, gid, offer),
+            Offered::Next { gid, offer } => {
+                let work = self.give(alloc, worker, right, gid, offer)?;
+                Ok(Taken::Work { gid, work })
+            }
             Offered::Held { ms } => Ok(Taken::Held { ms }),
             Offered::Idle => Ok(Taken::Idle),
         }
@@ -311,14 +265,16 @@ impl Rig {
     pub fn hand(&mut self, alloc: Global, worker: u32) -> Result<Taken, AllocError> {
         self.handed.reserve(1)?;
         match self.next()? {
-            Offered::Next {
-                gid,
-                offer: Offer::Whole { piece },
-            } => {
-                self.handed.hand_out(gid, piece);
-                Ok(Taken::Handed { gid, piece })
+            Offered::Next { gid, offer } => {
+                let work = match offer {
+                    Offer::Whole { piece } => {
+                        self.handed.hand_out(gid, piece);
+                        Work::Handed { piece }
+                    }
+                    _ => self.give(alloc, worker, true, gid, offer)?,
+                };
+                Ok(Taken::Work { gid, work })
             }
-            Offered::Next { gid, offer } => self.give(alloc, worker, true, gid, offer),
             Offered::Held { ms } => Ok(Taken::Held { ms }),
             Offered::Idle => Ok(Taken::Idle),
         }
@@ -360,24 +316,11 @@ impl Rig {
         }
     }
 
-    /// A block lands, where it is open in a claim. Told is how many blocks did.
-    pub fn land_block(&mut self, claim: u64, block: u32) -> Result<u32, AllocError> {
-        if block > 1_000_000 {
-            return Ok(0);
-        }
-        let run = Run {
-            first: block,
-            count: 1,
-        };
-        self.land_first(claim, run)
-    }
-
     /// The blocks of a run that are open in a claim land. Told is how many these are; of more than 64 none does.
-    pub fn land(&mut self, claim: u64, first: u32, count: u32) -> Result<u32, AllocError> {
-        if count > 64 || first > 1_000_000 {
+    pub fn land(&mut self, claim: u64, run: Run) -> Result<u32, AllocError> {
+        if run.count > 64 || run.first > 1_000_000 {
             return Ok(0);
         }
-        let run = Run { first, count };
         let mut landed = 0;
         for _ in 0..64 {
             landed = self.land_first(claim, run)?.saturating_add(landed);

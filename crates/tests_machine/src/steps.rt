@@ -1,199 +1,207 @@
-// Random steps through the machine, beside a plain program.
-ghost use Rattle.std.specs.Prelude.{◌<◌, ◌≤◌};
-
-use crate::lines::{metainfo, options};
-use crate::plain::Plain;
-use crate::rig::{Rig, Taken};
-use dl_kinds::{GID_DIGITS, Gid, GidKey, Run};
-use machine_core::{Applied, Call};
+// Steps of a run, one a line, by their words.
+use crate::answers::{Answer, told_after};
+use crate::calls::{global_call, keyed_call, run_call, torrent_call, uri_call};
+use crate::rig::Rig;
+use crate::torrents::metainfo;
+use anyhow::{Context, Result, bail};
+use dl_kinds::{Gid, GidKey, Run};
+use option_set::{Options, Setting, read};
 use std::alloc::Global;
-use std::test::Fail;
 
-// A number that the generator gives, without its low bits.
-#[derive(Drop)]
-struct Random(u64);
-
-impl Random {
-    fn below(&mut self, bound: u64) -> u64
-        requires { 1 ≤ bound }
-        ensures { result < bound }
-    {
-        self.0 = self
-            .0
-            .wrapping_mul(6_364_136_223_846_793_005)
-            .wrapping_add(1_442_695_040_888_963_407);
-        (self.0 >> 33) % bound
-    }
+// The number that the n-th of these words writes.
+fn number(words: &[&str], n: usize) -> Result<u64> {
+    let word = words.get(n).context("a number is wanted")?;
+    Ok(word.parse::<u64>()?)
 }
 
-fn key_of(gid: Gid) -> GidKey {
-    GidKey {
-        digits: GID_DIGITS,
-        value: gid.0,
-    }
+fn small_number(words: &[&str], n: usize) -> Result<u32> {
+    Ok(u32::try_from(number(words, n)?)?)
 }
 
-// A download that was added, by chance.
-fn any_gid(random: &mut Random, rig: &Rig) -> Option<Gid> {
-    match rig.machine().added(random.below(6) as u32) {
-        Some((gid, _)) => Some(gid),
-        None => None,
+// The numbers that a word has, between commas, or none.
+fn numbers(alloc: Global, word: &str) -> Result<Vec<u64>> {
+    let mut numbers = Vec::new(alloc);
+    for part in word.split(',') {
+        numbers.push(part.parse::<u64>()?)?;
     }
+    Ok(numbers)
 }
 
-fn add(alloc: Global, random: &mut Random, rig: &mut Rig, plain: &mut Plain) -> Result<bool, Fail> {
-    if rig.machine().added(5).is_some() {
-        return Ok(true);
-    }
-    let name = format!(in alloc; "n{}", random.below(1_000_000))?;
-    let text = metainfo(alloc, name.as_str(), 196_608, 65_536)?;
-    if let Some(Applied::Added { gid }) = rig.add_torrent(alloc, text.as_bytes())? {
-        plain.add(gid)?;
-    }
-    Ok(true)
+// A value of an option, as `split=3`.
+fn setting(alloc: Global, word: &str) -> Result<Setting> {
+    let (name, value) = word.split_once('=').context("a value is wanted")?;
+    Ok(read(alloc, name, value)?)
 }
 
-fn call(
-    alloc: Global,
-    random: &mut Random,
-    rig: &mut Rig,
-    plain: &mut Plain,
-) -> Result<bool, Fail> {
-    let Some(gid) = any_gid(random, rig) else {
-        return Ok(true);
+/// A run with these options, in which nothing happened.
+pub fn begun(alloc: Global, values: &str) -> Result<Rig> {
+    let mut options = Options::new(alloc)?;
+    for word in values.split(' ') {
+        if !word.is_empty() {
+            options.apply(setting(alloc, word)?);
+        }
+    }
+    Ok(Rig::new(alloc, options)?)
+}
+
+// The first download that a key names, of those that were added.
+fn gid_of(rig: &Rig, key: GidKey) -> Option<Gid> {
+    for place in 0..64 {
+        let (gid, _) = rig.machine().added(place)?;
+        if key.names(gid) {
+            return Some(gid);
+        }
+    }
+    None
+}
+
+// A download of a metainfo file is added.
+fn add_torrent(alloc: Global, rig: &mut Rig, words: &[&str]) -> Result<Answer> {
+    let [name, piece_len, lens, hosts] = words else {
+        bail!("a name, lengths and hosts are wanted");
     };
-    let key = key_of(gid);
-    match random.below(20) {
-        0..9 => {
-            rig.call(alloc, Call::Pause { key })?;
-            plain.pause(gid);
+    let lens = numbers(alloc, lens)?;
+    let text = metainfo(alloc, name, piece_len.parse::<u64>()?, &lens, hosts)?;
+    let call = torrent_call(alloc, text.as_bytes())?;
+    Ok(Answer::Called(rig.call(alloc, call)?))
+}
+
+// A step of the run.
+fn of_run(alloc: Global, rig: &mut Rig, name: &str, words: &[&str]) -> Result<Answer> {
+    match name {
+        "uri" => {
+            let url = words.first().context("a URL is wanted")?;
+            let call = uri_call(alloc, url)?;
+            Ok(Answer::Called(rig.call(alloc, call)?))
         }
-        9..19 => {
-            rig.call(alloc, Call::Unpause { key })?;
-            plain.unpause(gid);
+        "torrent" => add_torrent(alloc, rig, words),
+        "global" => {
+            let word = words.first().context("a value is wanted")?;
+            let call = global_call(alloc, setting(alloc, word)?)?;
+            Ok(Answer::Called(rig.call(alloc, call)?))
         }
+        "pass" => {
+            rig.pass(number(words, 0)?);
+            Ok(Answer::Nothing)
+        }
+        "clash-next" => Ok(Answer::Clash(rig.clash_next(alloc)?)),
+        "stop" => Ok(Answer::Came(rig.stop())),
         _ => {
-            rig.call(alloc, Call::Remove { key })?;
-            plain.remove(gid);
+            let call = run_call(name).context("no step of a run")?;
+            Ok(Answer::Called(rig.call(alloc, Some(call))?))
         }
     }
-    Ok(true)
 }
 
-// A worker takes what is offered. Told is whether the plain program lets it be.
-fn take(
-    alloc: Global,
-    random: &mut Random,
-    rig: &mut Rig,
-    plain: &mut Plain,
-) -> Result<bool, Fail> {
-    let right = random.below(2) > 0;
-    match rig.take(alloc, random.below(4) as u32, right)? {
-        Taken::Claim {
-            id,
-            gid,
-            mirror,
-            run,
-            victim,
-        } => Ok(plain.may_claim(gid, mirror, run, victim) && plain.claim(gid, mirror, run)? == id),
-        Taken::Right { gid, piece } => Ok(right && plain.find_piece(gid, piece, true)),
-        Taken::Wrong { gid, piece } => Ok(!right && plain.find_piece(gid, piece, false)),
-        Taken::Idle => Ok(plain.may_be_next(None)),
-        _ => Ok(false),
+// A step of a worker.
+fn of_worker(alloc: Global, rig: &mut Rig, name: &str, words: &[&str]) -> Result<Answer> {
+    let worker = small_number(words, 0)?;
+    let taken = match name {
+        "take" => rig.take(alloc, worker, true)?,
+        "wrong" => rig.take(alloc, worker, false)?,
+        _ => rig.hand(alloc, worker)?,
+    };
+    Ok(Answer::Taken(Some(taken)))
+}
+
+// A step of a claim.
+fn of_claim(rig: &mut Rig, name: &str, words: &[&str]) -> Result<Answer> {
+    let claim = number(words, 0)?;
+    match name {
+        "lose" => Ok(Answer::Came(rig.lose(claim)?)),
+        "size" => Ok(Answer::Came(rig.size(claim, number(words, 1)?)?)),
+        "allow" => Ok(Answer::Let(rig.allow(claim, small_number(words, 1)?))),
+        _ => {
+            let run = Run {
+                first: small_number(words, 1)?,
+                count: small_number(words, 2)?,
+            };
+            Ok(Answer::Landed(rig.land(claim, run)?))
+        }
     }
 }
 
-// A download is opened or saved, or ends.
+// A step of a download.
 fn of_download(
     alloc: Global,
-    random: &mut Random,
     rig: &mut Rig,
-    plain: &mut Plain,
-) -> Result<bool, Fail> {
-    let Some(gid) = any_gid(random, rig) else {
-        return Ok(true);
+    name: &str,
+    gid: Gid,
+    words: &[&str],
+) -> Result<Answer> {
+    match name {
+        "open" => {
+            let landed = match words.first() {
+                Some(word) => numbers(alloc, word)?,
+                None => Vec::new(alloc),
+            };
+            Ok(Answer::Came(rig.open(alloc, gid, &landed)?))
+        }
+        "save" => Ok(Answer::Came(rig.save(gid)?)),
+        "complete" => Ok(Answer::Came(rig.complete(gid)?)),
+        "fail" => Ok(Answer::Came(rig.fail(gid)?)),
+        "sum" => {
+            let right = words.first() == Some(&"right");
+            Ok(Answer::Came(rig.check(alloc, gid, right)?))
+        }
+        "die" => Ok(Answer::Dead(rig.die(gid, small_number(words, 0)?)?)),
+        "clash" => Ok(Answer::Clash(rig.machine().clash(alloc, gid)?)),
+        "seal" => {
+            let right = words.get(1) == Some(&"right");
+            let taken = rig.seal(alloc, gid, small_number(words, 0)?, right)?;
+            Ok(Answer::Taken(taken))
+        }
+        _ => {
+            let word = words.first().context("a value is wanted")?;
+            let setting = setting(alloc, word)?;
+            Ok(Answer::Called(rig.change(alloc, gid, setting)?))
+        }
+    }
+}
+
+// A step of the download that a key names.
+fn of_key(alloc: Global, rig: &mut Rig, name: &str, words: &[&str]) -> Result<Answer> {
+    let [word, words @ ..] = words else {
+        bail!("a key is wanted");
     };
-    match random.below(40) {
-        0 => Ok(rig.fail(gid)? == plain.fail(gid)),
-        1..6 => {
-            let piece = random.below(3) as u32;
-            Ok(rig.die(gid, piece)?.is_some() == plain.die(gid, piece))
-        }
-        6..14 => Ok(rig.complete(gid)? == plain.complete(gid)),
-        14..20 => Ok(rig.save(gid)? == plain.save(gid)),
-        _ => Ok(rig.open(alloc, gid, &[])? == plain.open(gid)),
+    let key = GidKey::read(word).context("no key")?;
+    if let Some(call) = keyed_call(name, key) {
+        return Ok(Answer::Called(rig.call(alloc, Some(call))?));
+    }
+    match gid_of(rig, key) {
+        Some(gid) => of_download(alloc, rig, name, gid, words),
+        None => Ok(Answer::NoDownload),
     }
 }
 
-// Blocks come, most of them of a claim that was made lately.
-fn land(random: &mut Random, rig: &mut Rig, plain: &mut Plain) -> Result<bool, Fail> {
-    let id = plain.any_claim(random.below(10));
-    let run = Run {
-        first: plain.first_of(id).saturating_add(random.below(6) as u32),
-        count: random.below(6) as u32,
+fn answer(alloc: Global, rig: &mut Rig, name: &str, words: &[&str]) -> Result<Answer> {
+    match name {
+        "take" | "wrong" | "hand" => of_worker(alloc, rig, name, words),
+        "land" | "lose" | "size" | "allow" => of_claim(rig, name, words),
+        "pause"
+        | "unpause"
+        | "remove"
+        | "forget"
+        | "move"
+        | "open"
+        | "save"
+        | "complete"
+        | "fail"
+        | "sum"
+        | "die"
+        | "clash"
+        | "seal"
+        | "change" => of_key(alloc, rig, name, words),
+        _ => of_run(alloc, rig, name, words),
+    }
+}
+
+/// What is told after a step.
+pub fn told(alloc: Global, rig: &mut Rig, line: &str) -> Result<String> {
+    let words: Vec<&str> = line.split(' ').collect(alloc)?;
+    let [name, words @ ..] = words.as_slice() else {
+        bail!("a word is wanted");
     };
-    Ok(rig.land(id, run.first, run.count)? == plain.land(id, run))
-}
-
-fn step(
-    alloc: Global,
-    random: &mut Random,
-    rig: &mut Rig,
-    plain: &mut Plain,
-) -> Result<bool, Fail> {
-    match random.below(40) {
-        0..4 => add(alloc, random, rig, plain),
-        4 => call(alloc, random, rig, plain),
-        5..9 => of_download(alloc, random, rig, plain),
-        9 => {
-            let id = plain.any_claim(random.below(10));
-            Ok(rig.lose(id)? == plain.lose(id))
-        }
-        10..22 => {
-            rig.pass(random.below(100));
-            take(alloc, random, rig, plain)
-        }
-        _ => land(random, rig, plain),
-    }
-}
-
-// Whether the machine and the plain program say the same.
-fn agree(rig: &Rig, plain: &Plain) -> bool {
-    for n in 0..6 {
-        if let Some((gid, _)) = rig.machine().added(n)
-            && (rig.machine().status(gid) != plain.status(gid)
-                || rig.machine().landed_bytes(gid) / 16_384 != plain.landed_blocks(gid) as u64
-                || rig.is_unsaved(gid) != plain.is_unsaved(gid))
-        {
-            return false;
-        }
-    }
-    rig.machine().finished() == plain.is_finished()
-        && (0..100).all(|id| rig.machine().stands(id) == plain.stands(id))
-}
-
-#[test]
-fn random_steps_beside_a_plain_program(rt: HostRuntime) -> Result<(), Fail> {
-    let alloc = rt.alloc();
-    for seed in 0..12 {
-        let (word, tries) = if seed % 2 == 0 { ("1", 1) } else { ("2", 2) };
-        let values = [
-            ("max-concurrent-downloads", "2"),
-            ("split", "3"),
-            ("max-tries", word),
-            ("max-connection-per-server", "2"),
-            ("min-split-size", "1M"),
-        ];
-        let mut rig = Rig::new(alloc, options(alloc, &values)?)?;
-        let mut plain = Plain::new(alloc, 2, tries);
-        let mut random = Random(seed);
-        for number in 0..500 {
-            let holds = step(alloc, &mut random, &mut rig, &mut plain)?;
-            assert!(rt; holds, "step {number} of {seed}");
-            assert!(rt; agree(&rig, &plain), "after step {number} of {seed}");
-        }
-        assert_eq!(rt; rig.stop(), plain.stop());
-        assert!(rt; agree(&rig, &plain), "after the stop of {seed}");
-    }
-    Ok(())
+    let answer = answer(alloc, rig, name, words)?;
+    told_after(alloc, rig, answer)
 }
