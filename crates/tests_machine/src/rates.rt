@@ -21,10 +21,11 @@ impl Rig {
     pub(crate) fn rate(&self, gid: Gid) -> u64
         ensures { result < 2 ^ 32 }
     {
-        match self.machine.options(gid) {
-            Some(options) => as_rate(options.number(Num::MaxDownloadLimit)),
+        let rate = match self.machine.options(gid) {
+            Some(options) => options.number(Num::MaxDownloadLimit),
             None => 0,
-        }
+        };
+        as_rate(rate)
     }
 
     /// An option of a download changes, where it may, and its bucket goes at the rate of its options from now on.

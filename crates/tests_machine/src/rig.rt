@@ -69,15 +69,15 @@ pub enum Taken {
 }
 
 // Rows of which these blocks have landed, and no piece is verified.
-fn rows(alloc: Global, plan: &Plan, landed: &[u64]) -> Result<Opened, AllocError>
+fn rows(alloc: Global, plan: &Plan, landed: &[u32]) -> Result<Opened, AllocError>
     ensures { IfOk result (λ opened.
         IsStart plan.now.total plan.now.piece_len opened.verified opened.blocks) }
 {
     let verified = BitRow::new(alloc, plan.pieces)?;
     let mut blocks = BitRow::new(alloc, plan.blocks())?;
     for block in landed {
-        if *block < blocks.len() as u64 {
-            blocks.set(*block as u32);
+        if *block < blocks.len() {
+            blocks.set(*block);
         }
     }
     Ok(Opened { verified, blocks })
@@ -130,7 +130,7 @@ impl Rig {
 
     /// An active download whose length is known is opened, with these blocks landed and no piece verified. Told is whether
     /// it was.
-    pub fn open(&mut self, alloc: Global, gid: Gid, landed: &[u64]) -> Result<bool, AllocError> {
+    pub fn open(&mut self, alloc: Global, gid: Gid, landed: &[u32]) -> Result<bool, AllocError> {
         if self.machine.table(gid).is_some() || !self.machine.is_active(gid) {
             return Ok(false);
         }

@@ -19,18 +19,21 @@ fn small_number(words: &[&str], n: usize) -> Result<u32> {
 }
 
 // The numbers that a word has, between commas, or none.
-fn numbers(alloc: Global, word: &str) -> Result<Vec<u64>> {
+fn numbers(alloc: Global, word: &str) -> Result<Vec<u32>> {
     let mut numbers = Vec::new(alloc);
     for part in word.split(',') {
-        numbers.push(part.parse::<u64>()?)?;
+        numbers.push(part.parse::<u32>()?)?;
     }
     Ok(numbers)
 }
 
 // A value of an option, as `split=3`.
 fn setting(alloc: Global, word: &str) -> Result<Setting> {
-    let (name, value) = word.split_once('=').context("a value is wanted")?;
-    Ok(read(alloc, name, value)?)
+    let (name, value) = word.split_once('=').unwrap_or((word, ""));
+    match read(alloc, name, value) {
+        Ok(setting) => Ok(setting),
+        Err(_) => bail!("no value of an option"),
+    }
 }
 
 /// A run with these options, in which nothing happened.
@@ -61,7 +64,7 @@ fn add_torrent(alloc: Global, rig: &mut Rig, words: &[&str]) -> Result<Answer> {
         bail!("a name, lengths and hosts are wanted");
     };
     let lens = numbers(alloc, lens)?;
-    let text = metainfo(alloc, name, piece_len.parse::<u64>()?, &lens, hosts)?;
+    let text = metainfo(alloc, name, piece_len.parse::<u32>()?, &lens, hosts)?;
     let call = torrent_call(alloc, text.as_bytes())?;
     Ok(Answer::Called(rig.call(alloc, call)?))
 }

@@ -3,8 +3,8 @@ use std::alloc::{AllocError, Global};
 
 const DIGEST: &str = "abcdefghijklmnopqrst";
 
-// The lengths of the files, as a metainfo file has them: of one, or of several with the names 1, 2 and so on.
-fn files(alloc: Global, lens: &[u64]) -> Result<String, AllocError> {
+// The lengths of the files, as a metainfo file has them: of one, or of at most nine with the names 1, 2 and so on.
+fn files(alloc: Global, lens: &[u32]) -> Result<String, AllocError> {
     if let [len] = lens {
         return format!(in alloc; "6:lengthi{len}e");
     }
@@ -12,8 +12,7 @@ fn files(alloc: Global, lens: &[u64]) -> Result<String, AllocError> {
     let mut number: u32 = 0;
     for len in lens {
         number = number.saturating_add(1);
-        let name = format!(in alloc; "{number}")?;
-        write!(text, "d6:lengthi{len}e4:pathl{}:{name}ee", name.len())?;
+        write!(text, "d6:lengthi{len}e4:pathl1:{number}ee")?;
     }
     text.push('e')?;
     Ok(text)
@@ -35,11 +34,11 @@ fn seeds(alloc: Global, hosts: &str) -> Result<String, AllocError> {
 pub fn metainfo(
     alloc: Global,
     name: &str,
-    piece_len: u64,
-    lens: &[u64],
+    piece_len: u32,
+    lens: &[u32],
     hosts: &str,
 ) -> Result<String, AllocError> {
-    let mut total: u64 = 0;
+    let mut total: u32 = 0;
     for len in lens {
         total = total.saturating_add(*len);
     }
