@@ -16,7 +16,7 @@ BUILT = f"{TOP}/crates/aria_cli/out/aria_cli"
 PROGRAM = os.path.realpath(sys.argv[1])
 
 # A program that shows the store over files by itself, which `rt ci` makes as well.
-STORE = f"{TOP}/crates/tests_real_store/out/tests_real_store"
+STORE = f"{TOP}/crates/tests_store/out/tests_store"
 
 # The run over one connection, without threads, as a program.
 ALONE = f"{TOP}/crates/tests_real_run/out/tests_real_run"

@@ -3,15 +3,17 @@ ghost use Rattle.std.specs.Prelude.{◌≤◌};
 ghost use Rattle.control_file.specs.Wants.{IsWant};
 ghost use Rattle.span_map.specs.Jobs.{IsRun};
 
+use crate::bringing;
+use crate::wants::run_of;
+use anyhow::{Result, bail};
 use control_file::Want;
 use dl_disk::Disk;
 use dl_kinds::Run;
 use resume_core::{finish, resume};
 use std::alloc::{AllocError, Global};
-use tests_store as store;
 
-/// Opens the download, and tells its pieces and its blocks as hexadecimal digits, or why it isn't opened.
-pub fn open<D: Disk>(
+// Opens the download, and tells its pieces and its blocks as hexadecimal digits, or why it isn't opened.
+fn open<D: Disk>(
     alloc: Global,
     disk: &mut D,
     want: &Want,
@@ -29,8 +31,8 @@ pub fn open<D: Disk>(
     }
 }
 
-/// Brings the download a run of blocks of this payload.
-pub fn bring<D: Disk>(
+// Brings the download a run of blocks of this payload.
+fn bring<D: Disk>(
     alloc: Global,
     disk: &mut D,
     want: &Want,
@@ -46,19 +48,42 @@ pub fn bring<D: Disk>(
     let Some(bytes) = payload.get(start as usize..(last + len as u64) as usize) else {
         return String::from_str(alloc, "the payload is too short");
     };
-    match store::bring(alloc, disk, want, run, bytes) {
+    match bringing::bring(alloc, disk, want, run, bytes) {
         Ok(true) => String::from_str(alloc, "brought"),
         Ok(false) => String::from_str(alloc, "a block of it stands"),
         Err(err) => format!(in alloc; "{err}"),
     }
 }
 
-/// Ends the download.
-pub fn end<D: Disk>(alloc: Global, disk: &mut D, want: &Want) -> Result<String, AllocError>
+// Ends the download.
+fn end<D: Disk>(alloc: Global, disk: &mut D, want: &Want) -> Result<String, AllocError>
     requires { IsWant want.now }
 {
     match finish(alloc, disk, want) {
         Ok(()) => String::from_str(alloc, "finished"),
         Err(err) => format!(in alloc; "{err}"),
+    }
+}
+
+/// Does what a word wants, and tells what came of it. What is brought is of this payload.
+pub fn perform<D: Disk>(
+    alloc: Global,
+    disk: &mut D,
+    want: &Want,
+    word: &str,
+    payload: &[u8],
+) -> Result<String>
+    requires { IsWant want.now }
+{
+    let mut parts = word.split(':');
+    match parts.next() {
+        Some("open") => Ok(open(alloc, disk, want, false)?),
+        Some("check") => Ok(open(alloc, disk, want, true)?),
+        Some("finish") => Ok(end(alloc, disk, want)?),
+        Some("bring") => {
+            let run = run_of(&want.plan, parts.next(), parts.next())?;
+            Ok(bring(alloc, disk, want, run, payload)?)
+        }
+        _ => bail!("unknown: {word}"),
     }
 }
