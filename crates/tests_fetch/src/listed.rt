@@ -28,8 +28,6 @@ pub struct ListedLink {
     failed: u64,
     /// A line for each dial, and each request as it was sent, also where the connection was closed by then.
     list: Vec<u8>,
-    pub dials: u32,
-    pub requests: u32,
 }
 
 impl ListedLink {
@@ -41,8 +39,6 @@ impl ListedLink {
             gone: false,
             failed: 0,
             list: Vec::new(alloc),
-            dials: 0,
-            requests: 0,
         }
     }
 
@@ -82,10 +78,7 @@ impl Links for ListedLink {
         self.used = false;
         self.gone = false;
         match self.mirrors.dial(host, port) {
-            Ok(()) => {
-                self.dials = self.dials.saturating_add(1);
-                Ok(())
-            }
+            Ok(()) => Ok(()),
             Err(IoErr::Fault) => Err(self.fail()),
             Err(IoErr::NoMemory) => Err(IoErr::NoMemory),
         }
@@ -99,7 +92,6 @@ impl Links for ListedLink {
             return Err(self.fail());
         }
         self.list.extend_from_slice(bytes)?;
-        self.requests = self.requests.saturating_add(1);
         if self.used && self.closes == Closes::BehindReply {
             self.gone = true;
             return Ok(());
