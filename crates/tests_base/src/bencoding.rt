@@ -1,72 +1,116 @@
-// Bencoded values and their first faults.
-use bencode_core::{Ben, BenErr, BenKind};
+// Bencoded values and their first faults (BEP 3).
+ghost use Rattle.std.specs.Prelude.{◌<◌, ◌^◌, length};
+
+use crate::spelling::{shown, spelled};
+use anyhow::{Context, Result, bail, ensure};
+use bencode_core::{Ben, BenErr, BenKind, BenSlice};
 use std::alloc::Global;
-use std::test::Fail;
 
-fn fault_of(alloc: Global, bytes: &[u8]) -> Option<BenErr> {
-    if bytes.len() < 1000 {
-        Ben::read(alloc, bytes).err()
-    } else {
-        None
-    }
+/// More bytes than any case has.
+const MOST: usize = 1 << 26;
+
+/// Why bytes are no bencoded value.
+pub fn fault(alloc: Global, fault: BenErr) -> Result<String> {
+    let (word, at) = match fault {
+        BenErr::Wrong { at } => ("wrong", at),
+        BenErr::TooDeep { at } => ("too deep", at),
+        BenErr::TooWide { at } => ("too wide", at),
+        BenErr::Trailing { at } => ("trailing", at),
+        BenErr::NoMemory => bail!("out of memory"),
+    };
+    Ok(format!(in alloc; "{word} at {at}")?)
 }
 
-#[test]
-fn first_faults(rt: HostRuntime) -> Result<(), Fail> {
-    let alloc = rt.alloc();
-    let table: [(&[u8], BenErr); 12] = [
-        (b"i03e", BenErr::Wrong { at: 0 }),
-        (b"i-0e", BenErr::Wrong { at: 0 }),
-        (b"d1:bi1e1:ai2ee", BenErr::Wrong { at: 7 }),
-        (b"d1:ai1e1:ai2ee", BenErr::Wrong { at: 7 }),
-        (b"i1ex", BenErr::Trailing { at: 3 }),
-        (b"l", BenErr::Wrong { at: 1 }),
-        (b"", BenErr::Wrong { at: 0 }),
-        (b"i9223372036854775808e", BenErr::TooWide { at: 0 }),
-        (b"i-9223372036854775809e", BenErr::TooWide { at: 0 }),
-        (b"3:ab", BenErr::Wrong { at: 0 }),
-        (b"99999999999999999999999:a", BenErr::Wrong { at: 0 }),
-        (b"l4:abe", BenErr::Wrong { at: 1 }),
-    ];
-    for (bytes, want) in table {
-        assert_eq!(rt; fault_of(alloc, bytes), Some(want));
+fn push_content(alloc: Global, told: &mut String, value: &Ben) -> Result<()> {
+    match value.kind() {
+        BenKind::Integer => {
+            let integer = value.integer().context("no integer")?;
+            write!(told, "integer {integer}")?;
+        }
+        BenKind::String => {
+            let text = shown(alloc, value.string().context("no string")?)?;
+            write!(told, "string {text}")?;
+        }
+        BenKind::List => write!(told, "list of {}", value.items().len())?,
+        BenKind::Dict => push_keys(alloc, told, value)?,
     }
     Ok(())
 }
 
-#[test]
-fn depth_is_counted(rt: HostRuntime) -> Result<(), Fail> {
-    let alloc = rt.alloc();
-    // A hundred lists within one another are read, and one more isn't.
-    let mut bytes = Vec::new(alloc);
-    for _ in 0..100u8 {
-        bytes.push(b'l')?;
+fn push_keys(alloc: Global, told: &mut String, value: &Ben) -> Result<()> {
+    write!(told, "dictionary of {}:", value.members().len())?;
+    for member in value.members() {
+        let key = shown(alloc, &member.key)?;
+        write!(told, " {key}")?;
     }
-    for _ in 0..100u8 {
-        bytes.push(b'e')?;
-    }
-    assert_eq!(rt; fault_of(alloc, &bytes), None);
-    let mut deeper = Vec::new(alloc);
-    for _ in 0..101u8 {
-        deeper.push(b'l')?;
-    }
-    assert_eq!(rt; fault_of(alloc, &deeper), Some(BenErr::TooDeep { at: 100 }));
     Ok(())
 }
 
-#[test]
-fn a_value_is_written_as_it_was_read(rt: HostRuntime) -> Result<(), Fail> {
-    let alloc = rt.alloc();
-    let text = b"d1:ai1e1:bl0:3:abci-5eee";
-    let value = Ben::read(alloc, text)?;
-    assert_eq!(rt; value.write(alloc)?.as_slice(), text.as_slice());
-    assert_eq!(rt; value.kind(), BenKind::Dict);
-    assert_eq!(rt; value.span(), (0, 24));
-    let first = value.member(b"a").ok_or("a")?;
-    assert_eq!(rt; first.integer(), Some(1));
-    assert_eq!(rt; first.span(), (4, 7));
-    let list = value.member(b"b").ok_or("b")?;
-    assert_eq!(rt; list.items().len(), 3);
-    assert!(rt; value.member(b"c").is_none());
-    Ok(())
+fn value_told(alloc: Global, value: &Ben) -> Result<String> {
+    let (start, end) = value.span();
+    let mut told = format!(in alloc; "{start} to {end}, ")?;
+    push_content(alloc, &mut told, value)?;
+    Ok(told)
+}
+
+// Whether the reader that copies nothing reads the same value there.
+fn is_same_slice(bytes: &[u8], value: &Ben) -> bool
+    requires { length bytes.now < 2 ^ 32 }
+{
+    match BenSlice::read(bytes) {
+        Ok(slice) => slice.span() == value.span() && slice.kind() == value.kind(),
+        Err(_) => false,
+    }
+}
+
+// What is read of bytes. A value has to be written as it was read, and the reader that copies nothing has to read the
+// same.
+fn reading(alloc: Global, bytes: &[u8]) -> Result<String> {
+    ensure!(bytes.len() < MOST, "too many bytes");
+    let value = match Ben::read(alloc, bytes) {
+        Ok(value) => value,
+        Err(error) => {
+            let other = BenSlice::read(bytes).err();
+            ensure!(other == Some(error), "another fault");
+            return fault(alloc, error);
+        }
+    };
+    ensure!(is_same_slice(bytes, &value), "another value");
+    let written = value.write(alloc)?;
+    ensure!(written.as_slice() == bytes, "written otherwise");
+    value_told(alloc, &value)
+}
+
+// The value to which steps lead, between which `/` stands: numbers of items, and keys.
+fn found<'a>(value: &'a Ben, path: &str) -> Option<&'a Ben> {
+    let mut here = value;
+    for step in path.split('/') {
+        here = match here.kind() {
+            BenKind::List => here.items().get(step.parse::<usize>().ok()?)?,
+            _ => here.member(step.as_bytes())?,
+        };
+    }
+    Some(here)
+}
+
+// What stands at a path in a value.
+fn looking(alloc: Global, path: &str, bytes: &[u8]) -> Result<String> {
+    ensure!(bytes.len() < MOST, "too many bytes");
+    let value = Ben::read(alloc, bytes)?;
+    match found(&value, path) {
+        Some(value) => value_told(alloc, value),
+        None => Ok(String::from_str(alloc, "nothing")?),
+    }
+}
+
+/// What comes of a line on bencoded values.
+pub fn bencoding_told(alloc: Global, word: &str, rest: &str) -> Result<String> {
+    match word {
+        "ben" => reading(alloc, &spelled(alloc, rest)?),
+        "look" => {
+            let (path, parts) = rest.split_once(' ').context("bytes are wanted")?;
+            looking(alloc, path, &spelled(alloc, parts)?)
+        }
+        _ => bail!("no line of a case: {word}"),
+    }
 }

@@ -1,59 +1,112 @@
 // Bodies of replies in pieces (RFC 9112 sections 6 and 7).
+ghost use Rattle.std.specs.Prelude.{◌<◌, ◌≤◌};
+
+use crate::spelling::{Answers, shown, spelled};
+use anyhow::{Context, Result, bail};
 use body_frames::{Body, BodyEnd, BodyErr};
-use std::test::Fail;
+use std::alloc::Global;
 
-#[test]
-fn a_chunked_body_cut_anywhere(rt: HostRuntime) -> Result<(), Fail> {
-    let alloc = rt.alloc();
-    let stream = b"5\r\nhello\r\n0\r\n\r\n";
-    for cut in 0..16usize {
-        let mut body = Body::chunked();
-        let mut out = Vec::new(alloc);
-        let before = body.feed(&stream[..cut], &mut out)?;
-        assert_eq!(rt; before.done, cut == 15);
-        let after = body.feed(&stream[cut..], &mut out)?;
-        assert!(rt; after.done);
-        assert_eq!(rt; before.used as u64 + after.used as u64, 15);
-        assert_eq!(rt; out.as_slice(), b"hello".as_slice());
-        assert_eq!(rt; body.end(), BodyEnd::Whole);
+/// Shorter bodies are cut in two at each byte.
+const CUT_ANYWHERE: usize = 100;
+
+fn body_of(framing: &str) -> Result<Body> {
+    Ok(match framing {
+        "chunked" => Body::chunked(),
+        "to-end" => Body::to_end(),
+        length => Body::length(length.parse::<u64>()?),
+    })
+}
+
+// Feeds pieces of so many bytes: how many of them are the body's, or the first fault.
+fn feed_all(body: &mut Body, stream: &[u8], cut: usize, out: &mut Vec<u8>) -> Result<u64, BodyErr>
+    requires some { 0 < cut }
+    requires few { cut ≤ 65536 }
+{
+    let mut used = 0u64;
+    for piece in stream.chunks(cut) {
+        used = used.saturating_add(u64::from(body.feed(piece, out)?.used));
     }
-    Ok(())
+    Ok(used)
 }
 
-#[test]
-fn other_framings(rt: HostRuntime) -> Result<(), Fail> {
-    let alloc = rt.alloc();
-    let mut out = Vec::new(alloc);
-    let mut short = Body::length(5);
-    assert!(rt; !short.feed(b"hell", &mut out)?.done);
-    assert_eq!(rt; short.end(), BodyEnd::Short);
-    let rest = short.feed(b"o and more", &mut out)?;
-    assert!(rt; rest.done);
-    assert_eq!(rt; rest.used, 1);
-    let mut open = Body::to_end();
-    assert!(rt; !open.feed(b"!", &mut out)?.done);
-    assert_eq!(rt; open.end(), BodyEnd::Whole);
-    assert_eq!(rt; out.as_slice(), b"hello!".as_slice());
-    Ok(())
+fn end_word(body: &Body) -> &'static str {
+    match body.end() {
+        BodyEnd::Whole => "whole",
+        BodyEnd::Short => "short",
+    }
 }
 
-#[test]
-fn wrong_chunks(rt: HostRuntime) -> Result<(), Fail> {
-    let alloc = rt.alloc();
-    let table: [(&[u8], BodyErr); 4] = [
-        (b"x\r\n", BodyErr::BadChunk),
-        (b"\r\n", BodyErr::BadChunk),
-        (b"100000000\r\n", BodyErr::BadChunk),
-        (b"2\r\nabc\r\n", BodyErr::BadChunk),
-    ];
-    for (stream, want) in table {
-        let mut body = Body::chunked();
-        let mut out = Vec::new(alloc);
-        if stream.len() < 1000 {
-            assert_eq!(rt; body.feed(stream, &mut out).err(), Some(want));
-            assert_eq!(rt; body.feed(b"", &mut out).err(), Some(BodyErr::AfterError));
-            assert_eq!(rt; body.end(), BodyEnd::Short);
+// How a body stands that took all of a stream, of which so many bytes are its own. A body that was wrong stays so.
+fn standing(
+    alloc: Global,
+    body: &mut Body,
+    used: Result<u64, BodyErr>,
+    out: &mut Vec<u8>,
+) -> Result<String> {
+    let end = end_word(body);
+    match (used, body.feed(b"", out)) {
+        (Ok(used), Ok(fed)) => {
+            let done = if fed.done { "done" } else { "open" };
+            Ok(format!(in alloc; "{used} used, {done}, {end}")?)
         }
+        (Err(BodyErr::BadChunk), Err(BodyErr::AfterError)) => {
+            Ok(format!(in alloc; "bad chunk, {end}")?)
+        }
+        (Err(BodyErr::LineTooLong), Err(BodyErr::AfterError)) => {
+            Ok(format!(in alloc; "line too long, {end}")?)
+        }
+        _ => bail!("another answer"),
+    }
+}
+
+// What comes of a stream, of which so many bytes come at once.
+fn in_pieces(alloc: Global, framing: &str, stream: &[u8], cut: usize) -> Result<String> {
+    let mut body = body_of(framing)?;
+    let mut out = Vec::new(alloc);
+    let used = feed_all(&mut body, stream, cut.max(1).min(65_536), &mut out);
+    let standing = standing(alloc, &mut body, used, &mut out)?;
+    let content = shown(alloc, &out)?;
+    Ok(format!(in alloc; "{content}; {standing}")?)
+}
+
+fn feed_both(
+    body: &mut Body,
+    front: &[u8],
+    back: &[u8],
+    out: &mut Vec<u8>,
+) -> Result<u64, BodyErr> {
+    let first = feed_all(body, front, 65_536, out)?;
+    Ok(feed_all(body, back, 65_536, out)?.saturating_add(first))
+}
+
+// What comes of a stream that comes in two pieces.
+fn in_two(alloc: Global, framing: &str, front: &[u8], back: &[u8]) -> Result<String> {
+    let mut body = body_of(framing)?;
+    let mut out = Vec::new(alloc);
+    let used = feed_both(&mut body, front, back, &mut out);
+    let standing = standing(alloc, &mut body, used, &mut out)?;
+    let content = shown(alloc, &out)?;
+    Ok(format!(in alloc; "{content}; {standing}")?)
+}
+
+fn add_cuts(alloc: Global, answers: &mut Answers, framing: &str, stream: &[u8]) -> Result<()> {
+    for cut in 0..stream.len() + 1 {
+        let (front, back) = stream.split_at(cut);
+        answers.add(in_two(alloc, framing, front, back)?, cut)?;
     }
     Ok(())
+}
+
+/// What comes of a body, in each way in which its stream comes.
+pub fn body_told(alloc: Global, line: &str, cuts: &[usize]) -> Result<String> {
+    let (framing, parts) = line.split_once(' ').context("a stream is wanted")?;
+    let stream = spelled(alloc, parts)?;
+    let mut answers = Answers::new(alloc);
+    for cut in cuts {
+        answers.add(in_pieces(alloc, framing, &stream, *cut)?, *cut)?;
+    }
+    if stream.len() < CUT_ANYWHERE {
+        add_cuts(alloc, &mut answers, framing, &stream)?;
+    }
+    answers.told(alloc)
 }

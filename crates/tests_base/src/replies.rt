@@ -1,17 +1,19 @@
-// One reply, read as its stream comes (RFC 9110 section 15.2, RFC 9112 sections 6 and 7). In a case `|` is the end of a
-// line.
+// One reply, read as its stream comes (RFC 9110 section 15.2, RFC 9112 sections 6 and 7).
 ghost use Rattle.std.specs.Prelude.{◌<◌, ◌≤◌};
 
-use dl_kinds::{Code, Mark, NoMemory};
+use crate::spelling::{Answers, shown, spelled};
+use anyhow::{Context, Result, bail};
+use dl_kinds::Code;
 use range_http::Framing;
 use reply_reader::{HeadReader, HeadsRead, Loss, SliceReader, SliceState};
 use std::alloc::Global;
-use std::str;
-use std::test::Fail;
+
+/// So many bytes of a slice are taken at once at most.
+const ROOM: usize = 2;
 
 // The heads of a stream that comes so many bytes at once: the status of the final one, and how many bytes they take; or
 // whether it may still come.
-fn heads_of(alloc: Global, stream: &[u8], cut: usize) -> Result<String, NoMemory>
+fn heads_of(alloc: Global, stream: &[u8], cut: usize) -> Result<String>
     requires some { 0 < cut }
     requires few { cut ≤ 65536 }
 {
@@ -21,54 +23,26 @@ fn heads_of(alloc: Global, stream: &[u8], cut: usize) -> Result<String, NoMemory
         match reader.take(alloc, piece) {
             HeadsRead::Whole { head, used } => {
                 let taken = came.saturating_add(used as u64);
-                return format!(in alloc; "{} {taken}", head.status);
+                return Ok(format!(in alloc; "{} {taken}", head.status)?);
             }
             HeadsRead::More => came = came.saturating_add(piece.len() as u64),
-            HeadsRead::Bad => return String::from_str(alloc, "bad"),
-            HeadsRead::NoMemory => return Err(NoMemory),
+            HeadsRead::Bad => return Ok(String::from_str(alloc, "bad")?),
+            HeadsRead::NoMemory => bail!("out of memory"),
         }
     }
-    if reader.is_due(alloc)? {
-        String::from_str(alloc, "due")
-    } else {
-        String::from_str(alloc, "bad")
-    }
+    let told = if reader.is_due(alloc)? { "due" } else { "bad" };
+    Ok(String::from_str(alloc, told)?)
 }
 
-// How many interim heads of 25 bytes there are, at most eight of which are read; what is wanted; and what follows them.
-const HEADS: &str = "\
-0 ; 206 51 ; HTTP/1.1 206 Partial Content|Content-Length: 5||hello
-2 ; 206 101 ; HTTP/1.1 206 Partial Content|Content-Length: 5||
-8 ; 206 251 ; HTTP/1.1 206 Partial Content|Content-Length: 5||
-9 ; bad ; HTTP/1.1 206 Partial Content|Content-Length: 5||
-8 ; due ; 
-9 ; bad ; 
-1 ; due ; HTTP/1.1 206 Partial Content|Content-Le
-1 ; bad ; HTTP/1.1 2o6
-1 ; bad ; no head
-0 ; bad ; no head||
-1 ; bad ; HTTP/1.1 206 Partial Content|Content Length: 5||
-";
-
-#[test]
-fn heads_in_any_pieces(rt: HostRuntime) -> Result<(), Fail> {
-    let alloc = rt.alloc();
-    for line in HEADS.lines() {
-        let mut parts = line.split(" ; ");
-        let count = parts.next().ok_or("no count")?.parse::<usize>()?;
-        let want = parts.next().ok_or("no heads")?;
-        let mut text = "HTTP/1.1 100 Continue||".repeat(alloc, count)?;
-        text.push_str(parts.next().ok_or("no text")?)?;
-        let stream = text.replace(alloc, '|', "\r\n")?;
-        for cut in [1, 7, 65_536] {
-            let heads = heads_of(alloc, stream.as_bytes(), cut)?;
-            assert_eq!(rt; heads.as_str(), want, "at {line}");
-        }
+fn heads_told(alloc: Global, stream: &[u8], cuts: &[usize]) -> Result<String> {
+    let mut answers = Answers::new(alloc);
+    for cut in cuts {
+        answers.add(heads_of(alloc, stream, (*cut).max(1).min(65_536))?, *cut)?;
     }
-    Ok(())
+    answers.told(alloc)
 }
 
-fn framing_of(word: &str) -> Result<Framing, Fail> {
+fn framing_of(word: &str) -> Result<Framing> {
     Ok(match word {
         "chunked" => Framing::Chunked,
         "to-end" => Framing::ToEnd,
@@ -76,97 +50,99 @@ fn framing_of(word: &str) -> Result<Framing, Fail> {
     })
 }
 
-// Five bytes of a content behind some others, and how it stands with them, where the stream comes so many bytes at once
-// and two at most are taken.
-fn slice_of(
-    alloc: Global,
-    framing: Framing,
-    skip: u64,
-    stream: &[u8],
-    cut: usize,
-) -> Result<String, NoMemory>
+fn state_word(state: SliceState) -> &'static str {
+    match state {
+        SliceState::More => "more",
+        SliceState::Come => "all came",
+        SliceState::Wrong => "wrong",
+        SliceState::Over => "over",
+    }
+}
+
+// Takes what a reader takes of a stream that comes so many bytes at once.
+fn take_slice(alloc: Global, reader: SliceReader, stream: &[u8], cut: usize) -> Result<String>
+    requires some { 0 < cut }
     requires few { cut ≤ 65536 }
 {
-    let mut reader = SliceReader::new(framing, skip, 5);
+    let mut reader = reader;
     let mut out = Vec::new(alloc);
     let mut dropped = Vec::new(alloc);
     let mut rest = stream;
     let mut state = SliceState::More;
-    for _ in 0..100u8 {
+    for _ in 0..stream.len() {
         let piece = &rest[..rest.len().min(cut)];
         if piece.is_empty() || state != SliceState::More {
             break;
         }
-        out.reserve(2)?;
+        out.reserve(ROOM)?;
         dropped.reserve(65_536)?;
-        let read = reader.take(piece, 2, &mut out, &mut dropped);
+        let read = reader.take(piece, ROOM, &mut out, &mut dropped);
         state = read.state;
         rest = &rest[read.used as usize..];
     }
-    let bytes = str::from_utf8(&out).unwrap_or("no text");
-    format!(in alloc; "{bytes} {state:?}")
+    let bytes = shown(alloc, &out)?;
+    Ok(format!(in alloc; "{bytes}; {}", state_word(state))?)
 }
 
-// The framing, how many bytes come before the slice, what is wanted, and the stream.
-const SLICES: &str = "\
-5 ; 0 ; hello Come ; hello
-9 ; 4 ; hello Come ; oh, hello, world
-9 ; 4 ; hell More ; oh, hell
-4 ; 0 ; hell Over ; hell
-3 ; 4 ;  Over ; oh,
-to-end ; 4 ; hello Come ; oh, hello, world
-to-end ; 4 ;  More ; oh
-chunked ; 0 ; hello Come ; 5|hello|0||
-chunked ; 4 ; hello Come ; 6|oh, he|3;x=y|llo
-chunked ; 0 ; hell Over ; 4|hell|0||
-chunked ; 4 ;  Over ; 4|oh, |0||
-chunked ; 0 ; hell Wrong ; 4|hellxx
-chunked ; 4 ;  Wrong ; x|
-";
+// Some bytes of a content behind some others, and how it stands with them.
+fn slice_told(alloc: Global, words: &[&str], cuts: &[usize]) -> Result<String> {
+    let [framing, skip, len, parts] = words else {
+        bail!("a framing, two numbers and a stream are wanted");
+    };
+    let stream = spelled(alloc, parts)?;
+    let mut answers = Answers::new(alloc);
+    for cut in cuts {
+        let skip = skip.parse::<u64>()?;
+        let reader = SliceReader::new(framing_of(framing)?, skip, len.parse::<u64>()?);
+        let answer = take_slice(alloc, reader, &stream, (*cut).max(1).min(65_536))?;
+        answers.add(answer, *cut)?;
+    }
+    answers.told(alloc)
+}
 
-#[test]
-fn slices_in_any_pieces(rt: HostRuntime) -> Result<(), Fail> {
-    let alloc = rt.alloc();
-    for line in SLICES.lines() {
-        let mut parts = line.split(" ; ");
-        let framing = framing_of(parts.next().ok_or("no framing")?)?;
-        let skip = parts.next().ok_or("no skip")?.parse::<u64>()?;
-        let want = parts.next().ok_or("no slice")?;
-        let stream = parts
-            .next()
-            .ok_or("no stream")?
-            .replace(alloc, '|', "\r\n")?;
-        for cut in [1, 3, 65_536] {
-            let slice = slice_of(alloc, framing, skip, stream.as_bytes(), cut)?;
-            assert_eq!(rt; slice.as_str(), want, "at {line}");
+fn loss_of(words: &[&str]) -> Result<Loss> {
+    Ok(match words {
+        ["link", count] => Loss::Link {
+            count: count.parse::<u64>()?,
+        },
+        ["not-found"] => Loss::NotFound,
+        ["refused", status, code] => Loss::Refused {
+            status: status.parse::<u16>()?,
+            code: Code(code.parse::<u8>()?),
+        },
+        ["bad-reply"] => Loss::BadReply,
+        ["length", told, want] => Loss::Length {
+            told: told.parse::<u64>()?,
+            want: want.parse::<u64>()?,
+        },
+        ["short", got] => Loss::Short {
+            got: got.parse::<u64>()?,
+        },
+        ["redirects"] => Loss::Redirects,
+        ["memory"] => Loss::NoMemory,
+        _ => bail!("no loss"),
+    })
+}
+
+fn mark_told(alloc: Global, loss: &Loss) -> Result<String> {
+    match loss.mark() {
+        Some(mark) => Ok(format!(in alloc; "{} {}", mark.code.0, mark.count)?),
+        None => Ok(String::from_str(alloc, "none")?),
+    }
+}
+
+/// What comes of a line on a reply, which comes in each of these ways.
+pub fn reply_line_told(alloc: Global, word: &str, rest: &str, cuts: &[usize]) -> Result<String> {
+    match word {
+        "heads" => heads_told(alloc, &spelled(alloc, rest)?, cuts),
+        "slice" => {
+            let words: Vec<&str> = rest.splitn(4, ' ').collect(alloc)?;
+            slice_told(alloc, &words, cuts)
         }
+        "mark" => {
+            let words: Vec<&str> = rest.split(' ').collect(alloc)?;
+            mark_told(alloc, &loss_of(&words)?)
+        }
+        _ => bail!("no line of a case: {word}"),
     }
-    Ok(())
-}
-
-// The exit statuses are those of the aria2 manual.
-#[test]
-fn marks_of_losses(rt: HostRuntime) -> Result<(), Fail> {
-    let cases = [
-        (Loss::Link { count: 9 }, 6, 9),
-        (Loss::NotFound, 3, 0),
-        (
-            Loss::Refused {
-                status: 503,
-                code: Code(29),
-            },
-            29,
-            0,
-        ),
-        (Loss::BadReply, 22, 0),
-        (Loss::Length { told: 6, want: 5 }, 22, 0),
-        (Loss::Short { got: 4 }, 6, 0),
-        (Loss::Redirects, 23, 0),
-    ];
-    for (loss, code, count) in cases {
-        let code = Code(code);
-        assert_eq!(rt; loss.mark(), Some(Mark { code, count }));
-    }
-    assert_eq!(rt; Loss::NoMemory.mark(), None);
-    Ok(())
 }
