@@ -12,6 +12,8 @@ which isn't read. A request over a connection that was closed meanwhile goes onc
 import os
 import sys
 
+from case_files import settle
+
 TOP = os.path.dirname(os.path.dirname(os.path.dirname(os.path.realpath(__file__))))
 CRATE = f"{TOP}/crates/tests_fetch"
 BLOCK = 16_384
@@ -79,21 +81,9 @@ def wanted():
                     yield f"  {told}"
 
 
-def main():
-    want = "".join(f"{line}\n" for line in wanted())
-    path = f"{CRATE}/stdout"
-    if sys.argv[1:] != ["--check"]:
-        with open(path, "w", encoding="utf-8") as it:
-            it.write(want)
-        return
-    with open(path, encoding="utf-8") as it:
-        have = it.read()
-    for number, (got, right) in enumerate(zip(have.splitlines(), want.splitlines()), 1):
-        if got != right:
-            sys.exit(f"{path}, line {number}: {got!r}, and not {right!r}")
-    if have != want:
-        sys.exit(f"{path} has {len(have.splitlines())} lines, and not {len(want.splitlines())}")
+def main(words):
+    settle([("crates/tests_fetch/stdout", "".join(f"{line}\n" for line in wanted()))], words)
 
 
 if __name__ == "__main__":
-    main()
+    main(sys.argv[1:])

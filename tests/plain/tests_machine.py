@@ -1,11 +1,11 @@
 #!/usr/bin/env python3
 """What crates/tests_machine has to print, by a plain model of a run.
 
-Without words it writes crates/tests_machine/stdout. With --check it compares, and with --steps it first writes the
-files of random steps anew."""
+Without words it writes the files of random steps and crates/tests_machine/stdout anew. With --check it compares them."""
 import os
 import sys
 
+from case_files import settle
 from machine_run import printed
 from machine_steps import random_files
 
@@ -22,37 +22,9 @@ def expected():
     return told
 
 
-def first_difference(have, want):
-    pairs = zip(have.splitlines() + ["(the end)"], want.splitlines() + ["(the end)"])
-    for number, (line, other) in enumerate(pairs, 1):
-        if line != other:
-            return "line %d: %r stands there, and %r is wanted" % (number, line, other)
-    return "the ends differ"
-
-
-def check(name, want):
-    with open(os.path.join(CRATE, name), encoding="utf-8") as file:
-        have = file.read()
-    if have != want:
-        print("tests_machine/%s: %s" % (name, first_difference(have, want)))
-        sys.exit(1)
-
-
-def write(name, text):
-    with open(os.path.join(CRATE, name), "w", encoding="utf-8") as file:
-        file.write(text)
-
-
 def main(words):
-    if words == ["--check"]:
-        for name, text in random_files().items():
-            check(os.path.join("data", name), text)
-        check("stdout", expected())
-        return
-    if words == ["--steps"]:
-        for name, text in random_files().items():
-            write(os.path.join("data", name), text)
-    write("stdout", expected())
+    settle([(f"crates/tests_machine/data/{name}", text) for name, text in random_files().items()], words)
+    settle([("crates/tests_machine/stdout", expected())], words)
 
 
 if __name__ == "__main__":
