@@ -5,7 +5,7 @@ ghost use Rattle.dl_kinds.specs.Plan.{blocks_of, pieces_of};
 use bit_rows::BitRow;
 use dl_kinds::{Code, Mark, Moment, Plan, Run};
 use mirror_blame::Marks;
-use piece_table::Table;
+use piece_table::{NewRuns, Table};
 use segment_claim::{Claim, Claims, Limits, Views, steals_are_of_claims};
 use slow_steal::victim;
 use std::alloc::{AllocError, Global};
@@ -136,12 +136,14 @@ impl Rig {
         Ok(Some(self.claims.grant_steal(id, 0, steal, mirror, Moment(now))))
     }
 
-    /// A mirror gives some blocks, and the claims that are done don't stand any more.
-    pub fn land(&mut self, first: u32, count: u32, mirror: u16) {
-        if count <= 64 && first as u64 + count as u64 <= self.plan.blocks() as u64 {
-            self.table.land(Run { first, count }, mirror);
-            self.claims.sweep(&self.table);
+    /// A mirror gives some blocks, and the claims that are done don't stand any more. Told is which are new.
+    pub fn land(&mut self, first: u32, count: u32, mirror: u16) -> NewRuns {
+        if count > 64 || first as u64 + count as u64 > self.plan.blocks() as u64 {
+            return NewRuns::new();
         }
+        let new = self.table.land(Run { first, count }, mirror);
+        self.claims.sweep(&self.table);
+        new
     }
 
     /// The claim under a number is given up.
@@ -154,6 +156,13 @@ impl Rig {
         if piece < self.plan.pieces && !self.table.is_verified(piece) {
             self.table.clear(piece);
             self.claims.cleared(piece);
+        }
+    }
+
+    /// A full piece that isn't verified is found right or wrong.
+    pub fn settle(&mut self, piece: u32, right: bool) {
+        if piece < self.plan.pieces && self.table.is_full(piece) && !self.table.is_verified(piece) {
+            self.table.settle(piece, right);
         }
     }
 
@@ -185,5 +194,13 @@ impl Rig {
             self.marks.failed(mirror, piece, mark);
         }
         Ok(())
+    }
+
+    /// The mirror that is chosen for these pieces, where so many claims stand on the host of each.
+    pub fn choose(&self, first: u32, last: u32, standing: &[u16], limit: u16) -> Option<u16> {
+        if first > last || standing.len() != self.hosts.len() {
+            return None;
+        }
+        self.marks.choose(first, last, standing, limit)
     }
 }
