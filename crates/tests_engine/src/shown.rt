@@ -1,33 +1,31 @@
 // Answers and events as text.
 use crate::letters;
+use anyhow::{Context, Result};
 use dl_kinds::Claim;
 use engine_turns::{FetchGrant, Grant, Said};
 use machine_core::{Call, End, Event, Journal};
 use piece_table::Giver;
 use run_replies::Reply;
 use std::alloc::Global;
-use std::test::Fail;
 
 // Blocks that are to be fetched: of which claim, which run, from where, and how many bytes before more are asked for.
-fn shown_fetch(alloc: Global, fetch: &FetchGrant) -> Result<String, Fail> {
+fn shown_fetch(alloc: Global, fetch: &FetchGrant) -> Result<String> {
     let run = fetch.job.run;
     let mut text = format!(in alloc; "fetch {}: {}+{}", fetch.claim, run.first, run.count)?;
     for place in 0..fetch.job.parts.len() {
-        let part = fetch.job.parts.get(place).ok_or("a part")?;
-        let part = format!(in alloc;
-            ", {} from {} of {} at {}",
-            part.len,
-            part.at,
-            part.total,
-            part.url.as_str()
+        let part = fetch.job.parts.get(place).context("a part is wanted")?;
+        let url = part.url.as_str();
+        write!(
+            text,
+            ", {} from {} of {} at {url}",
+            part.len, part.at, part.total
         )?;
-        text.push_str(part.as_str())?;
     }
-    text.push_str(format!(in alloc; ", {} now", fetch.allow)?.as_str())?;
+    write!(text, ", {} now", fetch.allow)?;
     Ok(text)
 }
 
-fn shown_grant(alloc: Global, grant: &Grant) -> Result<String, Fail> {
+fn shown_grant(alloc: Global, grant: &Grant) -> Result<String> {
     Ok(match grant {
         Grant::Fetch(fetch) => shown_fetch(alloc, fetch)?,
         Grant::Probe { claim, url, .. } => {
@@ -40,7 +38,7 @@ fn shown_grant(alloc: Global, grant: &Grant) -> Result<String, Fail> {
     })
 }
 
-fn shown_reply(alloc: Global, reply: &Reply) -> Result<String, Fail> {
+fn shown_reply(alloc: Global, reply: &Reply) -> Result<String> {
     Ok(match reply {
         Reply::Gid(_) => String::from_str(alloc, "gid")?,
         Reply::Refused(refusal) => format!(in alloc; "{refusal:?}")?,
@@ -48,8 +46,20 @@ fn shown_reply(alloc: Global, reply: &Reply) -> Result<String, Fail> {
     })
 }
 
+// An answer without numbers.
+fn word_of(said: &Said) -> &'static str {
+    match said {
+        Said::Void => "void",
+        Said::Idle => "idle",
+        Said::Done => "done",
+        Said::Finished => "finished",
+        Said::JournalFull { .. } => "journal full",
+        _ => "no memory",
+    }
+}
+
 /// What an operation is answered.
-pub fn shown_said(alloc: Global, said: &Said) -> Result<String, Fail> {
+pub fn shown_said(alloc: Global, said: &Said) -> Result<String> {
     Ok(match said {
         Said::Replied { reply, .. } => shown_reply(alloc, reply)?,
         Said::Grant(grant) => shown_grant(alloc, grant)?,
@@ -57,17 +67,12 @@ pub fn shown_said(alloc: Global, said: &Said) -> Result<String, Fail> {
             format!(in alloc; "{counted} kept, {repeated} again")?
         }
         Said::Allow { bytes } => format!(in alloc; "{bytes} now")?,
-        Said::Void => String::from_str(alloc, "void")?,
         Said::Hold { ms } => format!(in alloc; "hold {ms}")?,
-        Said::Idle => String::from_str(alloc, "idle")?,
-        Said::Done => String::from_str(alloc, "done")?,
-        Said::Finished => String::from_str(alloc, "finished")?,
-        Said::JournalFull { .. } => String::from_str(alloc, "journal full")?,
-        Said::NoMemory => String::from_str(alloc, "no memory")?,
+        other => String::from_str(alloc, word_of(other))?,
     })
 }
 
-fn shown_claim(alloc: Global, claim: &Claim) -> Result<String, Fail> {
+fn shown_claim(alloc: Global, claim: &Claim) -> Result<String> {
     let run = claim.run;
     Ok(format!(in alloc;
         "claimed {}: {}+{} at {}",
@@ -75,7 +80,7 @@ fn shown_claim(alloc: Global, claim: &Claim) -> Result<String, Fail> {
     )?)
 }
 
-fn shown_finding(alloc: Global, piece: u32, right: bool, giver: Giver) -> Result<String, Fail> {
+fn shown_finding(alloc: Global, piece: u32, right: bool, giver: Giver) -> Result<String> {
     let finding = if right { "right" } else { "wrong" };
     Ok(match giver {
         Giver::One(mirror) => format!(in alloc; "piece {piece} {finding} of {mirror}")?,
@@ -84,22 +89,26 @@ fn shown_finding(alloc: Global, piece: u32, right: bool, giver: Giver) -> Result
     })
 }
 
-fn shown_end(alloc: Global, end: &End) -> Result<String, Fail> {
+/// How a download ended.
+pub fn shown_end(alloc: Global, end: &End) -> Result<String> {
     Ok(match end {
         End::Complete => String::from_str(alloc, "complete")?,
         End::Disk { count } => format!(in alloc; "disk {count}")?,
         End::Exists { length } => format!(in alloc; "exists of {length}")?,
         End::PieceLength { have, want } => format!(in alloc; "pieces of {have} for {want}")?,
         End::Length { have, want } => format!(in alloc; "length {have} for {want}")?,
-        End::InfoHash => String::from_str(alloc, "another info hash")?,
         End::Unreadable { at } => format!(in alloc; "unreadable at {at}")?,
         End::Dead { piece, mark } => format!(in alloc; "dead {piece} of {}", mark.code.0)?,
-        _ => String::from_str(alloc, "another end")?,
+        End::TooLarge { total } => format!(in alloc; "too large: {total}")?,
+        End::SameFile { gid } => format!(in alloc; "a file of {}", gid.0)?,
+        End::SameHash { gid } => format!(in alloc; "the info hash of {}", gid.0)?,
+        End::InfoHash => String::from_str(alloc, "another info hash")?,
+        End::Checksum => String::from_str(alloc, "checksum")?,
     })
 }
 
 // What is taken up of a download: nothing, or its verified pieces and its blocks in hexadecimal digits.
-fn shown_opened(alloc: Global, verified: &[u8], blocks: &[u8]) -> Result<String, Fail> {
+fn shown_opened(alloc: Global, verified: &[u8], blocks: &[u8]) -> Result<String> {
     if blocks.iter().all(|byte| *byte == 0) {
         return Ok(String::from_str(alloc, "opened")?);
     }
@@ -110,14 +119,24 @@ fn shown_opened(alloc: Global, verified: &[u8], blocks: &[u8]) -> Result<String,
     )?)
 }
 
-// An event.
-fn shown_event(alloc: Global, event: &Event) -> Result<String, Fail> {
-    Ok(match event {
+// An event without numbers.
+fn name_of(event: &Event) -> &'static str {
+    match event {
         Event::Called {
             call: Call::AddTorrent { .. },
             ..
-        } => String::from_str(alloc, "torrent")?,
-        Event::Called { .. } => String::from_str(alloc, "call")?,
+        } => "torrent",
+        Event::Called { .. } => "call",
+        Event::Saved { .. } => "saved",
+        Event::Stopped => "stopped",
+        Event::Checked { right: true, .. } => "checked right",
+        Event::Checked { .. } => "checked wrong",
+        _ => "another event",
+    }
+}
+
+fn shown_event(alloc: Global, event: &Event) -> Result<String> {
+    Ok(match event {
         Event::Opened {
             verified,
             blocks,
@@ -136,20 +155,19 @@ fn shown_event(alloc: Global, event: &Event) -> Result<String, Fail> {
         } => shown_finding(alloc, *piece, *right, *giver)?,
         Event::Cleared { piece, .. } => format!(in alloc; "cleared {piece}")?,
         Event::Ended { end, .. } => shown_end(alloc, end)?,
-        Event::Lost { claim, .. } => format!(in alloc; "lost {claim}")?,
-        Event::Saved { .. } => String::from_str(alloc, "saved")?,
-        Event::Stopped => String::from_str(alloc, "stopped")?,
-        _ => String::from_str(alloc, "another event")?,
+        Event::Lost { claim, piece, .. } => format!(in alloc; "lost {claim} at piece {piece}")?,
+        other => String::from_str(alloc, name_of(other))?,
     })
 }
 
 /// What happened, an event a line.
-pub fn shown_journal(alloc: Global, journal: &Journal) -> Result<String, Fail> {
+pub fn shown_journal(alloc: Global, journal: &Journal) -> Result<String> {
     let mut text = String::new(alloc);
     for place in 0..journal.len() {
-        let event = journal.get(place).ok_or("an event")?;
-        text.push_str(shown_event(alloc, event)?.as_str())?;
-        text.push_str("\n")?;
+        let event = journal.get(place).context("an event is wanted")?;
+        let event = shown_event(alloc, event)?;
+        let line = if place == 0 { "" } else { "\n  " };
+        write!(text, "{line}{event}")?;
     }
     Ok(text)
 }
