@@ -35,6 +35,15 @@ def told_lines(crate, told):
     return "".join(f"{line}\n" for line in out)
 
 
+def printed_by(crate, printed):
+    """What the function tells of the texts of the crate's case files, one behind the other."""
+    told = ""
+    for name in open(f"{ROOT}/crates/{crate}/args", encoding="utf-8").read().split():
+        with open(f"{ROOT}/crates/{crate}/data/{name}", encoding="utf-8") as cases:
+            told += printed(cases.read())
+    return told
+
+
 def first_difference(path, found, expected):
     for place, (line, other) in enumerate(zip_longest(found.split("\n"), expected.split("\n")), 1):
         if line != other:

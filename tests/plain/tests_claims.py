@@ -1,15 +1,13 @@
 #!/usr/bin/env python3
 """What crates/tests_claims has to print, by the plain model of a download.
 
-Without words it writes crates/tests_claims/stdout. With --check it compares, and with --steps it first writes the files
-of random rows and steps anew."""
-import os
+Without words it writes the files of random rows and steps and crates/tests_claims/stdout anew. With --check it compares
+them."""
 import sys
 
+from case_files import printed_by, settle
 from machine_run import BLOCK, DEFAULTS, Claim, Download, Plan
 from machine_steps import Random
-
-CRATE = os.path.join(os.path.dirname(os.path.abspath(__file__)), "..", "..", "crates", "tests_claims")
 
 
 def runs_of(blocks):
@@ -254,50 +252,9 @@ def random_files():
     return {"rows.txt": "\n".join(rows), "steps.txt": "\n".join(steps)}
 
 
-# ---- the crate
-
-
-def expected():
-    with open(os.path.join(CRATE, "args"), encoding="utf-8") as args:
-        names = args.read().split()
-    told = ""
-    for name in names:
-        with open(os.path.join(CRATE, "data", name), encoding="utf-8") as cases:
-            told += printed(cases.read())
-    return told
-
-
-def first_difference(have, want):
-    pairs = zip(have.splitlines() + ["(the end)"], want.splitlines() + ["(the end)"])
-    for number, (line, other) in enumerate(pairs, 1):
-        if line != other:
-            return "line %d: %r stands there, and %r is wanted" % (number, line, other)
-    return "the ends differ"
-
-
-def check(name, want):
-    with open(os.path.join(CRATE, name), encoding="utf-8") as file:
-        have = file.read()
-    if have != want:
-        print("tests_claims/%s: %s" % (name, first_difference(have, want)))
-        sys.exit(1)
-
-
-def write(name, text):
-    with open(os.path.join(CRATE, name), "w", encoding="utf-8") as file:
-        file.write(text)
-
-
 def main(words):
-    if words == ["--check"]:
-        for name, text in random_files().items():
-            check(os.path.join("data", name), text)
-        check("stdout", expected())
-        return
-    if words == ["--steps"]:
-        for name, text in random_files().items():
-            write(os.path.join("data", name), text)
-    write("stdout", expected())
+    settle([(f"crates/tests_claims/data/{name}", text) for name, text in random_files().items()], words)
+    settle([("crates/tests_claims/stdout", printed_by("tests_claims", printed))], words)
 
 
 if __name__ == "__main__":
