@@ -1,0 +1,7 @@
+mod AddressLemmas
+mod ClosingLemmas
+mod FrontLemmas
+mod LastLemmas
+mod LawLemmas
+mod LineLemmas
+mod ReplyLemmas
