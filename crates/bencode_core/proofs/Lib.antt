@@ -8,6 +8,7 @@ pub mod Made
 pub mod Items
 pub mod Pairs
 pub mod Levels
+pub mod Listed
 pub mod Passed
 pub mod Whole
 pub mod Slices

@@ -10,7 +10,7 @@ use Rattle.std.proofs.lemmas.List.{take_at, drop_at, length-drop}
 use Rattle.std.proofs.lemmas.List.Sums.{take_while-cons}
 use Rattle.std.proofs.lemmas.Fmt.{decimal_is_IsNumeral, decimal-digits_value, first_decimal, decimal_digit}
 use Rattle.std.proofs.lemmas.Str.Parse.{numerals_by_value, tells_digits}
-use Rattle.dl_words.specs.Decimal.{BeginsWithDigit}
+use Rattle.dl_kinds.specs.Decimal.{BeginsWithDigit}
 use Rattle.bencode_core.specs.Reading.{begins, digits_at, canonical_number, number_at}
 
 -- ---- digits

@@ -117,7 +117,7 @@ string_begins byte s rest other fits =
     rw (string_grouped s rest) (begins_no_digit byte (decimal (length s)) (58 ∷ (s ++ rest)) other is.0.1 is.0.0)
 
 -- a string begins with a digit
-begins_text : (byte : ℕ) (s bytes : List ℕ) → is_ascii_digit byte ≡ false → Spells (string s) bytes → begins byte bytes ≡ false
+pub begins_text : (byte : ℕ) (s bytes : List ℕ) → is_ascii_digit byte ≡ false → Spells (string s) bytes → begins byte bytes ≡ false
 begins_text byte s bytes other spells = ap (begins byte) (before_none (string s) bytes spells) ∙ string_begins byte s [] other (omega (arith, string_fits s, spells.is_value.short))
 
 pub no_items_at : (place : ℕ) (v : Value) (bytes : List ℕ) → Spells v bytes → begins 108 bytes ≡ false → items_at place v ≡ []
@@ -269,7 +269,7 @@ pub record NextMember (whole : Placed) (key : List ℕ) (next : ℕ) (rest text 
   pub more : bytes_eq text key ≡ false → MembersLeft whole key (next + length (string_spelling text) + length (spelling v)) (drop (length (spelling v)) behind_text)
   pub fits : (0 < length (spelling v)) × (length (spelling v) ≤ length behind_text)
 
-no_text : string_at (101 ∷ []) ≡ None
+pub no_text : string_at (101 ∷ []) ≡ None
 unfolding string_at number_at
 no_text = refl
 

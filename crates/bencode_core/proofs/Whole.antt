@@ -3,7 +3,7 @@ use Rattle.std.proofs.Common.{◌≡◌, ℕ, ◌^◌, ◌<◌, cond, eqb, List,
 use Rattle.std.specs.Prelude.{IfOk}
 use Rattle.std.proofs.lemmas.Bool.{eqb-true, eq-eqb}
 use Rattle.std.proofs.lemmas.List.{append-nil, append_cancel_left, length-append, nil_from_length}
-use Rattle.dl_words.specs.Answers.{Gives}
+use Rattle.dl_kinds.specs.Answers.{Gives}
 use Rattle.bencode_core.specs.Value.{Value, spelling, Spells}
 use Rattle.bencode_core.specs.Placed.{Placed}
 use Rattle.bencode_core.specs.Reading.{value_at, reading, fault_of}

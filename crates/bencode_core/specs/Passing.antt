@@ -1,6 +1,6 @@
 -- How many bytes spell what is read.
 use Rattle.std.specs.Prelude.{◌≡◌, ℕ, true, is_some, List, length, Result, Ok, Err}
-use Rattle.dl_words.specs.Answers.{Gives}
+use Rattle.dl_kinds.specs.Answers.{Gives}
 use Rattle.bencode_core.specs.Value.{Value, spelling}
 use Rattle.bencode_core.specs.Reading.{fault_of, member_spelling}
 use Rattle.bencode_core.specs.declared.fault.BenErr.{BenErr}

@@ -1,7 +1,7 @@
 -- A value that stands at a place of the input, and what it holds, each part at its own place.
 use Rattle.std.specs.Prelude.{◌≡◌, ◌≤◌, ℕ, ◌+◌, ◌-◌, ℤ, List, [], ◌∷◌, length, find, Option, Some, None, option_map}
 use Rattle.std.specs.Str.{bytes_eq}
-use Rattle.dl_words.specs.Lists.{part_at}
+use Rattle.dl_kinds.specs.Lists.{part_at}
 use Rattle.bencode_core.specs.Value.{Value, Values, Members, list, dict, integer, string, no_values, value, no_members, member, spelling, string_spelling}
 use Rattle.bencode_core.specs.declared.ben.BenKind.{BenKind}
 use Rattle.bencode_core.specs.declared.ben.BenKind.TheVariants as kinds

@@ -5,7 +5,7 @@ use Rattle.std.specs.Char.{is_ascii_digit}
 use Rattle.std.specs.List.{take_while}
 use Rattle.std.specs.Str.Parse.{digits_value}
 use lib.Signed.{mag}
-use Rattle.dl_words.specs.Answers.{Gives}
+use Rattle.dl_kinds.specs.Answers.{Gives}
 use Rattle.bencode_core.specs.Placed.{Placed}
 use Rattle.bencode_core.specs.declared.reading.TheConstants.{MAX_DEPTH}
 use Rattle.bencode_core.specs.declared.scalars.TheConstants.{COLON, DICT, END, INTEGER, LIST, MINUS, ZERO}

@@ -1,6 +1,6 @@
 // Values that are passed over: their grammar is tested, and nothing of them is kept.
 ghost use Rattle.std.specs.Prelude.{◌≡◌, ℕ, List, Option, ◌+◌, ◌^◌, ◌<◌, ◌≤◌, length, option_map, IfErr};
-ghost use Rattle.dl_words.specs.Answers.{Gives};
+ghost use Rattle.dl_kinds.specs.Answers.{Gives};
 ghost use Rattle.bencode_core.specs.Passing as passing;
 ghost use Rattle.bencode_core.specs.Reading as specs;
 

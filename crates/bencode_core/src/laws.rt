@@ -2,6 +2,7 @@
 ghost use Rattle.std.specs.Prelude.{◌≡◌, ◌↔◌, ℕ, List, ◌++◌, ◌^◌, ◌<◌, Ok, length};
 ghost use Rattle.bencode_core.specs.Value.{Value, IsValue, Spells, spelling};
 ghost use Rattle.bencode_core.specs.Reading.{reading};
+ghost use Rattle.bencode_core.specs.declared.reading.TheConstants.{MAX_DEPTH};
 
 /// A value has one spelling, and bytes spell one value.
 pub fn one_spelling()
@@ -20,4 +21,9 @@ pub fn no_spelling_begins_another()
 pub fn reads_what_is_spelled()
     ensures { (v : Value) (bytes : List ℕ) → length bytes < 2 ^ 32
         → (reading bytes ≡ Ok v) ↔ Spells v bytes }
+{}
+
+/// How deep values may stand in one another. It does nothing when it runs.
+pub fn limits_are_told()
+    ensures { MAX_DEPTH ≡ 100 }
 {}

@@ -13,6 +13,6 @@ mod writing;
 
 pub use ben::{Ben, BenKind, Member};
 pub use fault::BenErr;
-pub use laws::{no_spelling_begins_another, one_spelling, reads_what_is_spelled};
+pub use laws::{limits_are_told, no_spelling_begins_another, one_spelling, reads_what_is_spelled};
 pub use reading::MAX_DEPTH;
 pub use slice::BenSlice;

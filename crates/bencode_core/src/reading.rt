@@ -1,6 +1,6 @@
 // Bytes as values.
 ghost use Rattle.std.specs.Prelude.{◌≡◌, ℕ, List, ◌++◌, Option, Some, ◌+◌, ◌^◌, ◌<◌, ◌≤◌, length, drop, IfOk, IfErr, option_map};
-ghost use Rattle.dl_words.specs.Answers.{Gives};
+ghost use Rattle.dl_kinds.specs.Answers.{Gives};
 ghost use Rattle.bencode_core.specs.Value.{spelling, string_spelling};
 ghost use Rattle.bencode_core.specs.Node.{last_key};
 ghost use Rattle.bencode_core.specs.declared.ben.Member.{Member};

@@ -3,7 +3,7 @@ ghost use Rattle.std.specs.Prelude.{◌≡◌, ℕ, List, ◌-◌, ◌^◌, ◌<
 ghost use Rattle.std.specs.Str.Parse.{AllDigits};
 ghost use Rattle.bencode_core.specs.Reading as specs;
 
-use dl_words::{numeral_len, numeral_value};
+use dl_kinds::{numeral_len, numeral_value};
 
 /// What begins an integer, a list and a dictionary.
 pub(crate) const INTEGER: u8 = b'i';

@@ -1,5 +1,5 @@
 // Bencoded values that are read as their parts are asked for.
-ghost use Rattle.std.specs.Prelude.{◌≡◌, ℕ, List, ◌+◌, ◌^◌, ◌<◌, length, option_map, IfOk, IfSome};
+ghost use Rattle.std.specs.Prelude.{◌≡◌, ℕ, List, ◌+◌, ◌^◌, ◌<◌, length, map, option_map, IfOk, IfSome};
 ghost use Rattle.bencode_core.specs.Value.{Value, Spells, spelling};
 ghost use Rattle.bencode_core.specs.Reading as specs;
 ghost use Rattle.bencode_core.specs.Slice.{IsFront, placed_at};
@@ -36,7 +36,7 @@ impl<'a> Model for BenSlice<'a> {
 }
 
 impl<'a> BenSlice<'a> {
-    ghost use Rattle.bencode_core.specs.Placed.{items_of, member_of, integer_of, string_of, kind_of, StandsIn};
+    ghost use Rattle.bencode_core.specs.Placed.{items_of, members_of, member_of, integer_of, string_of, kind_of, StandsIn};
 
     /// The value that the bytes spell, all of them. An error is the first fault from left to right, as `Ben::read`
     /// answers it, and never want of memory.
@@ -107,6 +107,27 @@ impl<'a> BenSlice<'a> {
             items.push(item)?;
         }
         Ok(items)
+    }
+
+    /// The members of a dictionary, keys and values, in their order; none of another kind. Each takes 40 bytes of memory.
+    pub fn members(&self, alloc: Global) -> Result<Vec<(&'a [u8], BenSlice<'a>)>, AllocError>
+        ensures { IfOk result (λ ms. map (λ m. (m.0.now, m.1)) ms.items ≡ members_of self.now) }
+    {
+        let mut members = Vec::new(alloc);
+        if !begins(DICT, self.bytes) {
+            return Ok(members);
+        }
+        let mut next = self.place + 1;
+        let mut rest = behind(1, self.bytes);
+        while let Some((key, behind_key)) = string_at(rest) {
+            let at = next + (rest.len() - behind_key.len()) as u32;
+            let value = front(at, behind_key);
+            let (_, end) = value.span();
+            rest = behind(end - at, behind_key);
+            next = end;
+            members.push((key, value))?;
+        }
+        Ok(members)
     }
 
     /// The value of this key in a dictionary.

@@ -1,0 +1,11 @@
+pub mod BlockLemmas
+pub mod FileLemmas
+pub mod LeafLemmas
+pub mod LoopLemmas
+pub mod MendLemmas
+pub mod MendingLemmas
+pub mod PieceLemmas
+pub mod PlacingLemmas
+pub mod RepairedLemmas
+pub mod StepLemmas
+pub mod WholeLemmas

@@ -1,0 +1,14 @@
+pub mod Blocks
+pub mod Counting
+pub mod Jobs
+pub mod Mending
+pub mod Mends
+pub mod Payload
+pub mod Pieces
+pub mod Placed
+pub mod Promises
+pub mod Readings
+pub mod Repaired
+pub mod Repairs
+pub mod StepsBy
+pub mod Whole
