@@ -1,0 +1,4 @@
+mod Growing
+mod SentTexts
+mod Serving
+mod Turning

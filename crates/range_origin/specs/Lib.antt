@@ -1,0 +1,4 @@
+pub mod Shelves
+pub mod Ends
+pub mod Talking
+pub mod Answers
