@@ -11,6 +11,7 @@ import sys
 
 import case_files
 from case_files import settle, told_lines
+from path_parts import is_part
 
 CRATE = "tests_base"
 RANDOM = f"crates/{CRATE}/data/random.txt"
@@ -359,14 +360,6 @@ def mark_told(words):
 
 
 # Layouts (BEP 3).
-
-def is_part(part):
-    try:
-        part.decode()
-    except UnicodeDecodeError:
-        return False
-    return 1 <= len(part) <= 255 and part not in (b".", b"..") and b"/" not in part and b"\0" not in part
-
 
 def check_paths(paths, bad, repeated):
     """Each path has 1 to 64 good parts, and none is that of an earlier file, or one the folder of the other."""

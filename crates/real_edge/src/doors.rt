@@ -3,12 +3,12 @@ ghost use Rattle.door_source.specs.Doors.{no_door};
 ghost use Rattle.std.specs.Prelude.{false};
 
 use crate::faults::Faults;
-use crate::links::{LOOK_MS, PATIENCE_SECONDS, not_connected, read_some};
+use crate::links::{LOOK_MS, not_connected, read_some, write_whole};
 use dl_kinds::IoErr;
 use door_source::{Came, Doors};
 use std::io::{ErrorKind, Read, Write};
 use std::net::{Net, OpenListener, Shutdown, SocketAddr, TcpListener, TcpStream};
-use std::sync::atomic::AtomicBool;
+use std::sync::atomic::{AtomicBool, Ordering};
 use std::time::Duration;
 use std::{io, thread, time};
 
@@ -63,9 +63,9 @@ impl<'a, R: Net<Stream = TcpStream, Listener = TcpListener> + time::Clock> TcpDo
             return Err(not_connected());
         };
         for _ in 0..ACCEPT_LOOKS {
-            match listener.accept() {
-                Ok((stream, _)) => return Ok(Some(patient(stream)?)),
-                Err(e) if is_passing(e.kind()) => {
+            match listener.accept().and_then(|(stream, _)| patient(stream)) {
+                Ok(stream) => return Ok(Some(stream)),
+                Err(e) if is_passing(&e) => {
                     thread::sleep(self.rt, Duration::from_millis(ACCEPT_LOOK_MS));
                 }
                 Err(e) => return Err(e),
@@ -75,17 +75,30 @@ impl<'a, R: Net<Stream = TcpStream, Listener = TcpListener> + time::Clock> TcpDo
     }
 }
 
-// A client that went away before it was taken, or a signal, is no fault of the listener.
-fn is_passing(kind: ErrorKind) -> bool {
-    matches!(
-        kind,
-        ErrorKind::WouldBlock | ErrorKind::Interrupted | ErrorKind::ConnectionAborted
-    )
+// The numbers of Linux's errors for want of descriptors (ENFILE, EMFILE), of memory (ENOMEM, ENOBUFS), and of a peer that
+// broke the protocol (EPROTO).
+const PASSING_ERRORS: [i32; 5] = [23, 24, 12, 105, 71];
+
+// A client that went away before it was taken, want of what the system has to give, or a signal, is no fault of the listener:
+// `accept(2)` wants such errors taken as if nobody had come.
+fn is_passing(error: &io::Error) -> bool {
+    let number = error.raw_os_error();
+    PASSING_ERRORS.iter().any(|it| Some(*it) == number)
+        || matches!(
+            error.kind(),
+            ErrorKind::WouldBlock
+                | ErrorKind::Interrupted
+                | ErrorKind::ConnectionAborted
+                | ErrorKind::ConnectionReset
+                | ErrorKind::NotConnected
+                | ErrorKind::BrokenPipe
+                | ErrorKind::InvalidInput
+        )
 }
 
 // Ends what is sent, and passes over what still comes, for a moment: a connection that is closed while bytes wait in it takes
 // from its peer what that was sent (RFC 9112 section 9.6).
-fn hear_out(stream: &mut TcpStream) {
+fn hear_out(stream: &mut TcpStream, over: &AtomicBool) {
     let moment = Duration::from_millis(LAST_MS);
     if stream.shutdown(Shutdown::Write).is_err() || stream.set_read_timeout(Some(moment)).is_err() {
         return;
@@ -94,6 +107,7 @@ fn hear_out(stream: &mut TcpStream) {
     for _ in 0..LAST_READS {
         match stream.read(&mut rest) {
             Ok(0) | Err(_) => return,
+            Ok(_) if over.load(Ordering::SeqCst) => return,
             Ok(_) => {}
         }
     }
@@ -101,11 +115,11 @@ fn hear_out(stream: &mut TcpStream) {
 
 // Answers are small, and are to go out at once.
 fn patient(stream: TcpStream) -> io::Result<TcpStream> {
-    let patience = Duration::from_secs(PATIENCE_SECONDS);
     stream.set_nonblocking(false)?;
     stream.set_nodelay(true)?;
-    stream.set_read_timeout(Some(Duration::from_millis(LOOK_MS)))?;
-    stream.set_write_timeout(Some(patience))?;
+    let look = Some(Duration::from_millis(LOOK_MS));
+    stream.set_read_timeout(look)?;
+    stream.set_write_timeout(look)?;
     Ok(stream)
 }
 
@@ -141,7 +155,7 @@ impl<'a, R: Net<Stream = TcpStream, Listener = TcpListener> + time::Clock> Doors
 
     fn send(&mut self, bytes: &[u8]) -> Result<(), IoErr> {
         let outcome = match &mut self.stream {
-            Some(stream) => stream.write_all(bytes),
+            Some(stream) => write_whole(stream, bytes, self.over),
             None => Err(not_connected()),
         };
         self.faults.note(outcome)
@@ -149,7 +163,7 @@ impl<'a, R: Net<Stream = TcpStream, Listener = TcpListener> + time::Clock> Doors
 
     fn hang_up(&mut self) {
         if let Some(stream) = &mut self.stream {
-            hear_out(stream);
+            hear_out(stream, self.over);
         }
         self.stream = None;
     }

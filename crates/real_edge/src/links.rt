@@ -7,7 +7,7 @@ use dl_kinds::IoErr;
 use link_source::Links;
 use std::io;
 use std::io::{ErrorKind, Read, Write};
-use std::net::{Net, TcpStream, ToSocketAddrs};
+use std::net::{Net, SocketAddr, TcpStream, ToSocketAddrs};
 use std::sync::atomic::{AtomicBool, Ordering};
 use std::time::Duration;
 
@@ -19,20 +19,26 @@ pub(crate) const LOOK_MS: u64 = 200;
 
 const LOOKS: u64 = PATIENCE_SECONDS * 1000 / LOOK_MS;
 
+// A connection is opened in spans of this length, behind each of which it is seen whether the run is over.
+const CONNECT_SPAN_MS: u64 = 1_500;
+
+const CONNECT_SPANS: usize = 40;
+
 /// Connections over TCP. Nothing is told of what they give.
 ///
-/// Each address of a host is tried for 60 seconds, and a connection that neither gives nor takes a byte for 60 seconds
-/// fails. A mirror that gives one byte in each such span is waited for until the reply is whole. Once the run is over nothing is
-/// waited for: what doesn't come at once fails.
+/// The addresses of a host are tried for 60 seconds, all together, and a connection that neither gives nor takes a byte for 60
+/// seconds fails. A mirror that gives one byte in each such span is waited for until the reply is whole. Once the run is over
+/// nothing more is received, and what can't be sent or opened within two seconds fails. How long the system looks for a host's
+/// addresses is its own business.
 #[derive(Drop)]
-pub struct TcpLinks<'a, R: Net<Stream = TcpStream>> {
+pub struct TcpLinks<'a, R: Net<Stream = TcpStream> + AllocGlobal> {
     rt: &'a R,
     over: &'a AtomicBool,
     stream: Option<TcpStream>,
     faults: Faults,
 }
 
-impl<'a, R: Net<Stream = TcpStream>> TcpLinks<'a, R> {
+impl<'a, R: Net<Stream = TcpStream> + AllocGlobal> TcpLinks<'a, R> {
     /// `over` is set once the run is over.
     pub fn new(rt: &'a R, over: &'a AtomicBool) -> Self {
         TcpLinks {
@@ -43,25 +49,45 @@ impl<'a, R: Net<Stream = TcpStream>> TcpLinks<'a, R> {
         }
     }
 
-    // The first of the host's addresses that answers.
-    fn connect(&self, host: &str, port: u16) -> io::Result<TcpStream> {
-        let patience = Duration::from_secs(PATIENCE_SECONDS);
+    fn is_over(&self) -> bool {
+        self.over.load(Ordering::SeqCst)
+    }
+
+    // The first of the addresses that answers. They are tried in turn, in short spans, and have one patience together; where
+    // all refuse at once there is nothing to wait for.
+    fn first_answer(&self, addresses: &[SocketAddr]) -> io::Result<TcpStream> {
+        let span = Duration::from_millis(CONNECT_SPAN_MS);
         let mut last = io::Error::from(ErrorKind::NotFound);
-        for address in (without_brackets(host), port).to_socket_addrs(self.rt)? {
-            match TcpStream::connect_timeout(self.rt, &address, patience) {
-                Ok(stream) => {
-                    stream.set_read_timeout(Some(Duration::from_millis(LOOK_MS)))?;
-                    stream.set_write_timeout(Some(patience))?;
-                    return Ok(stream);
+        let mut any_silent = false;
+        for turn in 0..CONNECT_SPANS {
+            if addresses.is_empty() || self.is_over() || turn >= addresses.len() && !any_silent {
+                break;
+            }
+            match TcpStream::connect_timeout(self.rt, &addresses[turn % addresses.len()], span) {
+                Ok(stream) => return Ok(stream),
+                Err(e) => {
+                    any_silent = any_silent || e.kind() == ErrorKind::TimedOut;
+                    last = e;
                 }
-                Err(e) => last = e,
             }
         }
         Err(last)
     }
+
+    fn connect(&self, host: &str, port: u16) -> io::Result<TcpStream> {
+        let mut addresses = Vec::new(self.rt.alloc());
+        for address in (without_brackets(host), port).to_socket_addrs(self.rt)? {
+            addresses.push(address)?;
+        }
+        let stream = self.first_answer(&addresses)?;
+        let look = Some(Duration::from_millis(LOOK_MS));
+        stream.set_read_timeout(look)?;
+        stream.set_write_timeout(look)?;
+        Ok(stream)
+    }
 }
 
-impl<'a, R: Net<Stream = TcpStream>> Links for TcpLinks<'a, R> {
+impl<'a, R: Net<Stream = TcpStream> + AllocGlobal> Links for TcpLinks<'a, R> {
     ghost tells = { false };
 
     ghost state = { λ _. no_link };
@@ -81,14 +107,16 @@ impl<'a, R: Net<Stream = TcpStream>> Links for TcpLinks<'a, R> {
 
     fn send(&mut self, bytes: &[u8]) -> Result<(), IoErr> {
         let outcome = match &mut self.stream {
-            Some(stream) => stream.write_all(bytes),
+            Some(stream) => write_whole(stream, bytes, self.over),
             None => Err(not_connected()),
         };
         self.faults.note(outcome)
     }
 
+    // A mirror that never falls silent would keep a run that is over.
     fn recv(&mut self, into: &mut [u8]) -> Result<usize, IoErr> {
         let outcome = match &mut self.stream {
+            _ if self.over.load(Ordering::SeqCst) => Err(io::Error::from(ErrorKind::TimedOut)),
             Some(stream) => read_some(stream, into, self.over),
             None => Err(not_connected()),
         };
@@ -118,6 +146,39 @@ pub(crate) fn read_some(
         }
     }
     Err(io::Error::from(ErrorKind::TimedOut))
+}
+
+// Sends what can be sent next. It is waited for in short spans, as long as patience lasts and the run isn't over.
+fn write_some(stream: &mut TcpStream, bytes: &[u8], over: &AtomicBool) -> io::Result<usize>
+    ensures { IfOk result (λ count. count ≤ length bytes.now) }
+{
+    for _ in 0..LOOKS {
+        match stream.write(bytes) {
+            Err(e) if is_silent(e.kind()) => {}
+            outcome => return outcome,
+        }
+        if over.load(Ordering::SeqCst) {
+            break;
+        }
+    }
+    Err(io::Error::from(ErrorKind::TimedOut))
+}
+
+/// Sends all of the bytes.
+pub(crate) fn write_whole(
+    stream: &mut TcpStream,
+    bytes: &[u8],
+    over: &AtomicBool,
+) -> io::Result<()> {
+    let mut rest = bytes;
+    while !rest.is_empty() {
+        let count = write_some(stream, rest, over)?;
+        if count == 0 {
+            return Err(io::Error::from(ErrorKind::WriteZero));
+        }
+        rest = &rest[count..];
+    }
+    Ok(())
 }
 
 // Nothing came in the span, or a signal broke it off.

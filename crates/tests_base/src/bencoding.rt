@@ -1,56 +1,55 @@
 // Bencoded values and their first faults (BEP 3).
 ghost use Rattle.std.specs.Prelude.{◌<◌, ◌^◌, length};
 
-use crate::spelling::{shown, spelled};
-use anyhow::{Context, Result, bail, ensure};
+use crate::spelling::{add_shown, spelled};
 use bencode_core::{Ben, BenErr, BenKind, BenSlice};
 use std::alloc::Global;
+use test_lines::{Output, after, before};
 
 /// More bytes than any case has.
 const MOST: usize = 1 << 26;
 
-/// Why bytes are no bencoded value.
-pub fn fault(alloc: Global, fault: BenErr) -> Result<String> {
-    let (word, at) = match fault {
-        BenErr::Wrong { at } => ("wrong", at),
-        BenErr::TooDeep { at } => ("too deep", at),
-        BenErr::TooWide { at } => ("too wide", at),
-        BenErr::Trailing { at } => ("trailing", at),
-        BenErr::NoMemory => bail!("out of memory"),
-    };
-    Ok(format!(in alloc; "{word} at {at}")?)
+/// Adds why bytes are no bencoded value.
+pub fn add_fault(fault: BenErr, output: &mut Output) {
+    match fault {
+        BenErr::Wrong { at } => output.counted("wrong at ", at as u64),
+        BenErr::TooDeep { at } => output.counted("too deep at ", at as u64),
+        BenErr::TooWide { at } => output.counted("too wide at ", at as u64),
+        BenErr::Trailing { at } => output.counted("trailing at ", at as u64),
+        BenErr::NoMemory => output.text("out of memory"),
+    }
 }
 
-fn push_content(alloc: Global, told: &mut String, value: &Ben) -> Result<()> {
+fn add_keys(alloc: Global, value: &Ben, output: &mut Output) {
+    output.counted("dictionary of ", value.members().len() as u64);
+    output.text(":");
+    for member in value.members() {
+        output.text(" ");
+        add_shown(alloc, &member.key, output);
+    }
+}
+
+fn add_content(alloc: Global, value: &Ben, output: &mut Output) {
     match value.kind() {
         BenKind::Integer => {
-            let integer = value.integer().context("no integer")?;
-            write!(told, "integer {integer}")?;
+            output.text("integer ");
+            output.debug(&value.integer().unwrap_or(0));
         }
         BenKind::String => {
-            let text = shown(alloc, value.string().context("no string")?)?;
-            write!(told, "string {text}")?;
+            output.text("string ");
+            add_shown(alloc, value.string().unwrap_or(b""), output);
         }
-        BenKind::List => write!(told, "list of {}", value.items().len())?,
-        BenKind::Dict => push_keys(alloc, told, value)?,
+        BenKind::List => output.counted("list of ", value.items().len() as u64),
+        BenKind::Dict => add_keys(alloc, value, output),
     }
-    Ok(())
 }
 
-fn push_keys(alloc: Global, told: &mut String, value: &Ben) -> Result<()> {
-    write!(told, "dictionary of {}:", value.members().len())?;
-    for member in value.members() {
-        let key = shown(alloc, &member.key)?;
-        write!(told, " {key}")?;
-    }
-    Ok(())
-}
-
-fn value_told(alloc: Global, value: &Ben) -> Result<String> {
+fn add_value(alloc: Global, value: &Ben, output: &mut Output) {
     let (start, end) = value.span();
-    let mut told = format!(in alloc; "{start} to {end}, ")?;
-    push_content(alloc, &mut told, value)?;
-    Ok(told)
+    output.number(start as u64);
+    output.counted(" to ", end as u64);
+    output.text(", ");
+    add_content(alloc, value, output);
 }
 
 // Whether the reader that copies nothing reads the same value there.
@@ -63,22 +62,50 @@ fn is_same_slice(bytes: &[u8], value: &Ben) -> bool
     }
 }
 
-// What is read of bytes. A value has to be written as it was read, and the reader that copies nothing has to read the
+// Whether the reader that copies nothing finds the same fault.
+fn is_same_fault(bytes: &[u8], fault: BenErr) -> bool
+    requires { length bytes.now < 2 ^ 32 }
+{
+    match BenSlice::read(bytes) {
+        Ok(_) => false,
+        Err(other) => other == fault,
+    }
+}
+
+fn is_written(alloc: Global, bytes: &[u8], value: &Ben) -> bool {
+    match value.write(alloc) {
+        Ok(written) => written.as_slice() == bytes,
+        Err(_) => false,
+    }
+}
+
+// Adds what is read of bytes. A value has to be written as it was read, and the reader that copies nothing has to read the
 // same.
-fn reading(alloc: Global, bytes: &[u8]) -> Result<String> {
-    ensure!(bytes.len() < MOST, "too many bytes");
-    let value = match Ben::read(alloc, bytes) {
-        Ok(value) => value,
-        Err(error) => {
-            let other = BenSlice::read(bytes).err();
-            ensure!(other == Some(error), "another fault");
-            return fault(alloc, error);
+fn add_read(alloc: Global, bytes: &[u8], output: &mut Output)
+    requires { length bytes.now < 2 ^ 32 }
+{
+    match Ben::read(alloc, bytes) {
+        Ok(value) => {
+            if !is_same_slice(bytes, &value) || !is_written(alloc, bytes, &value) {
+                output.text("ANOTHER VALUE ");
+            }
+            add_value(alloc, &value, output);
         }
-    };
-    ensure!(is_same_slice(bytes, &value), "another value");
-    let written = value.write(alloc)?;
-    ensure!(written.as_slice() == bytes, "written otherwise");
-    value_told(alloc, &value)
+        Err(fault) => {
+            if !is_same_fault(bytes, fault) {
+                output.text("ANOTHER FAULT ");
+            }
+            add_fault(fault, output);
+        }
+    }
+}
+
+/// Adds what is read of the bytes that parts spell.
+pub fn add_reading(alloc: Global, parts: &str, output: &mut Output) {
+    let bytes = spelled(alloc, parts);
+    if bytes.len() < MOST {
+        add_read(alloc, &bytes, output);
+    }
 }
 
 // The value to which steps lead, between which `/` stands: numbers of items, and keys.
@@ -93,24 +120,19 @@ fn found<'a>(value: &'a Ben, path: &str) -> Option<&'a Ben> {
     Some(here)
 }
 
-// What stands at a path in a value.
-fn looking(alloc: Global, path: &str, bytes: &[u8]) -> Result<String> {
-    ensure!(bytes.len() < MOST, "too many bytes");
-    let value = Ben::read(alloc, bytes)?;
-    match found(&value, path) {
-        Some(value) => value_told(alloc, value),
-        None => Ok(String::from_str(alloc, "nothing")?),
+fn add_found(alloc: Global, value: &Ben, path: &str, output: &mut Output) {
+    match found(value, path) {
+        Some(value) => add_value(alloc, value, output),
+        None => output.text("nothing"),
     }
 }
 
-/// What comes of a line on bencoded values.
-pub fn bencoding_told(alloc: Global, word: &str, rest: &str) -> Result<String> {
-    match word {
-        "ben" => reading(alloc, &spelled(alloc, rest)?),
-        "look" => {
-            let (path, parts) = rest.split_once(' ').context("bytes are wanted")?;
-            looking(alloc, path, &spelled(alloc, parts)?)
+/// Adds what stands at a path in a value.
+pub fn add_looking(alloc: Global, rest: &str, output: &mut Output) {
+    let bytes = spelled(alloc, after(rest, ' '));
+    if bytes.len() < MOST {
+        if let Ok(value) = Ben::read(alloc, &bytes) {
+            add_found(alloc, &value, before(rest, ' '), output);
         }
-        _ => bail!("no line of a case: {word}"),
     }
 }

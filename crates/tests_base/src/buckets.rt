@@ -1,38 +1,53 @@
 // A token bucket, call by call.
-use anyhow::{Result, bail, ensure};
 use dl_kinds::Moment;
 use rate_tokens::{Bucket, Take};
-use std::alloc::Global;
+use test_lines::{Output, u32_at, u64_at};
 
-fn moment_of(word: &str) -> Result<Moment> {
-    Ok(Moment(word.parse::<u64>()?))
+/// What a line asks of the bucket.
+#[derive(Clone, Copy)]
+pub enum BucketLine {
+    Begin,
+    Rate,
+    Take,
+    Credit,
 }
 
-/// A full bucket of a rate.
-pub fn bucket_of(rate: &str, now: &str) -> Result<Bucket> {
-    Ok(Bucket::new(u64::from(rate.parse::<u32>()?), moment_of(now)?))
+/// A full bucket of a rate at a moment.
+pub fn bucket_of(rest: &str) -> Bucket {
+    Bucket::new(u32_at(rest, 0) as u64, Moment(u64_at(rest, 1)))
 }
 
-fn take(alloc: Global, bucket: &mut Bucket, want: u32, now: Moment) -> Result<String> {
-    ensure!(want >= 1, "a byte is wanted");
-    match bucket.take(want, now) {
-        Take::Go(bytes) => Ok(format!(in alloc; "go {bytes}")?),
-        Take::Hold(wait) => Ok(format!(in alloc; "hold {wait}")?),
+fn add_take(bucket: &mut Bucket, want: u32, now: Moment, output: &mut Output) {
+    match bucket.take(want.max(1), now) {
+        Take::Go(bytes) => output.counted("go ", bytes as u64),
+        Take::Hold(wait) => output.counted("hold ", wait),
     }
 }
 
-/// What comes of a line on the bucket.
-pub fn bucket_told(alloc: Global, bucket: &mut Bucket, line: &str) -> Result<String> {
-    let words: Vec<&str> = line.split(' ').collect(alloc)?;
-    match words.as_slice() {
-        ["bucket", rate, now] => *bucket = bucket_of(rate, now)?,
-        ["rate", rate, now] => bucket.set_rate(u64::from(rate.parse::<u32>()?), moment_of(now)?),
-        ["take", want, now] => return take(alloc, bucket, want.parse::<u32>()?, moment_of(now)?),
-        ["credit", now] => {
-            let now = moment_of(now)?;
-            return Ok(format!(in alloc; "{}, in {} ms", bucket.credit(now), bucket.wait(now))?);
+fn add_credit(bucket: &Bucket, now: Moment, output: &mut Output) {
+    output.number(bucket.credit(now));
+    output.counted(", in ", bucket.wait(now));
+    output.text(" ms");
+}
+
+fn add_rate(bucket: &Bucket, output: &mut Output) {
+    output.number(bucket.rate());
+    output.text(" a second");
+}
+
+/// Adds what comes of a line on the bucket.
+pub fn add_bucket_line(bucket: &mut Bucket, kind: BucketLine, rest: &str, output: &mut Output) {
+    let now = Moment(u64_at(rest, 1));
+    match kind {
+        BucketLine::Begin => {
+            *bucket = bucket_of(rest);
+            add_rate(bucket, output);
         }
-        _ => bail!("no line of a case: {line}"),
+        BucketLine::Rate => {
+            bucket.set_rate(u32_at(rest, 0) as u64, now);
+            add_rate(bucket, output);
+        }
+        BucketLine::Take => add_take(bucket, u32_at(rest, 0), now, output),
+        BucketLine::Credit => add_credit(bucket, Moment(u64_at(rest, 0)), output),
     }
-    Ok(format!(in alloc; "{} a second", bucket.rate())?)
 }

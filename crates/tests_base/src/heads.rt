@@ -1,114 +1,138 @@
 // Requests, and what the heads of replies mean (RFC 9110 sections 14 and 15).
-use crate::spelling::{shown, spelled};
-use anyhow::{Context, Result, bail};
+use crate::spelling::{add_shown, spelled};
 use dl_kinds::Code;
-use range_http::{
-    Asked, Framing, Head, HeadRead, Verdict, classify, location, persists, read_head, read_range,
-    request,
-};
+use http_heads::{Head, HeadRead, read_head};
+use range_http::{Asked, Framing, Verdict, classify, location, persists, read_range, request};
 use std::alloc::Global;
+use test_lines::{Output, after, before, number};
+
+/// What a line asks of heads.
+#[derive(Clone, Copy)]
+pub enum HeadLine {
+    Request,
+    Reply,
+    Range,
+}
 
 // What is asked for: `0-4/5`, or `0-0` where the length isn't known.
-fn asked_of(text: &str) -> Result<Asked> {
-    let (span, total) = match text.split_once('/') {
-        Some((span, total)) => (span, Some(total.parse::<u64>()?)),
-        None => (text, None),
-    };
-    let (first, last) = span.split_once('-').context("a range is wanted")?;
-    Ok(Asked {
-        first: first.parse::<u64>()?,
-        last: last.parse::<u64>()?,
-        total,
-    })
-}
-
-fn number_or_star(alloc: Global, number: Option<u64>) -> Result<String> {
-    match number {
-        Some(number) => Ok(format!(in alloc; "{number}")?),
-        None => Ok(String::from_str(alloc, "*")?),
+fn asked_of(text: &str) -> Asked {
+    let span = before(text, '/');
+    Asked {
+        first: number(before(span, '-')),
+        last: number(after(span, '-')),
+        total: if span == text {
+            None
+        } else {
+            Some(number(after(text, '/')))
+        },
     }
 }
 
-fn framing_told(alloc: Global, framing: Framing) -> Result<String> {
+fn add_total(total: Option<u64>, output: &mut Output) {
+    match total {
+        Some(total) => output.number(total),
+        None => output.text("*"),
+    }
+}
+
+fn add_framing(framing: Framing, output: &mut Output) {
     match framing {
-        Framing::Length(length) => Ok(format!(in alloc; "{length} bytes")?),
-        Framing::Chunked => Ok(String::from_str(alloc, "chunked")?),
-        Framing::ToEnd => Ok(String::from_str(alloc, "to the end")?),
+        Framing::Length(length) => {
+            output.counted(", ", length);
+            output.text(" bytes");
+        }
+        Framing::Chunked => output.text(", chunked"),
+        Framing::ToEnd => output.text(", to the end"),
     }
 }
 
-fn verdict_told(alloc: Global, verdict: Verdict) -> Result<String> {
-    Ok(match verdict {
+fn add_verdict(verdict: Verdict, output: &mut Output) {
+    match verdict {
         Verdict::Part {
             last,
             total,
             framing,
         } => {
-            let total = number_or_star(alloc, total)?;
-            let framing = framing_told(alloc, framing)?;
-            format!(in alloc; "up to {last} of {total}, {framing}")?
+            output.counted("up to ", last);
+            output.text(" of ");
+            add_total(total, output);
+            add_framing(framing, output);
         }
         Verdict::Whole { total, framing } => {
-            let total = number_or_star(alloc, total)?;
-            let framing = framing_told(alloc, framing)?;
-            format!(in alloc; "all of {total}, {framing}")?
+            output.text("all of ");
+            add_total(total, output);
+            add_framing(framing, output);
         }
-        Verdict::Empty => String::from_str(alloc, "empty")?,
-        Verdict::WrongLength { told } => format!(in alloc; "wrong length {told}")?,
-        Verdict::Moved => String::from_str(alloc, "moved")?,
-        Verdict::NotFound => String::from_str(alloc, "not found")?,
-        Verdict::Refused { code: Code(code) } => format!(in alloc; "refused, {code}")?,
-    })
+        Verdict::Empty => output.text("empty"),
+        Verdict::WrongLength { told } => output.counted("wrong length ", told),
+        Verdict::Moved => output.text("moved"),
+        Verdict::NotFound => output.text("not found"),
+        Verdict::Refused { code: Code(code) } => output.counted("refused, ", code as u64),
+    }
 }
 
-fn head_told(alloc: Global, head: &Head, used: u32, asked: &Asked) -> Result<String> {
-    let verdict = verdict_told(alloc, classify(head, asked))?;
-    let goes_on = if persists(head) { "goes on" } else { "closes" };
-    let mut told = format!(in alloc; "{verdict}; {used} bytes, {goes_on}")?;
+fn add_head(head: &Head, used: u32, asked: &Asked, output: &mut Output) {
+    add_verdict(classify(head, asked), output);
+    output.counted("; ", used as u64);
+    output.text(if persists(head) {
+        " bytes, goes on"
+    } else {
+        " bytes, closes"
+    });
     if let Some(place) = location(head) {
-        write!(told, ", moved to '{place}'")?;
+        output.text(", moved to '");
+        output.text(place);
+        output.text("'");
     }
-    Ok(told)
 }
 
-// What the head of a reply means for what was asked.
-fn reply_told(alloc: Global, asked: &Asked, bytes: &[u8]) -> Result<String> {
+// Adds what the head of a reply means for what was asked.
+fn add_reply(alloc: Global, asked: &Asked, bytes: &[u8], output: &mut Output) {
     match read_head(alloc, bytes) {
-        HeadRead::Whole { head, used } => head_told(alloc, &head, used, asked),
-        HeadRead::More => Ok(String::from_str(alloc, "unfinished")?),
-        HeadRead::Bad => Ok(String::from_str(alloc, "no head")?),
-        HeadRead::NoMemory => bail!("out of memory"),
+        HeadRead::Whole { head, used } => add_head(&head, used, asked, output),
+        HeadRead::More => output.text("unfinished"),
+        HeadRead::Bad => output.text("no head"),
+        HeadRead::NoMemory => output.text("out of memory"),
     }
 }
 
-// A request to the byte.
-fn request_told(alloc: Global, range: &str, words: &str) -> Result<String> {
-    let (host, target) = words.split_once(' ').context("a target is wanted")?;
-    let text = request(alloc, target, host, &asked_of(range)?)?;
-    let told = shown(alloc, &text)?;
-    Ok(format!(in alloc; "{} bytes: {told}", text.len())?)
-}
-
-fn range_told(alloc: Global, text: &[u8]) -> Result<String> {
-    let Some(range) = read_range(text) else {
-        return Ok(String::from_str(alloc, "none")?);
-    };
-    let total = number_or_star(alloc, range.total)?;
-    match range.span {
-        Some((first, last)) => Ok(format!(in alloc; "{first}-{last}/{total}")?),
-        None => Ok(format!(in alloc; "*/{total}")?),
+// Adds a request to the byte.
+fn add_request(alloc: Global, asked: &Asked, words: &str, output: &mut Output) {
+    if let Ok(text) = request(alloc, after(words, ' '), before(words, ' '), asked) {
+        output.number(text.len() as u64);
+        output.text(" bytes: ");
+        add_shown(alloc, &text, output);
     }
 }
 
-/// What comes of a line on requests and heads.
-pub fn head_line_told(alloc: Global, word: &str, rest: &str) -> Result<String> {
-    if word == "range" {
-        return range_told(alloc, &spelled(alloc, rest)?);
+fn add_span(span: Option<(u64, u64)>, output: &mut Output) {
+    match span {
+        Some((first, last)) => {
+            output.number(first);
+            output.counted("-", last);
+        }
+        None => output.text("*"),
     }
-    let (range, rest) = rest.split_once(' ').context("a range is wanted")?;
-    match word {
-        "request" => request_told(alloc, range, rest),
-        "reply" => reply_told(alloc, &asked_of(range)?, &spelled(alloc, rest)?),
-        _ => bail!("no line of a case: {word}"),
+    output.text("/");
+}
+
+fn add_range(text: &[u8], output: &mut Output) {
+    match read_range(text) {
+        Some(range) => {
+            add_span(range.span, output);
+            add_total(range.total, output);
+        }
+        None => output.text("none"),
+    }
+}
+
+/// Adds what comes of a line on requests and heads.
+pub fn add_head_line(alloc: Global, kind: HeadLine, rest: &str, output: &mut Output) {
+    let asked = asked_of(before(rest, ' '));
+    let behind = after(rest, ' ');
+    match kind {
+        HeadLine::Range => add_range(&spelled(alloc, rest), output),
+        HeadLine::Request => add_request(alloc, &asked, behind, output),
+        HeadLine::Reply => add_reply(alloc, &asked, &spelled(alloc, behind), output),
     }
 }

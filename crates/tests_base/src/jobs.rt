@@ -1,84 +1,84 @@
 // What is to be fetched of a payload (BEP 19).
 use crate::metainfos::read_meta;
 use crate::spelling::spelled;
-use anyhow::{Context, Result, bail, ensure};
 use dl_kinds::{Run, Text};
-use metainfo::mirror_job;
+use metainfo::{Meta, mirror_job};
 use span_map::{JobPart, JobParts};
-use std::alloc::Global;
+use std::alloc::{AllocError, Global};
+use test_lines::{Output, after, before, number, u32_at, word};
 
-// A part of a resource, between whose numbers `/` stands: where it begins, its length, and the length of the resource.
-fn part_of(alloc: Global, numbers: &str, url: &str) -> Result<JobPart> {
-    let words: Vec<&str> = numbers.split('/').collect(alloc)?;
-    let [at, len, total] = words.as_slice() else {
-        bail!("three numbers are wanted");
-    };
-    Ok(JobPart {
-        url: Text::of(alloc, url)?,
-        at: at.parse::<u64>()?,
-        len: len.parse::<u64>()?,
-        total: total.parse::<u64>()?,
+// Adds a part of a resource, between whose numbers `/` stands: where it begins, its length, and the length of the resource.
+fn push_part(alloc: Global, parts: &mut JobParts, word: &str) -> Result<(), AllocError> {
+    let numbers = before(word, '=');
+    let behind = after(numbers, '/');
+    parts.push(JobPart {
+        url: Text::of(alloc, after(word, '='))?,
+        at: number(before(numbers, '/')),
+        len: number(before(behind, '/')),
+        total: number(after(behind, '/')),
     })
 }
 
-fn parts_told(alloc: Global, parts: &JobParts) -> Result<String> {
-    let mut told = format!(in alloc; "{} parts", parts.len())?;
-    if parts.is_empty() {
-        told.push_str(", none")?;
+fn push_parts(alloc: Global, parts: &mut JobParts, words: &str) -> Result<(), AllocError> {
+    for word in words.split(',') {
+        push_part(alloc, parts, word)?;
     }
+    Ok(())
+}
+
+fn add_part(part: &JobPart, output: &mut Output) {
+    output.counted("; ", part.at);
+    output.counted("+", part.len);
+    output.counted(" of ", part.total);
+    output.text(" at ");
+    output.text(part.url.as_str());
+}
+
+fn add_parts(parts: &JobParts, output: &mut Output) {
+    output.number(parts.len() as u64);
+    output.text(if parts.is_empty() {
+        " parts, none"
+    } else {
+        " parts"
+    });
     for place in 0..parts.len() {
-        let part = parts.get(place).context("a part is wanted")?;
-        let url = part.url.as_str();
-        write!(
-            told,
-            "; {}+{} of {} at {url}",
-            part.at, part.len, part.total
-        )?;
+        if let Some(part) = parts.get(place) {
+            add_part(part, output);
+        }
     }
     if parts.get(parts.len()).is_some() {
-        told.push_str("; ONE MORE")?;
+        output.text("; ONE MORE");
     }
-    Ok(told)
 }
 
-// Parts as they were added, between which a comma stands.
-fn added(alloc: Global, words: &str) -> Result<String> {
+/// Adds parts as they were added, between which a comma stands.
+pub fn add_added(alloc: Global, words: &str, output: &mut Output) {
     let mut parts = JobParts::new(alloc);
-    if words.is_empty() {
-        return parts_told(alloc, &parts);
+    if words.is_empty() || push_parts(alloc, &mut parts, words).is_ok() {
+        add_parts(&parts, output);
     }
-    for word in words.split(',') {
-        let (numbers, url) = word.split_once('=').context("a URL is wanted")?;
-        parts.push(part_of(alloc, numbers, url)?)?;
-    }
-    parts_told(alloc, &parts)
 }
 
-// What is asked of a mirror for blocks of the payload of a metainfo file.
-fn job_told(alloc: Global, run: Run, base: &str, bytes: &[u8]) -> Result<String> {
-    let meta = read_meta(alloc, bytes)?.ok().context("no metainfo file")?;
-    ensure!(meta.layout.total() == meta.plan.total, "another length");
+// Adds what is asked of a mirror for blocks of the payload of a metainfo file.
+fn add_job_of(alloc: Global, meta: &Meta, run: Run, base: &str, output: &mut Output) {
     let blocks = meta.plan.blocks();
     if run.count == 0 || run.count > blocks || run.first > blocks - run.count {
-        return Ok(String::from_str(alloc, "no such blocks")?);
+        output.text("no such blocks");
+    } else if meta.layout.total() == meta.plan.total {
+        if let Ok(job) = mirror_job(alloc, &meta.layout, meta.plan, run, base) {
+            add_parts(&job.parts, output);
+        }
     }
-    let job = mirror_job(alloc, &meta.layout, meta.plan, run, base)?;
-    parts_told(alloc, &job.parts)
 }
 
-/// What comes of a line on jobs.
-pub fn job_line_told(alloc: Global, line: &str) -> Result<String> {
-    let words: Vec<&str> = line.splitn(5, ' ').collect(alloc)?;
-    match words.as_slice() {
-        ["added"] => added(alloc, ""),
-        ["added", parts] => added(alloc, parts),
-        ["job", first, count, base, parts] => {
-            let run = Run {
-                first: first.parse::<u32>()?,
-                count: count.parse::<u32>()?,
-            };
-            job_told(alloc, run, base, &spelled(alloc, parts)?)
-        }
-        _ => bail!("no line of a case: {line}"),
+/// Adds what is asked of a mirror for blocks of a payload.
+pub fn add_job(alloc: Global, rest: &str, output: &mut Output) {
+    let bytes = spelled(alloc, after(after(after(rest, ' '), ' '), ' '));
+    let run = Run {
+        first: u32_at(rest, 0),
+        count: u32_at(rest, 1),
+    };
+    if let Some(Ok(meta)) = read_meta(alloc, &bytes) {
+        add_job_of(alloc, &meta, run, word(rest, 2), output);
     }
 }

@@ -1,84 +1,102 @@
 // Layouts of files (BEP 3).
 use crate::spelling::spelled;
-use anyhow::{Context, Result, bail};
 use dl_kinds::{Text, Texts};
-use span_map::{FileLen, Layout, LayoutErr};
-use std::alloc::Global;
+use span_map::{FileLen, Layout, LayoutErr, Part};
+use std::alloc::{AllocError, Global};
+use test_lines::{Output, after, before, number, u64_at};
 
-fn text_of(alloc: Global, parts: &str) -> Result<Text> {
-    let bytes = spelled(alloc, parts)?;
-    let text = str::from_utf8(&bytes).ok().context("a text is wanted")?;
-    Ok(Text::of(alloc, text)?)
+fn push_text(alloc: Global, path: &mut Texts, parts: &str) -> Result<(), AllocError> {
+    let bytes = spelled(alloc, parts);
+    path.push(Text::of(alloc, str::from_utf8(&bytes).unwrap_or(""))?)
+}
+
+fn push_names(alloc: Global, path: &mut Texts, names: &str) -> Result<(), AllocError> {
+    for name in names.split('/') {
+        push_text(alloc, path, name)?;
+    }
+    Ok(())
 }
 
 // A file: the parts of its path, with `/` between them, and behind `:` its length.
-fn file_of(alloc: Global, word: &str) -> Result<FileLen> {
-    let (names, len) = word.split_once(':').context("a length is wanted")?;
+fn file_of(alloc: Global, word: &str) -> Result<FileLen, AllocError> {
+    let names = before(word, ':');
     let mut path = Texts::new(alloc);
     if !names.is_empty() {
-        for name in names.split('/') {
-            path.push(text_of(alloc, name)?)?;
-        }
+        push_names(alloc, &mut path, names)?;
     }
     Ok(FileLen {
         path,
-        len: len.parse::<u64>()?,
+        len: number(after(word, ':')),
     })
 }
 
-fn layout_of(alloc: Global, words: &[&str]) -> Result<Result<Layout, LayoutErr>> {
-    let mut files = Vec::new(alloc);
-    for word in words {
+fn push_files(alloc: Global, files: &mut Vec<FileLen>, words: &str) -> Result<(), AllocError> {
+    for word in words.split(' ') {
         files.push(file_of(alloc, word)?)?;
     }
-    Ok(Layout::new(alloc, files))
+    Ok(())
 }
 
-fn refusal(alloc: Global, refused: LayoutErr) -> Result<String> {
-    Ok(match refused {
-        LayoutErr::Empty => String::from_str(alloc, "no file")?,
-        LayoutErr::TooLong => String::from_str(alloc, "too long")?,
-        LayoutErr::BadPath(file) => format!(in alloc; "bad path {file}")?,
-        LayoutErr::Repeated(file) => format!(in alloc; "repeated {file}")?,
-        LayoutErr::NoMemory => bail!("out of memory"),
-    })
+fn layout_of(alloc: Global, words: &str) -> Result<Layout, LayoutErr> {
+    let mut files = Vec::new(alloc);
+    if !words.is_empty() {
+        push_files(alloc, &mut files, words)?;
+    }
+    Layout::new(alloc, files)
 }
 
-// Whether files are a layout, and how long it is.
-fn layout_told(alloc: Global, words: &[&str]) -> Result<String> {
-    match layout_of(alloc, words)? {
-        Ok(layout) => Ok(format!(in alloc;
-            "{} files of {}",
-            layout.files().len(),
-            layout.total()
-        )?),
-        Err(refused) => refusal(alloc, refused),
+fn add_refusal(refused: LayoutErr, output: &mut Output) {
+    match refused {
+        LayoutErr::Empty => output.text("no file"),
+        LayoutErr::TooLong => output.text("too long"),
+        LayoutErr::BadPath(file) => output.counted("bad path ", file as u64),
+        LayoutErr::Repeated(file) => output.counted("repeated ", file as u64),
+        LayoutErr::NoMemory => output.text("out of memory"),
     }
 }
 
-// The parts of files that some bytes of a payload are.
-fn parts_told(alloc: Global, at: u64, len: u64, words: &[&str]) -> Result<String> {
-    let layout = layout_of(alloc, words)?.ok().context("no layout")?;
+/// Adds whether files are a layout, and how long it is.
+pub fn add_layout(alloc: Global, words: &str, output: &mut Output) {
+    match layout_of(alloc, words) {
+        Ok(layout) => {
+            output.number(layout.files().len() as u64);
+            output.counted(" files of ", layout.total());
+        }
+        Err(refused) => add_refusal(refused, output),
+    }
+}
+
+fn add_part(part: &Part, gap: &str, output: &mut Output) {
+    output.counted(gap, part.at);
+    output.counted("+", part.len);
+    output.counted(" of file ", part.file as u64);
+}
+
+fn add_all(parts: &[Part], output: &mut Output) {
+    let mut gap = "";
+    for part in parts {
+        add_part(part, gap, output);
+        gap = ", ";
+    }
+}
+
+fn add_span(alloc: Global, layout: &Layout, at: u64, len: u64, output: &mut Output) {
     let total = layout.total();
     if len > total || at > total - len {
-        return Ok(String::from_str(alloc, "beyond the end")?);
+        output.text("beyond the end");
+    } else if let Ok(parts) = layout.parts(alloc, at, len) {
+        add_all(&parts, output);
     }
-    let mut told = String::new(alloc);
-    for part in layout.copy(alloc)?.parts(alloc, at, len)? {
-        let gap = if told.is_empty() { "" } else { ", " };
-        write!(told, "{gap}{}+{} of file {}", part.at, part.len, part.file)?;
-    }
-    Ok(told)
 }
 
-/// What comes of a line on layouts.
-pub fn layout_line_told(alloc: Global, line: &str) -> Result<String> {
-    let words: Vec<&str> = line.split(' ').collect(alloc)?;
-    match words.as_slice() {
-        ["layout", ..] => layout_told(alloc, &words[1..]),
-        ["parts", at, len, ..] => {
-            parts_told(alloc, at.parse::<u64>()?, len.parse::<u64>()?, &words[3..])
-        }
-        _ => bail!("no line of a case: {line}"),
+// A copy of a layout, if it is one.
+fn copy_of(alloc: Global, words: &str) -> Option<Layout> {
+    layout_of(alloc, words).ok()?.copy(alloc).ok()
+}
+
+/// Adds the parts of files that some bytes of a payload are.
+pub fn add_parts(alloc: Global, rest: &str, output: &mut Output) {
+    if let Some(layout) = copy_of(alloc, after(after(rest, ' '), ' ')) {
+        add_span(alloc, &layout, u64_at(rest, 0), u64_at(rest, 1), output);
     }
 }

@@ -16,33 +16,10 @@ mod rows;
 mod spelling;
 mod trial;
 
-use anyhow::{Context, Result};
-use std::rt::{Env, Files};
-use std::{env, fs};
-use trial::Trial;
-
-// Carries the cases of a text out, line by line.
-fn try_cases<R: Print + AllocGlobal>(rt: &R, text: &str) -> Result<()> {
-    let mut trial = Trial::new(rt.alloc())?;
-    for line in text.lines() {
-        println!(rt; "{line}")?;
-        let told = trial.told(line).context(format_args!("at {line}"))?;
-        if let Some(told) = told {
-            println!(rt; "  {told}")?;
-        }
-    }
-    Ok(())
-}
-
-// Carries the cases of all files out that the words name.
-fn try_files<R: Env + Files + Print + AllocGlobal>(rt: &R) -> Result<()> {
-    for word in env::args(rt)?.skip(1) {
-        let text = fs::read_to_string(rt, word.as_str())?;
-        try_cases(rt, text.as_str())?;
-    }
-    Ok(())
-}
+use anyhow::Result;
+use test_lines::try_files;
+use trial::Cases;
 
 fn main(rt: HostRuntime) -> Result<()> {
-    try_files(&rt)
+    try_files(&rt, Cases::new(rt.alloc()))
 }

@@ -1,130 +1,138 @@
 // Metainfo files, and URLs of files at web seeds (BEP 3, BEP 19).
-use crate::bencoding::fault;
-use crate::spelling::{shown, spelled};
-use anyhow::{Context, Result, bail, ensure};
+use crate::bencoding::add_fault;
+use crate::spelling::{add_shown, spelled};
 use dl_kinds::Texts;
 use metainfo::{Key, Meta, MetaErr};
+use span_map::FileLen;
 use std::alloc::Global;
+use test_lines::{Output, after, name_of, u32_at, word};
 
 /// More bytes than any case has.
 const MOST: usize = 1 << 26;
 
-fn key_word(key: Key) -> &'static str {
-    match key {
-        Key::Info => "info",
-        Key::Name => "name",
-        Key::PieceLength => "piece length",
-        Key::Pieces => "pieces",
-        Key::Length => "length",
-        Key::Files => "files",
-        Key::Path => "path",
-        Key::UrlList => "url-list",
+const KEYS: [(&str, Key); 8] = [
+    ("info", Key::Info),
+    ("name", Key::Name),
+    ("piece length", Key::PieceLength),
+    ("pieces", Key::Pieces),
+    ("length", Key::Length),
+    ("files", Key::Files),
+    ("path", Key::Path),
+    ("url-list", Key::UrlList),
+];
+
+fn add_key(text: &str, key: Key, output: &mut Output) {
+    output.text(text);
+    output.text(name_of(&KEYS, &key));
+}
+
+// Adds the first rule that the bytes break.
+fn add_refusal(refused: MetaErr, output: &mut Output) {
+    match refused {
+        MetaErr::Bencode(error) => add_fault(error, output),
+        MetaErr::Lacks(key) => add_key("lacks ", key, output),
+        MetaErr::BadKind(key) => add_key("bad ", key, output),
+        MetaErr::BadPath(file) => output.counted("bad path ", file as u64),
+        MetaErr::DigestCount { have, want } => {
+            output.number(have as u64);
+            output.counted(" digests for ", want as u64);
+        }
+        MetaErr::TooLarge(key) => add_key("too large ", key, output),
+        MetaErr::BadSeed(place) => output.counted("bad seed ", place as u64),
+        MetaErr::NoMemory => output.text("out of memory"),
     }
 }
 
-// The first rule that the bytes break.
-fn refusal(alloc: Global, refused: MetaErr) -> Result<String> {
-    Ok(match refused {
-        MetaErr::Bencode(error) => fault(alloc, error)?,
-        MetaErr::Lacks(key) => format!(in alloc; "lacks {}", key_word(key))?,
-        MetaErr::BadKind(key) => format!(in alloc; "bad {}", key_word(key))?,
-        MetaErr::BadPath(file) => format!(in alloc; "bad path {file}")?,
-        MetaErr::DigestCount { have, want } => format!(in alloc; "{have} digests for {want}")?,
-        MetaErr::TooLarge(key) => format!(in alloc; "too large {}", key_word(key))?,
-        MetaErr::BadSeed(place) => format!(in alloc; "bad seed {place}")?,
-        MetaErr::NoMemory => bail!("out of memory"),
-    })
-}
-
-/// What a metainfo file says.
-pub fn read_meta(alloc: Global, bytes: &[u8]) -> Result<Result<Meta, MetaErr>> {
-    ensure!(bytes.len() < MOST, "too many bytes");
-    Ok(Meta::read(alloc, bytes))
-}
-
-// The parts of a path, with `/` between them.
-fn push_path(alloc: Global, told: &mut String, path: &Texts) -> Result<()> {
-    for place in 0..path.len() {
-        let gap = if place == 0 { " " } else { "/" };
-        let part = path.get(place).context("a part is wanted")?;
-        let part = shown(alloc, part.bytes())?;
-        write!(told, "{gap}{part}")?;
+/// What a metainfo file says; nothing, where it has too many bytes.
+pub fn read_meta(alloc: Global, bytes: &[u8]) -> Option<Result<Meta, MetaErr>> {
+    if bytes.len() < MOST {
+        Some(Meta::read(alloc, bytes))
+    } else {
+        None
     }
-    Ok(())
 }
 
-fn push_files(alloc: Global, told: &mut String, meta: &Meta) -> Result<()> {
-    write!(told, "; {} files:", meta.layout.files().len())?;
+// Adds a file: the parts of its path, with `/` between them, and its length.
+fn add_file(alloc: Global, file: &FileLen, output: &mut Output) {
+    let mut gap = " ";
+    for place in 0..file.path.len() {
+        if let Some(part) = file.path.get(place) {
+            output.text(gap);
+            add_shown(alloc, part.bytes(), output);
+        }
+        gap = "/";
+    }
+    output.counted(":", file.len);
+}
+
+fn add_files(alloc: Global, meta: &Meta, output: &mut Output) {
+    output.counted("; ", meta.layout.files().len() as u64);
+    output.text(" files:");
     for file in meta.layout.files() {
-        push_path(alloc, told, &file.path)?;
-        write!(told, ":{}", file.len)?;
+        add_file(alloc, file, output);
     }
-    Ok(())
 }
 
-// The digests of the pieces, as many as are told.
-fn push_digests(alloc: Global, told: &mut String, meta: &Meta) -> Result<()> {
-    write!(told, "; {} digests:", meta.digests.len())?;
-    for place in 0..meta.digests.len().min(3) {
-        let digest = meta.digests.get(place).context("a digest is wanted")?;
-        let digits = hex::encode(alloc, digest.as_slice())?;
-        write!(told, " {digits}")?;
+// Adds the digests of the pieces, as many as are told.
+fn add_digests(alloc: Global, meta: &Meta, output: &mut Output) {
+    output.counted("; ", meta.digests.len() as u64);
+    output.text(" digests:");
+    for place in 0..3 {
+        if let Some(digest) = meta.digests.get(place) {
+            output.text(" ");
+            output.hex_bytes(alloc, digest.as_slice());
+        }
     }
-    Ok(())
 }
 
-fn push_seeds(told: &mut String, seeds: &Texts) -> Result<()> {
-    write!(told, "; {} seeds:", seeds.len())?;
+fn add_seeds(seeds: &Texts, output: &mut Output) {
+    output.counted("; ", seeds.len() as u64);
+    output.text(" seeds:");
     for place in 0..seeds.len() {
-        let seed = seeds.get(place).context("a seed is wanted")?;
-        write!(told, " {}", seed.as_str())?;
-    }
-    Ok(())
-}
-
-fn meta_told(alloc: Global, meta: &Meta) -> Result<String> {
-    let name = shown(alloc, meta.name.bytes())?;
-    let plan = meta.plan;
-    let mut told = format!(in alloc;
-        "{name}; {} bytes in {} pieces of {}",
-        plan.total, plan.pieces, plan.piece_len
-    )?;
-    push_files(alloc, &mut told, meta)?;
-    push_digests(alloc, &mut told, meta)?;
-    push_seeds(&mut told, &meta.seeds)?;
-    let hash = hex::encode(alloc, meta.info_hash.as_slice())?;
-    write!(told, "; hash {hash}")?;
-    Ok(told)
-}
-
-fn reading(alloc: Global, bytes: &[u8]) -> Result<String> {
-    match read_meta(alloc, bytes)? {
-        Ok(meta) => meta_told(alloc, &meta),
-        Err(refused) => refusal(alloc, refused),
+        if let Some(seed) = seeds.get(place) {
+            output.text(" ");
+            output.text(seed.as_str());
+        }
     }
 }
 
-// The URL of a file at a web seed.
-fn url_told(alloc: Global, file: u32, base: &str, bytes: &[u8]) -> Result<String> {
-    let meta = read_meta(alloc, bytes)?.ok().context("no metainfo file")?;
+fn add_plan(meta: &Meta, output: &mut Output) {
+    output.counted("; ", meta.plan.total);
+    output.counted(" bytes in ", meta.plan.pieces as u64);
+    output.counted(" pieces of ", meta.plan.piece_len as u64);
+}
+
+fn add_meta(alloc: Global, meta: &Meta, output: &mut Output) {
+    add_shown(alloc, meta.name.bytes(), output);
+    add_plan(meta, output);
+    add_files(alloc, meta, output);
+    add_digests(alloc, meta, output);
+    add_seeds(&meta.seeds, output);
+    output.text("; hash ");
+    output.hex_bytes(alloc, meta.info_hash.as_slice());
+}
+
+/// Adds what a metainfo file says.
+pub fn add_metainfo(alloc: Global, parts: &str, output: &mut Output) {
+    match read_meta(alloc, &spelled(alloc, parts)) {
+        Some(Ok(meta)) => add_meta(alloc, &meta, output),
+        Some(Err(refused)) => add_refusal(refused, output),
+        None => {}
+    }
+}
+
+fn add_url_of(alloc: Global, meta: &Meta, file: u32, base: &str, output: &mut Output) {
     if file as usize >= meta.layout.files().len() {
-        return Ok(String::from_str(alloc, "no such file")?);
+        output.text("no such file");
+    } else if let Ok(url) = meta.seed_url(alloc, base, file) {
+        output.text(url.as_str());
     }
-    let url = meta.seed_url(alloc, base, file)?;
-    Ok(String::from_str(alloc, url.as_str())?)
 }
 
-/// What comes of a line on metainfo files.
-pub fn metainfo_told(alloc: Global, line: &str) -> Result<String> {
-    let words: Vec<&str> = line.splitn(4, ' ').collect(alloc)?;
-    match words.as_slice() {
-        ["meta", ..] => {
-            let (_, parts) = line.split_once(' ').unwrap_or((line, ""));
-            reading(alloc, &spelled(alloc, parts)?)
-        }
-        ["url", file, base, parts] => {
-            url_told(alloc, file.parse::<u32>()?, base, &spelled(alloc, parts)?)
-        }
-        _ => bail!("no line of a case: {line}"),
+/// Adds the URL of a file at a web seed.
+pub fn add_url(alloc: Global, rest: &str, output: &mut Output) {
+    let bytes = spelled(alloc, after(after(rest, ' '), ' '));
+    if let Some(Ok(meta)) = read_meta(alloc, &bytes) {
+        add_url_of(alloc, &meta, u32_at(rest, 0), word(rest, 1), output);
     }
 }

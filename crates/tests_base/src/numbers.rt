@@ -1,66 +1,79 @@
 // Plans of pieces and blocks, runs and ids.
-use anyhow::{Context, Result, bail};
 use dl_kinds::{Gid, Plan, Run};
-use std::alloc::Global;
+use test_lines::{Output, u32_at, u64_at};
 
-fn plan_of(total: &str, piece_len: &str) -> Result<Option<Plan>> {
-    Ok(Plan::new(total.parse::<u64>()?, piece_len.parse::<u32>()?))
+/// What a line asks of numbers.
+#[derive(Clone, Copy)]
+pub enum NumberLine {
+    Plan,
+    Block,
+    Piece,
+    Half,
+    Id,
 }
 
-fn plan_told(alloc: Global, plan: Option<Plan>) -> Result<String> {
-    match plan {
-        Some(plan) => Ok(format!(in alloc; "{} pieces, {} blocks", plan.pieces, plan.blocks())?),
-        None => Ok(String::from_str(alloc, "none")?),
-    }
-}
-
-fn block_told(alloc: Global, plan: &Plan, block: u32) -> Result<String> {
+fn add_block(plan: &Plan, block: u32, output: &mut Output) {
     if block >= plan.blocks() {
-        return Ok(String::from_str(alloc, "no such block")?);
+        output.text("no such block");
+        return;
     }
     let (start, len) = plan.block_span(block);
-    Ok(format!(in alloc; "{start}+{len}, piece {}", plan.piece_of(block))?)
+    output.number(start);
+    output.counted("+", len as u64);
+    output.counted(", piece ", plan.piece_of(block) as u64);
 }
 
-fn piece_told(alloc: Global, plan: &Plan, piece: u32) -> Result<String> {
+fn add_piece(plan: &Plan, piece: u32, output: &mut Output) {
     if piece >= plan.pieces {
-        return Ok(String::from_str(alloc, "no such piece")?);
+        output.text("no such piece");
+        return;
     }
     let (start, len) = plan.piece_span(piece);
     let run = plan.piece_run(piece);
-    Ok(format!(in alloc; "{start}+{len}, blocks {}+{}", run.first, run.count)?)
+    output.number(start);
+    output.counted("+", len as u64);
+    output.counted(", blocks ", run.first as u64);
+    output.counted("+", run.count as u64);
 }
 
-// The later half of some blocks.
-fn half_told(alloc: Global, first: u32, count: u32) -> Result<String> {
+fn add_plan(plan: &Plan, output: &mut Output) {
+    output.number(plan.pieces as u64);
+    output.counted(" pieces, ", plan.blocks() as u64);
+    output.text(" blocks");
+}
+
+// Adds what is asked of a plan.
+fn add_plan_line(kind: NumberLine, rest: &str, output: &mut Output) {
+    match Plan::new(u64_at(rest, 0), u32_at(rest, 1)) {
+        Some(plan) => match kind {
+            NumberLine::Block => add_block(&plan, u32_at(rest, 2), output),
+            NumberLine::Piece => add_piece(&plan, u32_at(rest, 2), output),
+            _ => add_plan(&plan, output),
+        },
+        None => output.text("none"),
+    }
+}
+
+// Adds the later half of some blocks.
+fn add_half(first: u32, count: u32, output: &mut Output) {
     if count > u32::MAX - first {
-        return Ok(String::from_str(alloc, "no such blocks")?);
+        output.text("no such blocks");
+        return;
     }
     let half = Run { first, count }.later_half();
-    Ok(format!(in alloc; "{}+{}", half.first, half.count)?)
+    output.number(half.first as u64);
+    output.counted("+", half.count as u64);
 }
 
-fn id_told(alloc: Global, number: u64) -> Result<String> {
-    let digits = Gid(number).text();
-    let text = str::from_utf8(&digits).ok().context("no digits")?;
-    Ok(String::from_str(alloc, text)?)
+fn add_id(id: u64, output: &mut Output) {
+    output.text(str::from_utf8(&Gid(id).text()).unwrap_or(""));
 }
 
-/// What comes of a line on numbers.
-pub fn number_told(alloc: Global, line: &str) -> Result<String> {
-    let words: Vec<&str> = line.split(' ').collect(alloc)?;
-    match words.as_slice() {
-        ["plan", total, piece_len] => plan_told(alloc, plan_of(total, piece_len)?),
-        ["block", total, piece_len, block] => {
-            let plan = plan_of(total, piece_len)?.context("no plan")?;
-            block_told(alloc, &plan, block.parse::<u32>()?)
-        }
-        ["piece", total, piece_len, piece] => {
-            let plan = plan_of(total, piece_len)?.context("no plan")?;
-            piece_told(alloc, &plan, piece.parse::<u32>()?)
-        }
-        ["half", first, count] => half_told(alloc, first.parse::<u32>()?, count.parse::<u32>()?),
-        ["id", number] => id_told(alloc, number.parse::<u64>()?),
-        _ => bail!("no line of a case: {line}"),
+/// Adds what comes of a line on numbers.
+pub fn add_number_line(kind: NumberLine, rest: &str, output: &mut Output) {
+    match kind {
+        NumberLine::Half => add_half(u32_at(rest, 0), u32_at(rest, 1), output),
+        NumberLine::Id => add_id(u64_at(rest, 0), output),
+        _ => add_plan_line(kind, rest, output),
     }
 }

@@ -1,8 +1,8 @@
 // Bytes that are written as text.
-use anyhow::Result;
-use percent_encoding::{AsciiSet, CONTROLS, ascii_set, percent_decode, percent_encode};
+use percent_encoding::{AsciiSet, CONTROLS, ascii_set, percent_encode};
 use sha1::Sha1;
-use std::alloc::Global;
+use std::alloc::{AllocError, Global};
+use test_lines::Output;
 
 /// What is shown as `%` and two digits.
 const HIDDEN: AsciiSet = ascii_set!(CONTROLS.add(b'%').add(b'|'));
@@ -10,62 +10,68 @@ const HIDDEN: AsciiSet = ascii_set!(CONTROLS.add(b'%').add(b'|'));
 /// More bytes are told by their digest.
 const MANY: usize = 300;
 
-/// The bytes that parts spell, between which `+` stands: `3*ab` is three times `ab`, `|` the end of a line of HTTP, and
-/// `%` with two digits a byte.
-pub fn spelled(alloc: Global, parts: &str) -> Result<Vec<u8>> {
-    let mut bytes = Vec::new(alloc);
-    for part in parts.split('+') {
-        let (count, unit) = part.split_once('*').unwrap_or(("1", part));
-        let unit = unit.replace(alloc, '|', "\r\n")?;
-        let mut once = Vec::new(alloc);
-        percent_decode(unit.as_bytes()).append_to(&mut once)?;
-        bytes.extend_from_slice(&once.repeat(alloc, count.parse::<usize>()?)?)?;
+/// The bytes that parts spell, where `|` is the end of a line of HTTP.
+pub fn spelled(alloc: Global, parts: &str) -> Vec<u8> {
+    match parts.replace(alloc, '|', "%0D%0A") {
+        Ok(parts) => test_lines::spelled(alloc, parts.as_str()),
+        Err(_) => Vec::new(alloc),
     }
-    Ok(bytes)
 }
 
-/// Shows bytes as they are spelled: many of them by their number and their SHA-1 digest.
-pub fn shown(alloc: Global, bytes: &[u8]) -> Result<String> {
-    if bytes.len() > MANY {
-        let digest = hex::encode(alloc, Sha1::digest(bytes).as_slice())?;
-        return Ok(format!(in alloc; "{} bytes of {digest}", bytes.len())?);
-    }
+fn shown(alloc: Global, bytes: &[u8]) -> Result<String, AllocError> {
     let mut text = String::new(alloc);
     percent_encode(bytes, HIDDEN).append_to(&mut text)?;
-    Ok(text.replace(alloc, "%0D%0A", "|")?)
+    text.replace(alloc, "%0D%0A", "|")
+}
+
+/// Adds bytes as they are spelled: many of them by their number and their SHA-1 digest.
+pub fn add_shown(alloc: Global, bytes: &[u8], output: &mut Output) {
+    if bytes.len() > MANY {
+        output.number(bytes.len() as u64);
+        output.text(" bytes of ");
+        output.hex_bytes(alloc, Sha1::digest(bytes).as_slice());
+    } else if let Ok(text) = shown(alloc, bytes) {
+        output.text(text.as_str());
+    }
 }
 
 /// Answers to one question in several ways: the first one, and each other that differs from it.
 #[derive(Drop)]
 pub struct Answers {
-    first: Option<String>,
-    others: String,
+    asked: bool,
+    first: Output,
+    others: Output,
+}
+
+fn text_of(output: &Output) -> &str {
+    output.written().unwrap_or("out of memory")
 }
 
 impl Answers {
     /// No answers.
     pub fn new(alloc: Global) -> Answers {
         Answers {
-            first: None,
-            others: String::new(alloc),
+            asked: false,
+            first: Output::new(alloc),
+            others: Output::new(alloc),
         }
     }
 
     /// Adds an answer, and in which way it was asked for.
-    pub fn add(&mut self, answer: String, way: usize) -> Result<()> {
-        match &self.first {
-            None => self.first = Some(answer),
-            Some(first) if *first == answer => {}
-            Some(_) => write!(self.others, " AT {way}: {answer}")?,
+    pub fn add(&mut self, answer: &Output, way: u64) {
+        if !self.asked {
+            self.asked = true;
+            self.first.text(text_of(answer));
+        } else if text_of(&self.first) != text_of(answer) {
+            self.others.counted(" AT ", way);
+            self.others.text(": ");
+            self.others.text(text_of(answer));
         }
-        Ok(())
     }
 
-    /// What was answered.
-    pub fn told(&self, alloc: Global) -> Result<String> {
-        match &self.first {
-            Some(first) => Ok(format!(in alloc; "{first}{}", self.others)?),
-            None => Ok(String::new(alloc)),
-        }
+    /// Adds what was answered.
+    pub fn add_to(&self, output: &mut Output) {
+        output.text(text_of(&self.first));
+        output.text(text_of(&self.others));
     }
 }

@@ -1,73 +1,128 @@
 // Lines of cases, each carried out behind the lines before it.
-use crate::bencoding::bencoding_told;
-use crate::bodies::body_told;
-use crate::buckets::{bucket_of, bucket_told};
-use crate::heads::head_line_told;
-use crate::jobs::job_line_told;
-use crate::layouts::layout_line_told;
-use crate::metainfos::metainfo_told;
-use crate::numbers::number_told;
-use crate::replies::reply_line_told;
-use crate::rows::row_line_told;
-use anyhow::{Result, bail};
+use crate::bencoding::{add_looking, add_reading};
+use crate::bodies::add_body_line;
+use crate::buckets::{BucketLine, add_bucket_line, bucket_of};
+use crate::heads::{HeadLine, add_head_line};
+use crate::jobs::{add_added, add_job};
+use crate::layouts::{add_layout, add_parts};
+use crate::metainfos::{add_metainfo, add_url};
+use crate::numbers::{NumberLine, add_number_line};
+use crate::replies::{ReplyLine, add_reply_line};
+use crate::rows::{RowLine, add_row_line};
 use rate_tokens::Bucket;
 use std::alloc::Global;
+use test_lines::{Output, Trial, after, before, keyword, set, u32s};
 
 /// What lines go on with.
 #[derive(Drop)]
-pub struct Trial {
+pub struct Cases {
     alloc: Global,
     bucket: Bucket,
     // How many bytes of a stream come at once, in each way.
-    cuts: Vec<usize>,
+    cuts: Vec<u32>,
 }
 
-fn cuts_of(alloc: Global, words: &str) -> Result<Vec<usize>> {
-    let mut cuts = Vec::new(alloc);
-    for word in words.split(' ') {
-        cuts.push(word.parse::<usize>()?)?;
-    }
-    Ok(cuts)
+// What a line's first word asks for.
+#[derive(Clone, Copy)]
+enum Line {
+    Cuts,
+    Ben,
+    Look,
+    Body,
+    Head(HeadLine),
+    Reply(ReplyLine),
+    Layout,
+    Parts,
+    Meta,
+    Url,
+    Added,
+    Job,
+    Number(NumberLine),
+    Row(RowLine),
+    Bucket(BucketLine),
+    Other,
 }
 
-impl Trial {
+const LINES: [(&str, Line); 29] = [
+    ("cuts", Line::Cuts),
+    ("ben", Line::Ben),
+    ("look", Line::Look),
+    ("body", Line::Body),
+    ("request", Line::Head(HeadLine::Request)),
+    ("reply", Line::Head(HeadLine::Reply)),
+    ("range", Line::Head(HeadLine::Range)),
+    ("heads", Line::Reply(ReplyLine::Heads)),
+    ("slice", Line::Reply(ReplyLine::Slice)),
+    ("mark", Line::Reply(ReplyLine::Mark)),
+    ("layout", Line::Layout),
+    ("parts", Line::Parts),
+    ("meta", Line::Meta),
+    ("url", Line::Url),
+    ("added", Line::Added),
+    ("job", Line::Job),
+    ("plan", Line::Number(NumberLine::Plan)),
+    ("block", Line::Number(NumberLine::Block)),
+    ("piece", Line::Number(NumberLine::Piece)),
+    ("half", Line::Number(NumberLine::Half)),
+    ("id", Line::Number(NumberLine::Id)),
+    ("row", Line::Row(RowLine::Row)),
+    ("turn", Line::Row(RowLine::Turn)),
+    ("zeros", Line::Row(RowLine::Zeros)),
+    ("next", Line::Row(RowLine::Next)),
+    ("bucket", Line::Bucket(BucketLine::Begin)),
+    ("rate", Line::Bucket(BucketLine::Rate)),
+    ("take", Line::Bucket(BucketLine::Take)),
+    ("credit", Line::Bucket(BucketLine::Credit)),
+];
+
+impl Cases {
     /// Before the first line.
-    pub fn new(alloc: Global) -> Result<Trial> {
-        Ok(Trial {
+    pub fn new(alloc: Global) -> Cases {
+        Cases {
             alloc,
-            bucket: bucket_of("0", "0")?,
-            cuts: cuts_of(alloc, "65536")?,
-        })
+            bucket: bucket_of("0 0"),
+            cuts: u32s(alloc, "65536", ' '),
+        }
     }
 
-    // What comes of a line that asks something.
-    fn ask(&mut self, line: &str, word: &str, rest: &str) -> Result<String> {
+    // Writes what comes of a line that asks something.
+    fn ask(&mut self, line: Line, rest: &str, output: &mut Output) {
         let alloc = self.alloc;
-        match word {
-            "ben" | "look" => bencoding_told(alloc, word, rest),
-            "body" => body_told(alloc, rest, &self.cuts),
-            "request" | "reply" | "range" => head_line_told(alloc, word, rest),
-            "heads" | "slice" | "mark" => reply_line_told(alloc, word, rest, &self.cuts),
-            "layout" | "parts" => layout_line_told(alloc, line),
-            "meta" | "url" => metainfo_told(alloc, line),
-            "added" | "job" => job_line_told(alloc, line),
-            "plan" | "block" | "piece" | "half" | "id" => number_told(alloc, line),
-            "row" | "turn" | "zeros" | "next" => row_line_told(alloc, line),
-            "bucket" | "rate" | "take" | "credit" => bucket_told(alloc, &mut self.bucket, line),
-            _ => bail!("no line of a case: {word}"),
+        match line {
+            Line::Ben => add_reading(alloc, rest, output),
+            Line::Look => add_looking(alloc, rest, output),
+            Line::Body => add_body_line(alloc, rest, &self.cuts, output),
+            Line::Head(kind) => add_head_line(alloc, kind, rest, output),
+            Line::Reply(kind) => add_reply_line(alloc, kind, rest, &self.cuts, output),
+            Line::Layout => add_layout(alloc, rest, output),
+            Line::Parts => add_parts(alloc, rest, output),
+            Line::Meta => add_metainfo(alloc, rest, output),
+            Line::Url => add_url(alloc, rest, output),
+            Line::Added => add_added(alloc, rest, output),
+            Line::Job => add_job(alloc, rest, output),
+            Line::Number(kind) => add_number_line(kind, rest, output),
+            Line::Row(kind) => add_row_line(alloc, kind, rest, output),
+            Line::Bucket(kind) => add_bucket_line(&mut self.bucket, kind, rest, output),
+            _ => output.text("no line of a case"),
         }
     }
+}
 
-    /// What comes of a line, if it asks something.
-    pub fn told(&mut self, line: &str) -> Result<Option<String>> {
-        if line.is_empty() || line.starts_with('#') {
-            return Ok(None);
+impl Trial for Cases {
+    fn begin(&mut self) {
+        self.bucket = bucket_of("0 0");
+        set(&mut self.cuts, u32s(self.alloc, "65536", ' '));
+    }
+
+    fn step(&mut self, line: &str, output: &mut Output) {
+        let rest = after(line, ' ');
+        match keyword(&LINES, before(line, ' '), Line::Other) {
+            Line::Cuts => set(&mut self.cuts, u32s(self.alloc, rest, ' ')),
+            kind => {
+                output.text("  ");
+                self.ask(kind, rest, output);
+                output.text("\n");
+            }
         }
-        let (word, rest) = line.split_once(' ').unwrap_or((line, ""));
-        if word == "cuts" {
-            self.cuts = cuts_of(self.alloc, rest)?;
-            return Ok(None);
-        }
-        Ok(Some(self.ask(line, word, rest)?))
     }
 }

@@ -10,18 +10,36 @@ use segment_claim::{Claim, Claims, Limits, Views, steals_are_of_claims};
 use slow_steal::victim;
 use std::alloc::{AllocError, Global};
 
+/// What limits claims: the tries of a mirror for a piece, and the rest as [`Limits`].
+#[derive(Clone, Copy)]
+pub struct Limit {
+    pub tries: u8,
+    pub split: u16,
+    pub per_host: u16,
+    pub min_blocks: u32,
+}
+
+/// What may be done with a piece.
+#[derive(Clone, Copy)]
+pub enum Change {
+    Clear,
+    Right,
+    Wrong,
+    Sole,
+    Leave,
+}
+
 /// The parts of a download that claims depend on. `next` is the number of the next claim.
 #[derive(Drop)]
 pub struct Rig {
+    pub alloc: Global,
     pub plan: Plan,
     pub table: Table,
     pub marks: Marks,
     pub claims: Claims,
     pub hosts: Vec<u16>,
     pub wanted: BitRow,
-    pub split: u16,
-    pub per_host: u16,
-    pub min_blocks: u32,
+    pub limit: Limit,
     pub next: u64,
     ghost total: { table.total ≡ plan.total },
     ghost piece_len: { table.piece_len ≡ plan.piece_len },
@@ -30,8 +48,8 @@ pub struct Rig {
     ghost mirrors: { vec_len hosts ≡ marks.mirrors },
     ghost few: { vec_len hosts ≤ 256 },
     ghost pieces: { length wanted ≡ pieces_of plan.total plan.piece_len },
-    ghost some: { 1 ≤ split },
-    ghost most: { split ≤ 64 },
+    ghost some: { 1 ≤ limit.split },
+    ghost most: { limit.split ≤ 64 },
     ghost numbered: { claims.next ≤ next },
 }
 
@@ -58,42 +76,35 @@ fn all(alloc: Global, len: u32) -> Result<BitRow, AllocError>
 
 impl Rig {
     /// A download of which nothing is landed, and all is wanted, with a mirror on each of these hosts.
-    pub fn new(
-        alloc: Global,
-        plan: Plan,
-        hosts: &[u16],
-        max_tries: u8,
-        split: u16,
-        min_blocks: u32,
-    ) -> Result<Rig, AllocError>
-        requires hosts { length hosts.now ≤ 256 }
-        requires some { 1 ≤ split }
-        requires most { split ≤ 64 }
+    pub fn new(alloc: Global, plan: Plan, hosts: Vec<u16>, limit: Limit) -> Result<Rig, AllocError>
+        requires hosts { vec_len hosts ≤ 256 }
+        requires some { 1 ≤ limit.split }
+        requires most { limit.split ≤ 64 }
     {
+        let wanted = all(alloc, plan.pieces)?;
+        let table = bare(alloc, plan)?;
         Ok(Rig {
+            alloc,
             plan,
-            table: bare(alloc, plan)?,
-            marks: Marks::new(alloc, hosts.len() as u16, max_tries),
+            table,
+            marks: Marks::new(alloc, hosts.len() as u16, limit.tries),
             claims: Claims::new(alloc, plan),
-            hosts: hosts.to_vec(alloc)?,
-            wanted: all(alloc, plan.pieces)?,
-            split,
-            per_host: 1,
-            min_blocks,
+            hosts,
+            wanted,
+            limit,
             next: 0,
         })
     }
 
     /// The free claim, where there is one.
-    pub fn free(&mut self, now: u64) -> Result<Option<Claim>, AllocError> {
-        self.claims.reserve()?;
-        if self.claims.standing() >= 64 || self.next == u64::MAX {
-            return Ok(None);
+    pub fn free(&mut self, now: u64) -> Option<Claim> {
+        if self.claims.reserve().is_err() || self.claims.standing() >= 64 || self.next == u64::MAX {
+            return None;
         }
         let limits = Limits {
-            split: self.split,
-            per_host: self.per_host,
-            min_blocks: self.min_blocks,
+            split: self.limit.split,
+            per_host: self.limit.per_host,
+            min_blocks: self.limit.min_blocks,
             hosts: &self.hosts,
             wanted: &self.wanted,
         };
@@ -102,19 +113,18 @@ impl Rig {
             .claims
             .grant_free(id, 0, &self.table, &self.marks, &limits, Moment(now));
         self.next = id + 1;
-        Ok(claim)
+        claim
     }
 
     /// The blocks that are stolen of the slowest claim, where there is one that is able.
-    pub fn steal(&mut self, now: u64) -> Result<Option<Claim>, AllocError> {
-        self.claims.reserve()?;
-        if self.claims.standing() >= 64 || self.next == u64::MAX {
-            return Ok(None);
+    pub fn steal(&mut self, now: u64) -> Option<Claim> {
+        if self.claims.reserve().is_err() || self.claims.standing() >= 64 || self.next == u64::MAX {
+            return None;
         }
         let limits = Limits {
-            split: self.split,
-            per_host: self.per_host,
-            min_blocks: self.min_blocks,
+            split: self.limit.split,
+            per_host: self.limit.per_host,
+            min_blocks: self.limit.min_blocks,
             hosts: &self.hosts,
             wanted: &self.wanted,
         };
@@ -123,17 +133,17 @@ impl Rig {
             .views(&self.table, &self.marks, &limits, &mut views);
         steals_are_of_claims();
         let Some(steal) = victim(views.as_slice(), Moment(now)) else {
-            return Ok(None);
+            return None;
         };
         let mirror = self
             .claims
             .mirror_for(steal.run, &self.table, &self.marks, &limits);
         let Some(mirror) = mirror else {
-            return Ok(None);
+            return None;
         };
         let id = self.next;
         self.next = id + 1;
-        Ok(Some(self.claims.grant_steal(id, 0, steal, mirror, Moment(now))))
+        Some(self.claims.grant_steal(id, 0, steal, mirror, Moment(now)))
     }
 
     /// A mirror gives some blocks, and the claims that are done don't stand any more. Told is which are new.
@@ -146,44 +156,48 @@ impl Rig {
         new
     }
 
-    /// The claim under a number is given up.
-    pub fn give_up(&mut self, id: u64) {
-        self.claims.void(id);
+    // A full piece that isn't verified is found right or wrong.
+    fn settle(&mut self, piece: u32, right: bool)
+        requires { piece < pieces_of self.old.plan.total self.old.plan.piece_len }
+    {
+        if self.table.is_full(piece) && !self.table.is_verified(piece) {
+            self.table.settle(piece, right);
+        }
     }
 
-    /// A piece is cleared.
-    pub fn clear(&mut self, piece: u32) {
-        if piece < self.plan.pieces && !self.table.is_verified(piece) {
+    // A piece is cleared, unless it is verified.
+    fn clear(&mut self, piece: u32)
+        requires { piece < pieces_of self.old.plan.total self.old.plan.piece_len }
+    {
+        if !self.table.is_verified(piece) {
             self.table.clear(piece);
             self.claims.cleared(piece);
         }
     }
 
-    /// A full piece that isn't verified is found right or wrong.
-    pub fn settle(&mut self, piece: u32, right: bool) {
-        if piece < self.plan.pieces && self.table.is_full(piece) && !self.table.is_verified(piece) {
-            self.table.settle(piece, right);
+    /// Something is done with a piece.
+    pub fn change(&mut self, piece: u32, change: Change) {
+        if piece >= self.plan.pieces {
+            return;
+        }
+        match change {
+            Change::Clear => self.clear(piece),
+            Change::Right => self.settle(piece, true),
+            Change::Wrong => self.settle(piece, false),
+            Change::Sole => self.table.make_sole(piece),
+            Change::Leave => self.wanted.clear(piece),
         }
     }
 
-    /// A piece is sole from now on.
-    pub fn make_sole(&mut self, piece: u32) {
-        if piece < self.plan.pieces {
-            self.table.make_sole(piece);
-        }
-    }
-
-    /// A piece isn't wanted.
-    pub fn leave_out(&mut self, piece: u32) {
-        if piece < self.plan.pieces {
-            self.wanted.clear(piece);
-        }
+    /// Whether a mirror has a try left for each of these pieces.
+    pub fn is_eligible(&self, mirror: u16, first: u32, last: u32) -> bool {
+        first <= last && self.marks.eligible(mirror, first, last)
     }
 
     /// A mirror gets a mark for a piece, where it has a try left.
-    pub fn mark(&mut self, mirror: u16, piece: u32) -> Result<(), AllocError> {
-        self.marks.reserve(1)?;
-        if (mirror as usize) < self.hosts.len()
+    pub fn mark(&mut self, mirror: u16, piece: u32) {
+        if self.marks.reserve(1).is_ok()
+            && (mirror as usize) < self.hosts.len()
             && piece < 1_048_576
             && self.marks.eligible(mirror, piece, piece)
         {
@@ -193,7 +207,6 @@ impl Rig {
             };
             self.marks.failed(mirror, piece, mark);
         }
-        Ok(())
     }
 
     /// The mirror that is chosen for these pieces, where so many claims stand on the host of each.

@@ -1,47 +1,73 @@
 // Steps of a download, one a line, by their words.
-use crate::rig::Rig;
-use crate::telling::{shown_claim, shown_runs, told_after};
-use anyhow::{Context, Result, bail, ensure};
-use dl_kinds::{Plan, Run};
+use crate::rig::{Change, Limit, Rig};
+use crate::telling::{add_claim, add_runs, add_state};
+use dl_kinds::Plan;
 use std::alloc::Global;
+use test_lines::{Output, Trial, keyword, set_some, u16_at, u16s, u32_at, u64_at, word};
 
-// The number that the n-th of these words writes.
-fn number(words: &[&str], n: usize) -> Result<u32> {
-    let word = words.get(n).context("a number is wanted")?;
-    Ok(word.parse::<u32>()?)
+// What a line's first word asks for.
+#[derive(Clone, Copy)]
+enum Step {
+    Payload,
+    Free,
+    Steal,
+    Land,
+    Fill,
+    Lose,
+    Mark,
+    Piece(Change),
+    Tries,
+    Total,
+    Eligible,
+    Dead,
+    Choose,
 }
 
-fn short_number(words: &[&str], n: usize) -> Result<u16> {
-    Ok(u16::try_from(number(words, n)?)?)
-}
-
-// The numbers that the n-th of these words has, between commas.
-fn numbers(alloc: Global, words: &[&str], n: usize) -> Result<Vec<u16>> {
-    let word = words.get(n).context("numbers are wanted")?;
-    let mut numbers = Vec::new(alloc);
-    for part in word.split(',') {
-        numbers.push(part.parse::<u16>()?)?;
-    }
-    Ok(numbers)
-}
+const STEPS: [(&str, Step); 17] = [
+    ("payload", Step::Payload),
+    ("free", Step::Free),
+    ("steal", Step::Steal),
+    ("land", Step::Land),
+    ("fill", Step::Fill),
+    ("lose", Step::Lose),
+    ("mark", Step::Mark),
+    ("clear", Step::Piece(Change::Clear)),
+    ("right", Step::Piece(Change::Right)),
+    ("wrong", Step::Piece(Change::Wrong)),
+    ("sole", Step::Piece(Change::Sole)),
+    ("leave", Step::Piece(Change::Leave)),
+    ("tries", Step::Tries),
+    ("total", Step::Total),
+    ("eligible", Step::Eligible),
+    ("dead", Step::Dead),
+    ("choose", Step::Choose),
+];
 
 /// A download of which nothing is landed, by its length, that of its pieces, the hosts of its mirrors, the tries of each, and
 /// the limits of claims.
-pub fn begun(alloc: Global, values: &str) -> Result<Rig> {
-    let words: Vec<&str> = values.split(' ').collect(alloc)?;
-    let total = words.first().context("a length is wanted")?.parse::<u64>()?;
-    let plan = Plan::new(total, number(&words, 1)?).context("no plan")?;
-    let hosts = numbers(alloc, &words, 2)?;
-    let tries = u8::try_from(number(&words, 3)?)?;
-    let split = short_number(&words, 4)?;
-    ensure!(hosts.len() <= 256 && split >= 1 && split <= 64, "too many");
-    let mut rig = Rig::new(alloc, plan, &hosts, tries, split, number(&words, 6)?)?;
-    rig.per_host = short_number(&words, 5)?;
-    Ok(rig)
+pub fn begun(alloc: Global, line: &str) -> Option<Rig> {
+    let plan = Plan::new(u64_at(line, 1), u32_at(line, 2))?;
+    let limit = Limit {
+        tries: u16_at(line, 4).min(255) as u8,
+        split: u16_at(line, 5).max(1).min(64),
+        per_host: u16_at(line, 6),
+        min_blocks: u32_at(line, 7),
+    };
+    let mut hosts = u16s(alloc, word(line, 3));
+    hosts.truncate(256);
+    Rig::new(alloc, plan, hosts, limit).ok()
 }
 
-// Blocks of the first mirror land where an `x` stands, and pieces are sole, left out, or marked of it.
-fn fill(rig: &mut Rig, blocks: &str, pieces: &str) -> Result<()> {
+// Another download begins, of so many pieces and blocks.
+fn begin(rig: &mut Rig, line: &str, output: &mut Output) {
+    set_some(rig, begun(rig.alloc, line));
+    output.number(rig.plan.pieces as u64);
+    output.counted(" pieces, ", rig.plan.blocks() as u64);
+    output.text(" blocks");
+}
+
+// Blocks of the first mirror land where an `x` stands.
+fn fill_blocks(rig: &mut Rig, blocks: &str) {
     let mut place = 0;
     for letter in blocks.bytes() {
         if letter == b'x' {
@@ -49,118 +75,106 @@ fn fill(rig: &mut Rig, blocks: &str, pieces: &str) -> Result<()> {
         }
         place = place.saturating_add(1);
     }
+}
+
+// A piece is sole, left out, or marked of the first mirror.
+fn fill_piece(rig: &mut Rig, piece: u32, letter: u8) {
+    match letter {
+        b's' => rig.change(piece, Change::Sole),
+        b'u' => rig.change(piece, Change::Leave),
+        b'm' => rig.mark(0, piece),
+        _ => {}
+    }
+}
+
+fn fill_pieces(rig: &mut Rig, pieces: &str) {
     let mut piece = 0;
     for letter in pieces.bytes() {
-        match letter {
-            b's' => rig.make_sole(piece),
-            b'u' => rig.leave_out(piece),
-            b'm' => rig.mark(0, piece)?,
-            _ => {}
-        }
+        fill_piece(rig, piece, letter);
         piece = piece.saturating_add(1);
     }
-    Ok(())
+}
+
+// Carries a step out that grants or lands blocks.
+fn grant(rig: &mut Rig, step: Step, line: &str, output: &mut Output) {
+    match step {
+        Step::Free => add_claim(output, rig.free(u64_at(line, 1))),
+        Step::Steal => add_claim(output, rig.steal(u64_at(line, 1))),
+        Step::Land => add_runs(
+            output,
+            &rig.land(u32_at(line, 1), u32_at(line, 2), u16_at(line, 3)),
+        ),
+        _ => {
+            fill_blocks(rig, word(line, 1));
+            fill_pieces(rig, word(line, 2));
+            add_claim(output, rig.free(0));
+        }
+    }
+}
+
+// Carries a step out that tells nothing.
+fn change(rig: &mut Rig, step: Step, line: &str, output: &mut Output) {
+    match step {
+        Step::Lose => rig.claims.void(u64_at(line, 1)),
+        Step::Mark => rig.mark(u16_at(line, 1), u32_at(line, 2)),
+        Step::Piece(change) => rig.change(u32_at(line, 1), change),
+        _ => {}
+    }
+    output.text("done");
+}
+
+fn add_dead(rig: &Rig, piece: u32, output: &mut Output) {
+    output.truth(rig.marks.dead(piece));
+    if let Some(mark) = rig.marks.last_mark(piece) {
+        output.counted(" ", mark.code.0 as u64);
+    }
+}
+
+fn add_choice(rig: &Rig, line: &str, output: &mut Output) {
+    let loads = u16s(rig.alloc, word(line, 3));
+    match rig.choose(u32_at(line, 1), u32_at(line, 2), &loads, u16_at(line, 4)) {
+        Some(mirror) => output.number(mirror as u64),
+        None => output.text("none"),
+    }
 }
 
 // What is asked of the marks.
-fn of_marks(alloc: Global, rig: &mut Rig, name: &str, words: &[&str]) -> Result<String> {
-    let first = number(words, 0)?;
-    match name {
-        "mark" => {
-            rig.mark(short_number(words, 0)?, number(words, 1)?)?;
-            Ok(String::from_str(alloc, "done")?)
-        }
-        "tries" => {
-            let tries = rig.marks.tries(short_number(words, 0)?, number(words, 1)?);
-            Ok(format!(in alloc; "{tries}")?)
-        }
-        "total" => Ok(format!(in alloc; "{}", rig.marks.total(short_number(words, 0)?))?),
-        "dead" => Ok(match rig.marks.last_mark(first) {
-            Some(mark) => format!(in alloc; "{} {}", rig.marks.dead(first), mark.code.0)?,
-            None => format!(in alloc; "{}", rig.marks.dead(first))?,
-        }),
-        "eligible" => {
-            let (from, to) = (number(words, 1)?, number(words, 2)?);
-            ensure!(from <= to, "the last piece is before the first");
-            let eligible = rig.marks.eligible(short_number(words, 0)?, from, to);
-            Ok(format!(in alloc; "{eligible}")?)
-        }
-        _ => {
-            let loads = numbers(alloc, words, 2)?;
-            let limit = short_number(words, 3)?;
-            Ok(match rig.choose(first, number(words, 1)?, &loads, limit) {
-                Some(mirror) => format!(in alloc; "{mirror}")?,
-                None => String::from_str(alloc, "none")?,
-            })
-        }
+fn ask(rig: &Rig, step: Step, line: &str, output: &mut Output) {
+    match step {
+        Step::Tries => output.number(u64::from(rig.marks.tries(u16_at(line, 1), u32_at(line, 2)))),
+        Step::Total => output.number(u64::from(rig.marks.total(u16_at(line, 1)))),
+        Step::Eligible => output.truth(rig.is_eligible(
+            u16_at(line, 1),
+            u32_at(line, 2),
+            u32_at(line, 3),
+        )),
+        Step::Dead => add_dead(rig, u32_at(line, 1), output),
+        _ => add_choice(rig, line, output),
     }
 }
 
-// What is done with a piece.
-fn of_piece(rig: &mut Rig, name: &str, words: &[&str]) -> Result<()> {
-    let piece = number(words, 0)?;
-    match name {
-        "clear" => rig.clear(piece),
-        "right" => rig.settle(piece, true),
-        "wrong" => rig.settle(piece, false),
-        "sole" => rig.make_sole(piece),
-        _ => rig.leave_out(piece),
-    }
-    Ok(())
-}
-
-// What a step is answered.
-fn answer(alloc: Global, rig: &mut Rig, line: &str) -> Result<String> {
-    let words: Vec<&str> = line.split(' ').collect(alloc)?;
-    let [name, words @ ..] = words.as_slice() else {
-        bail!("a word is wanted");
-    };
-    match *name {
-        "free" => shown_claim(alloc, rig.free(number(words, 0)? as u64)?),
-        "steal" => shown_claim(alloc, rig.steal(number(words, 0)? as u64)?),
-        "land" => {
-            let run = Run {
-                first: number(words, 0)?,
-                count: number(words, 1)?,
-            };
-            shown_runs(
-                alloc,
-                &rig.land(run.first, run.count, short_number(words, 2)?),
-            )
-        }
-        "lose" => {
-            rig.give_up(number(words, 0)? as u64);
-            Ok(String::from_str(alloc, "done")?)
-        }
-        "fill" => {
-            let [blocks, pieces] = words else {
-                bail!("blocks and pieces are wanted");
-            };
-            fill(rig, blocks, pieces)?;
-            shown_claim(alloc, rig.free(0)?)
-        }
-        "clear" | "right" | "wrong" | "sole" | "leave" => {
-            of_piece(rig, name, words)?;
-            Ok(String::from_str(alloc, "done")?)
-        }
-        _ => of_marks(alloc, rig, name, words),
+// Carries a step of the download out.
+fn answer(rig: &mut Rig, step: Step, line: &str, output: &mut Output) {
+    match step {
+        Step::Free | Step::Steal | Step::Land | Step::Fill => grant(rig, step, line, output),
+        Step::Lose | Step::Mark | Step::Piece(_) => change(rig, step, line, output),
+        _ => ask(rig, step, line, output),
     }
 }
 
-// Another download begins, of so many pieces and blocks.
-fn begin(alloc: Global, rig: &mut Rig, values: &str) -> Result<String> {
-    *rig = begun(alloc, values)?;
-    let plan = rig.plan;
-    Ok(format!(in alloc; "{} pieces, {} blocks", plan.pieces, plan.blocks())?)
-}
+impl Trial for Rig {
+    // Each file begins its own downloads.
+    fn begin(&mut self) {}
 
-/// What is told after a step.
-pub fn told(alloc: Global, rig: &mut Rig, line: &str) -> Result<String> {
-    match line.strip_prefix("payload ") {
-        Some(values) => begin(alloc, rig, values),
-        None => {
-            let answer = answer(alloc, rig, line)?;
-            told_after(answer, rig)
+    fn step(&mut self, line: &str, output: &mut Output) {
+        output.text("  ");
+        match keyword(&STEPS, word(line, 0), Step::Choose) {
+            Step::Payload => begin(self, line, output),
+            step => {
+                answer(self, step, line, output);
+                add_state(output, self);
+            }
         }
+        output.text("\n");
     }
 }

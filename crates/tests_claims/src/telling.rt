@@ -2,10 +2,9 @@
 ghost use Rattle.std.specs.Prelude.{◌≤◌};
 
 use crate::rig::Rig;
-use anyhow::Result;
 use piece_table::{Giver, NewRuns};
 use segment_claim::Claim;
-use std::alloc::Global;
+use test_lines::Output;
 
 // So many blocks and pieces are shown one by one, and no more.
 const MOST: u32 = 64;
@@ -17,56 +16,64 @@ fn shown_count(count: u32) -> u32
     if count <= MOST { count } else { 0 }
 }
 
+fn add_run(output: &mut Output, first: u32, count: u32) {
+    output.number(first as u64);
+    output.counted("+", count as u64);
+}
+
 /// The blocks of a claim as FIRST+COUNT, and its mirror.
-pub fn shown_claim(alloc: Global, claim: Option<Claim>) -> Result<String> {
-    Ok(match claim {
+pub fn add_claim(output: &mut Output, claim: Option<Claim>) {
+    match claim {
         Some(claim) => {
-            let run = claim.run;
-            format!(in alloc; "{}+{} at {}", run.first, run.count, claim.mirror)?
+            add_run(output, claim.run.first, claim.run.count);
+            output.counted(" at ", claim.mirror as u64);
         }
-        None => String::from_str(alloc, "none")?,
-    })
+        None => output.text("none"),
+    }
 }
 
 /// Runs of blocks.
-pub fn shown_runs(alloc: Global, runs: &NewRuns) -> Result<String> {
-    let mut text = String::from_str(alloc, "new:")?;
+pub fn add_runs(output: &mut Output, runs: &NewRuns) {
+    output.text("new:");
     for place in 0..64 {
         if let Some(run) = runs.get(place) {
-            write!(text, " {}+{}", run.first, run.count)?;
+            output.letter(' ');
+            add_run(output, run.first, run.count);
         }
     }
-    Ok(text)
 }
 
 // Adds each block: listed, landed and not listed, or lacking.
-fn add_blocks(text: &mut String, rig: &Rig) -> Result<()> {
+fn add_blocks(output: &mut Output, rig: &Rig) {
     for block in 0..shown_count(rig.plan.blocks()) {
-        let letter = match (rig.table.has_block(block), rig.table.is_listed(block)) {
-            (true, true) => 'x',
-            (true, false) => 'o',
-            _ => '.',
-        };
-        text.push(letter)?;
+        output.letter(if !rig.table.has_block(block) {
+            '.'
+        } else if rig.table.is_listed(block) {
+            'x'
+        } else {
+            'o'
+        });
     }
-    Ok(())
+}
+
+fn add_giver(output: &mut Output, giver: Giver) {
+    match giver {
+        Giver::Nobody => output.text(" -"),
+        Giver::One(mirror) => output.counted(" ", mirror as u64),
+        Giver::Mixed => output.text(" *"),
+    }
 }
 
 // Adds who gave each piece, and whether it is verified or full.
-fn add_pieces(text: &mut String, rig: &Rig) -> Result<()> {
+fn add_pieces(output: &mut Output, rig: &Rig) {
     for piece in 0..shown_count(rig.plan.pieces) {
-        match rig.table.giver(piece) {
-            Giver::Nobody => text.push_str(" -")?,
-            Giver::One(mirror) => write!(text, " {mirror}")?,
-            Giver::Mixed => text.push_str(" *")?,
-        }
+        add_giver(output, rig.table.giver(piece));
         if rig.table.is_verified(piece) {
-            text.push('v')?;
+            output.letter('v');
         } else if rig.table.is_full(piece) {
-            text.push('!')?;
+            output.letter('!');
         }
     }
-    Ok(())
 }
 
 // How many blocks are open in a claim.
@@ -81,28 +88,30 @@ fn open_count(rig: &Rig, claim: Claim) -> u32 {
     count
 }
 
-// Adds the claims that stand: the first block that is open in each, and how many are.
-fn add_claims(text: &mut String, rig: &Rig) -> Result<()> {
-    for id in 0..rig.next {
-        if let Some(claim) = rig.claims.get(id) {
-            let count = open_count(rig, claim);
-            match rig.claims.first_open(id, &rig.table) {
-                Some(first) => write!(text, " #{id}:{first}+{count}")?,
-                None => write!(text, " #{id}:none")?,
-            }
-        }
+// Adds a claim: the first block that is open in it, and how many are.
+fn add_standing(output: &mut Output, rig: &Rig, claim: Claim) {
+    output.counted(" #", claim.id);
+    output.letter(':');
+    match rig.claims.first_open(claim.id, &rig.table) {
+        Some(first) => add_run(output, first, open_count(rig, claim)),
+        None => output.text("none"),
     }
-    Ok(())
 }
 
-/// What is told after a step: what was answered, how many bytes have landed, each block and each piece where there are at most
-/// 64, and each claim that stands.
-pub fn told_after(answer: String, rig: &Rig) -> Result<String> {
-    let mut text = answer;
-    write!(text, "; {} ", rig.table.completed())?;
-    add_blocks(&mut text, rig)?;
-    add_pieces(&mut text, rig)?;
-    write!(text, "; {}", rig.claims.standing())?;
-    add_claims(&mut text, rig)?;
-    Ok(text)
+fn add_claims(output: &mut Output, rig: &Rig) {
+    for id in 0..rig.next {
+        if let Some(claim) = rig.claims.get(id) {
+            add_standing(output, rig, claim);
+        }
+    }
+}
+
+/// Adds how many bytes have landed, each block and each piece where there are at most 64, and each claim that stands.
+pub fn add_state(output: &mut Output, rig: &Rig) {
+    output.counted("; ", rig.table.completed());
+    output.letter(' ');
+    add_blocks(output, rig);
+    add_pieces(output, rig);
+    output.counted("; ", rig.claims.standing() as u64);
+    add_claims(output, rig);
 }

@@ -14,7 +14,7 @@ use engine_core::Engine;
 use engine_turns::{FetchGrant, Grant, Operation, Said};
 use machine_core::{Call, Journal};
 use option_set::{Options, Settings, read};
-use run_replies::Reply;
+use run_report::Reply;
 use std::alloc::Global;
 use turn_desk::Served;
 use verify_piece::Sealed;

@@ -5,7 +5,7 @@ use dl_kinds::Claim;
 use engine_turns::{FetchGrant, Grant, Said};
 use machine_core::{Call, End, Event, Journal};
 use piece_table::Giver;
-use run_replies::Reply;
+use run_report::Reply;
 use std::alloc::Global;
 
 // Blocks that are to be fetched: of which claim, which run, from where, and how many bytes before more are asked for.

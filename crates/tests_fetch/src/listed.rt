@@ -1,6 +1,6 @@
 // A link to mirrors in memory that lists what is asked of it, and may close its connections.
 ghost use Rattle.std.specs.Prelude.{◌≡◌, ◌≤◌};
-ghost use Rattle.dl_words.specs.Counts.{Rose};
+ghost use Rattle.dl_kinds.specs.Counts.{Rose};
 ghost use Rattle.dl_kinds.specs.declared.outside.IoErr.TheVariants.{Fault};
 ghost use Rattle.link_source.specs.Link.{no_link};
 

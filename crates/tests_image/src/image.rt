@@ -5,7 +5,7 @@ use crate::gated::GatedLinks;
 use dl_clock::MemClock;
 use dl_kinds::{NoMemory, Text};
 use link_source::{MOST_RECEIVED, Manner, MemFile, MemLinks, MemMirror};
-use load_parts::TOTAL;
+use load_setup::TOTAL;
 use std::alloc::{AllocError, Global};
 use std::sync::atomic::AtomicU64;
 

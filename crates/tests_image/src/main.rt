@@ -6,14 +6,14 @@ mod claims;
 mod gated;
 mod image;
 
-use aria_top::{FinishedRun, run};
 use claims::first_claims;
 use dl_clock::MemClock;
 use dl_kinds::NoMemory;
 use door_source::MemDoors;
 use gated::GatedLinks;
 use image::{NUMBER, image_links, image_words};
-use load_parts::{SoundDisk, UnseenSink, count_right, load_digests, load_disk, payload_on};
+use load_setup::{SoundDisk, UnseenSink, count_right, load_digests, load_disk, payload_on};
+use shared_run::{FinishedRun, run_shared};
 use std::alloc::Global;
 use std::io;
 use std::process::ExitCode;
@@ -36,7 +36,7 @@ fn fetched<'a, R: Threads + Wait + Sync>(
     let over = AtomicBool::new(false);
     let mut out = UnseenSink {};
     let doors = Vec::new(alloc);
-    Ok(run(
+    Ok(run_shared(
         threads, alloc, &words, disk, &over, links, doors, 1, &mut out,
     ))
 }

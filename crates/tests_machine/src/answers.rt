@@ -1,10 +1,9 @@
 // What is told of a step, and of the run after it.
 use crate::rig::{Rig, Taken, Work};
-use anyhow::Result;
 use dl_kinds::{Gid, Mark, Run, Status};
-use machine_core::{Applied, End};
+use machine_core::{Applied, End, Machine};
 use rate_tokens::Take;
-use std::alloc::Global;
+use std::alloc::{AllocError, Global};
 
 // What a gid is divided by to get the first of its 16 hexadecimal digits.
 const DIGIT_UNIT: u64 = 1 << 60;
@@ -31,41 +30,53 @@ pub enum Answer {
     Nothing,
 }
 
-fn shown_call(alloc: Global, applied: Applied) -> Result<String> {
-    Ok(match applied {
-        Applied::Moved { position } => format!(in alloc; "at {position}")?,
-        Applied::Refused { refusal } => format!(in alloc; "{refusal:?}")?,
-        _ => String::from_str(alloc, "done")?,
-    })
+fn push_call(text: &mut String, applied: Applied) -> Result<(), AllocError> {
+    match applied {
+        Applied::Moved { position } => write!(text, "at {position}"),
+        Applied::Refused { refusal } => write!(text, "{refusal:?}"),
+        _ => text.push_str("done"),
+    }
 }
 
-fn shown_claim(
-    alloc: Global,
+fn push_called(text: &mut String, applied: Option<Applied>) -> Result<(), AllocError> {
+    match applied {
+        Some(applied) => push_call(text, applied),
+        None => text.push_str("unlawful"),
+    }
+}
+
+fn push_victim(text: &mut String, victim: Option<u64>) -> Result<(), AllocError> {
+    match victim {
+        Some(victim) => write!(text, " of {victim}"),
+        None => Ok(()),
+    }
+}
+
+fn push_claim(
+    text: &mut String,
     id: u64,
     mirror: u16,
     run: Run,
     victim: Option<u64>,
-) -> Result<String> {
-    let Run { first, count } = run;
-    Ok(match victim {
-        Some(victim) => format!(in alloc; "claim {id}: {first}+{count} of {victim} at {mirror}")?,
-        None => format!(in alloc; "claim {id}: {first}+{count} at {mirror}")?,
-    })
+) -> Result<(), AllocError> {
+    write!(text, "claim {id}: {}+{}", run.first, run.count)?;
+    push_victim(text, victim)?;
+    write!(text, " at {mirror}")
 }
 
-fn shown_work(alloc: Global, work: Work) -> Result<String> {
-    Ok(match work {
+fn push_work(text: &mut String, work: Work) -> Result<(), AllocError> {
+    match work {
         Work::Claim {
             id,
             mirror,
             run,
             victim,
-        } => shown_claim(alloc, id, mirror, run, victim)?,
-        Work::Probe { id, mirror } => format!(in alloc; "probe {id} at {mirror}")?,
-        Work::Right { piece } => format!(in alloc; "piece {piece} right")?,
-        Work::Wrong { piece } => format!(in alloc; "piece {piece} wrong")?,
-        Work::Handed { piece } => format!(in alloc; "piece {piece}")?,
-    })
+        } => push_claim(text, id, mirror, run, victim),
+        Work::Probe { id, mirror } => write!(text, "probe {id} at {mirror}"),
+        Work::Right { piece } => write!(text, "piece {piece} right"),
+        Work::Wrong { piece } => write!(text, "piece {piece} wrong"),
+        Work::Handed { piece } => write!(text, "piece {piece}"),
+    }
 }
 
 // The first digit of a gid. It is another one for each of the first downloads of a run.
@@ -73,60 +84,61 @@ fn digit(gid: Gid) -> u64 {
     gid.0 / DIGIT_UNIT
 }
 
-fn shown_taken(alloc: Global, taken: Taken) -> Result<String> {
-    Ok(match taken {
-        Taken::Work { gid, work } => {
-            let work = shown_work(alloc, work)?;
-            format!(in alloc; "{:x} {work}", digit(gid))?
-        }
-        Taken::Held { ms } => format!(in alloc; "held {ms}")?,
-        Taken::Idle => String::from_str(alloc, "idle")?,
-    })
+fn push_gid_work(text: &mut String, gid: Gid, work: Work) -> Result<(), AllocError> {
+    write!(text, "{:x} ", digit(gid))?;
+    push_work(text, work)
 }
 
-fn shown_clash(alloc: Global, end: Option<End>) -> Result<String> {
-    Ok(match end {
-        Some(End::SameHash { gid }) => format!(in alloc; "same hash as {:x}", digit(gid))?,
-        Some(End::SameFile { gid }) => format!(in alloc; "same file as {:x}", digit(gid))?,
-        Some(_) => String::from_str(alloc, "another end")?,
-        None => String::from_str(alloc, "no clash")?,
-    })
-}
-
-fn shown_dead(alloc: Global, mark: Option<Mark>) -> Result<String> {
-    Ok(match mark {
-        Some(Mark { code, .. }) => format!(in alloc; "dead of {}", code.0)?,
-        None => String::from_str(alloc, "alive")?,
-    })
-}
-
-fn shown_take(alloc: Global, take: Option<Take>) -> Result<String> {
-    Ok(match take {
-        Some(Take::Go(bytes)) => format!(in alloc; "go {bytes}")?,
-        Some(Take::Hold(ms)) => format!(in alloc; "hold {ms}")?,
-        None => String::from_str(alloc, "void")?,
-    })
-}
-
-fn shown(alloc: Global, answer: Answer) -> Result<String> {
-    match answer {
-        Answer::Came(came) => Ok(format!(in alloc; "{came}")?),
-        Answer::Landed(count) => Ok(format!(in alloc; "{count}")?),
-        Answer::Called(Some(applied)) => shown_call(alloc, applied),
-        Answer::Called(None) => Ok(String::from_str(alloc, "unlawful")?),
-        Answer::Taken(Some(taken)) => shown_taken(alloc, taken),
-        Answer::Taken(None) => Ok(String::from_str(alloc, "void")?),
-        Answer::Clash(end) => shown_clash(alloc, end),
-        Answer::Dead(mark) => shown_dead(alloc, mark),
-        Answer::Let(take) => shown_take(alloc, take),
-        Answer::NoDownload => Ok(String::from_str(alloc, "no download")?),
-        Answer::Nothing => Ok(String::new(alloc)),
+fn push_taken(text: &mut String, taken: Option<Taken>) -> Result<(), AllocError> {
+    match taken {
+        Some(Taken::Work { gid, work }) => push_gid_work(text, gid, work),
+        Some(Taken::Held { ms }) => write!(text, "held {ms}"),
+        Some(Taken::Idle) => text.push_str("idle"),
+        None => text.push_str("void"),
     }
 }
 
-// The first letter of a status.
-fn letter(status: Option<Status>) -> char {
-    match status {
+fn push_clash(text: &mut String, end: Option<End>) -> Result<(), AllocError> {
+    match end {
+        Some(End::SameHash { gid }) => write!(text, "same hash as {:x}", digit(gid)),
+        Some(End::SameFile { gid }) => write!(text, "same file as {:x}", digit(gid)),
+        Some(_) => text.push_str("another end"),
+        None => text.push_str("no clash"),
+    }
+}
+
+fn push_dead(text: &mut String, mark: Option<Mark>) -> Result<(), AllocError> {
+    match mark {
+        Some(Mark { code, .. }) => write!(text, "dead of {}", code.0),
+        None => text.push_str("alive"),
+    }
+}
+
+fn push_take(text: &mut String, take: Option<Take>) -> Result<(), AllocError> {
+    match take {
+        Some(Take::Go(bytes)) => write!(text, "go {bytes}"),
+        Some(Take::Hold(ms)) => write!(text, "hold {ms}"),
+        None => text.push_str("void"),
+    }
+}
+
+fn push_answer(text: &mut String, answer: Answer) -> Result<(), AllocError> {
+    match answer {
+        Answer::Came(came) => write!(text, "{came}"),
+        Answer::Landed(count) => write!(text, "{count}"),
+        Answer::Called(applied) => push_called(text, applied),
+        Answer::Taken(taken) => push_taken(text, taken),
+        Answer::Clash(end) => push_clash(text, end),
+        Answer::Dead(mark) => push_dead(text, mark),
+        Answer::Let(take) => push_take(text, take),
+        Answer::NoDownload => text.push_str("no download"),
+        Answer::Nothing => Ok(()),
+    }
+}
+
+// The first letter of the status of a download.
+fn letter(machine: &Machine, gid: Gid) -> char {
+    match machine.status(gid) {
         Some(Status::Active) => 'a',
         Some(Status::Waiting) => 'w',
         Some(Status::Paused) => 'p',
@@ -137,27 +149,34 @@ fn letter(status: Option<Status>) -> char {
     }
 }
 
+// How many whole blocks of a download have landed.
+fn blocks(machine: &Machine, gid: Gid) -> u64 {
+    machine.landed_bytes(gid) / 16_384
+}
+
 // Adds a download: its status, how many whole blocks have landed, and a star where a save would list other blocks or pieces.
-fn add_download(text: &mut String, rig: &Rig, gid: Gid) -> Result<()> {
-    let letter = letter(rig.machine().status(gid));
-    let blocks = rig.machine().landed_bytes(gid) / 16_384;
-    let star = if rig.is_unsaved(gid) { "*" } else { "" };
-    write!(text, " {letter}{blocks}{star}")?;
+fn push_download(text: &mut String, rig: &Rig, gid: Gid) -> Result<(), AllocError> {
+    let letter = letter(rig.machine(), gid);
+    let blocks = blocks(rig.machine(), gid);
+    write!(text, " {letter}{blocks}")?;
+    if rig.is_unsaved(gid) {
+        text.push('*')?;
+    }
     Ok(())
 }
 
 // Adds the downloads in the order of their adding.
-fn add_downloads(text: &mut String, rig: &Rig) -> Result<()> {
+fn push_downloads(text: &mut String, rig: &Rig) -> Result<(), AllocError> {
     for place in 0..64 {
-        if let Some((gid, _)) = rig.machine().added(place) {
-            add_download(text, rig, gid)?;
+        if let Some(gid) = rig.added(place) {
+            push_download(text, rig, gid)?;
         }
     }
     Ok(())
 }
 
 // Adds the claims that stand, of all that were granted.
-fn add_claims(text: &mut String, rig: &Rig) -> Result<()> {
+fn push_claims(text: &mut String, rig: &Rig) -> Result<(), AllocError> {
     for id in 0..rig.claims() {
         if rig.machine().stands(id) {
             write!(text, " #{id}")?;
@@ -166,15 +185,22 @@ fn add_claims(text: &mut String, rig: &Rig) -> Result<()> {
     Ok(())
 }
 
-/// What is told after a step: what was answered, how it stands with each download, which claims stand, and whether the run is
-/// finished.
-pub fn told_after(alloc: Global, rig: &Rig, answer: Answer) -> Result<String> {
-    let mut text = shown(alloc, answer)?;
-    text.push(';')?;
-    add_downloads(&mut text, rig)?;
-    add_claims(&mut text, rig)?;
+// Adds how it stands with each download, which claims stand, and whether the run is finished.
+fn push_rig(text: &mut String, rig: &Rig) -> Result<(), AllocError> {
+    push_downloads(text, rig)?;
+    push_claims(text, rig)?;
     if rig.machine().finished() {
         text.push_str(" finished")?;
     }
+    Ok(())
+}
+
+/// What is told after a step: what was answered, how it stands with each download, which claims stand, and whether the run is
+/// finished.
+pub fn told_after(alloc: Global, rig: &Rig, answer: Answer) -> Result<String, AllocError> {
+    let mut text = String::new(alloc);
+    push_answer(&mut text, answer)?;
+    text.push(';')?;
+    push_rig(&mut text, rig)?;
     Ok(text)
 }

@@ -34,7 +34,7 @@ pub struct Rig {
 }
 
 /// What a worker has to do.
-#[derive(Clone, Copy, Debug, PartialEq, Eq)]
+#[derive(Clone, Copy)]
 pub enum Work {
     Claim {
         id: u64,
@@ -61,7 +61,7 @@ pub enum Work {
 }
 
 /// What a worker was given.
-#[derive(Clone, Copy, Debug, PartialEq, Eq)]
+#[derive(Clone, Copy)]
 pub enum Taken {
     Work { gid: Gid, work: Work },
     Held { ms: u64 },
@@ -98,6 +98,14 @@ impl Rig {
 
     pub fn machine(&self) -> &Machine {
         &self.machine
+    }
+
+    /// The download that was added in this place, from 0.
+    pub fn added(&self, place: u32) -> Option<Gid> {
+        match self.machine.added(place) {
+            Some((gid, _)) => Some(gid),
+            None => None,
+        }
     }
 
     /// How many claims were granted. They are numbered from 0.

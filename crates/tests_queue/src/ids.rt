@@ -1,41 +1,54 @@
 // Ids of downloads and fronts of them, as the RPC interface spells them.
-use crate::spelling::spelled_text;
-use anyhow::{Context, Result, bail};
 use dl_kinds::{Gid, GidKey};
 use std::alloc::Global;
+use test_lines::{Output, spelled_text, word};
 
-fn read_gid(alloc: Global, text: &str) -> Result<String> {
-    let Some(gid) = Gid::read(text) else {
-        return Ok(String::from_str(alloc, "none")?);
-    };
-    let digits = gid.text();
-    let shown = str::from_utf8(&digits).ok().context("no digits")?;
-    Ok(format!(in alloc; "= {} {shown}", gid.0)?)
+/// What a line asks of an id.
+#[derive(Clone, Copy)]
+pub enum IdLine {
+    Gid,
+    Key,
+    Names,
 }
 
-fn read_key(alloc: Global, text: &str) -> Result<String> {
+fn add_gid(text: &str, output: &mut Output) {
+    match Gid::read(text) {
+        Some(gid) => {
+            output.counted("= ", gid.0);
+            output.text(" ");
+            output.text(str::from_utf8(&gid.text()).unwrap_or(""));
+        }
+        None => output.text("none"),
+    }
+}
+
+fn add_key(text: &str, output: &mut Output) {
     match GidKey::read(text) {
-        Some(key) => Ok(format!(in alloc; "= {} {}", key.digits, key.value)?),
-        None => Ok(String::from_str(alloc, "none")?),
+        Some(key) => {
+            output.counted("= ", key.digits as u64);
+            output.counted(" ", key.value);
+        }
+        None => output.text("none"),
     }
 }
 
 // Whether the key names the gid, which stands behind a space.
-fn key_names(alloc: Global, words: &str) -> Result<String> {
-    let (key, gid) = words.split_once(' ').context("a gid is wanted")?;
-    let key = GidKey::read(key).context("a key is wanted")?;
-    let gid = Gid::read(gid).context("16 digits are wanted")?;
-    let told = if key.names(gid) { "yes" } else { "no" };
-    Ok(String::from_str(alloc, told)?)
+fn names(text: &str) -> Option<bool> {
+    let key = GidKey::read(word(text, 0))?;
+    let gid = Gid::read(word(text, 1))?;
+    Some(key.names(gid))
 }
 
-/// What is read of an id.
-pub fn id_told(alloc: Global, word: &str, rest: &str) -> Result<String> {
-    let text = spelled_text(alloc, rest)?;
-    match word {
-        "gid" => read_gid(alloc, text.as_str()),
-        "key" => read_key(alloc, text.as_str()),
-        "names" => key_names(alloc, text.as_str()),
-        _ => bail!("no line of a case: {word}"),
+/// Adds what is read of an id.
+pub fn add_id(alloc: Global, kind: IdLine, parts: &str, output: &mut Output) {
+    let text = spelled_text(alloc, parts);
+    match kind {
+        IdLine::Gid => add_gid(text.as_str(), output),
+        IdLine::Key => add_key(text.as_str(), output),
+        IdLine::Names => output.text(match names(text.as_str()) {
+            Some(true) => "yes",
+            Some(false) => "no",
+            None => "none",
+        }),
     }
 }

@@ -1,73 +1,84 @@
 // Words of a command line, and what they mean.
-use crate::options::{other_values, set_values};
-use crate::spelling::spelled_text;
-use anyhow::Result;
+use crate::options::{add_other_values, add_set_values};
 use command_line::{CommandLine, Source, read};
 use dl_kinds::Texts;
-use std::alloc::Global;
+use std::alloc::{AllocError, Global};
+use test_lines::{Output, number, spelled_text};
 
-fn push_words(alloc: Global, words: &mut Vec<String>, count: u16, parts: &str) -> Result<()> {
-    for _ in 0..count {
-        words.push(spelled_text(alloc, parts)?)?;
+// The words that a word of a line stands for: a word behind `#3` comes three times. Told is how often the next one comes.
+fn push_words(
+    alloc: Global,
+    words: &mut Vec<String>,
+    count: u64,
+    parts: &str,
+) -> Result<u64, AllocError> {
+    if let Some(digits) = parts.strip_prefix('#') {
+        return Ok(number(digits));
     }
-    Ok(())
+    for _ in 0..count {
+        words.push(spelled_text(alloc, parts))?;
+    }
+    Ok(1)
 }
 
-// The words of a line: a word behind `#3` comes three times.
-fn words_of(alloc: Global, line: &str) -> Result<Vec<String>> {
-    let mut words = Vec::new(alloc);
-    if line.is_empty() {
-        return Ok(words);
-    }
+fn push_line(alloc: Global, words: &mut Vec<String>, line: &str) -> Result<(), AllocError> {
     let mut count = 1;
     for parts in line.split(' ') {
-        if let Some(number) = parts.strip_prefix('#') {
-            count = number.parse::<u16>()?;
-            continue;
-        }
-        push_words(alloc, &mut words, count, parts)?;
-        count = 1;
-    }
-    Ok(words)
-}
-
-// These texts, with a space in front of each.
-fn push_texts(told: &mut String, texts: &Texts) -> Result<()> {
-    for place in 0..texts.len() {
-        if let Some(text) = texts.get(place) {
-            write!(told, " {}", text.as_str())?;
-        }
+        count = push_words(alloc, words, count, parts)?;
     }
     Ok(())
 }
 
-fn push_source(told: &mut String, source: &Source) -> Result<()> {
-    match source {
-        Source::Metainfo { file, uris } => {
-            write!(told, "metainfo file {}, {} URIs", file.as_str(), uris.len())?;
-            push_texts(told, uris)
+// Adds these texts, with a space in front of each.
+fn add_texts(texts: &Texts, output: &mut Output) {
+    for place in 0..texts.len() {
+        if let Some(text) = texts.get(place) {
+            output.letter(' ');
+            output.text(text.as_str());
         }
-        Source::Mirrors { uris } => {
-            write!(told, "{} URIs", uris.len())?;
-            push_texts(told, uris)
-        }
-        Source::Console => Ok(told.push_str("console")?),
     }
 }
 
-fn shown_line(alloc: Global, line: &CommandLine) -> Result<String> {
-    let mut told = String::new(alloc);
-    push_source(&mut told, &line.source)?;
-    let all = other_values(alloc, &line.globals)?;
-    let own = set_values(alloc, &line.settings)?;
-    write!(told, "; for all:{all}; {} own:{own}", line.settings.len())?;
-    Ok(told)
+fn add_uris(uris: &Texts, output: &mut Output) {
+    output.number(uris.len() as u64);
+    output.text(" URIs");
+    add_texts(uris, output);
 }
 
-/// What the words of a command line mean.
-pub fn meaning(alloc: Global, words: &str) -> Result<String> {
-    match read(alloc, &words_of(alloc, words)?)? {
-        Some(line) => shown_line(alloc, &line),
-        None => Ok(String::from_str(alloc, "none")?),
+fn add_source(source: &Source, output: &mut Output) {
+    match source {
+        Source::Metainfo { file, uris } => {
+            output.text("metainfo file ");
+            output.text(file.as_str());
+            output.text(", ");
+            add_uris(uris, output);
+        }
+        Source::Mirrors { uris } => add_uris(uris, output),
+        Source::Console => output.text("console"),
+    }
+}
+
+fn add_line(alloc: Global, line: &CommandLine, output: &mut Output) {
+    add_source(&line.source, output);
+    output.text("; for all:");
+    add_other_values(alloc, &line.globals, output);
+    output.counted("; ", line.settings.len() as u64);
+    output.text(" own:");
+    add_set_values(alloc, &line.settings, output);
+}
+
+fn add_read(alloc: Global, words: &[String], output: &mut Output) {
+    match read(alloc, words) {
+        Ok(Some(line)) => add_line(alloc, &line, output),
+        Ok(None) => output.text("none"),
+        Err(_) => output.text("out of memory"),
+    }
+}
+
+/// Adds what the words of a command line mean.
+pub fn add_meaning(alloc: Global, line: &str, output: &mut Output) {
+    let mut words = Vec::new(alloc);
+    if line.is_empty() || push_line(alloc, &mut words, line).is_ok() {
+        add_read(alloc, &words, output);
     }
 }

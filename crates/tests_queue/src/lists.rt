@@ -1,85 +1,84 @@
 // What is told of a queue.
-use anyhow::{Result, bail};
-use dl_kinds::Status;
+use dl_kinds::{Gid, Status};
 use dl_queue::{Ending, Queue, QueueErr};
-use std::alloc::Global;
+use test_lines::{Output, name_of};
 
 /// So many downloads of a list are told at most.
 const MANY: usize = 20;
 
-pub fn status_word(status: Status) -> &'static str {
-    match status {
-        Status::Active => "active",
-        Status::Waiting => "waiting",
-        Status::Paused => "paused",
-        Status::Failed => "error",
-        Status::Complete => "complete",
-        Status::Removed => "removed",
-    }
-}
+pub const STATUSES: [(&str, Status); 6] = [
+    ("active", Status::Active),
+    ("waiting", Status::Waiting),
+    ("paused", Status::Paused),
+    ("error", Status::Failed),
+    ("complete", Status::Complete),
+    ("removed", Status::Removed),
+];
 
-/// Why a call is refused.
-pub fn refusal(alloc: Global, refused: QueueErr) -> Result<String> {
-    Ok(match refused {
-        QueueErr::NotFound => String::from_str(alloc, "not found")?,
-        QueueErr::Ambiguous { count } => format!(in alloc; "names {count}")?,
-        QueueErr::WrongStatus(status) => format!(in alloc; "is {}", status_word(status))?,
-        QueueErr::SameGid => String::from_str(alloc, "gid in use")?,
-        QueueErr::Full { count } => format!(in alloc; "{count} were added")?,
-        QueueErr::NoMemory => bail!("out of memory"),
-    })
-}
+const ENDINGS: [(&str, Ending); 3] = [
+    ("=error", Ending::Failed),
+    ("=complete", Ending::Complete),
+    ("=removed", Ending::Removed),
+];
 
-fn push_active(told: &mut String, queue: &Queue) -> Result<()> {
-    write!(told, "active {}:", queue.active_len())?;
-    let mut place: usize = 0;
-    for gid in queue.active() {
-        if place == MANY {
-            return Ok(());
+/// Adds why a call is refused.
+pub fn add_refusal(refused: QueueErr, output: &mut Output) {
+    match refused {
+        QueueErr::NotFound => output.text("not found"),
+        QueueErr::Ambiguous { count } => output.counted("names ", count as u64),
+        QueueErr::WrongStatus(status) => {
+            output.text("is ");
+            output.text(name_of(&STATUSES, &status));
         }
-        place = place.saturating_add(1);
-        write!(told, " {:x}", gid.0)?;
-    }
-    Ok(())
-}
-
-fn push_waiting(told: &mut String, queue: &Queue) -> Result<()> {
-    write!(told, "; waiting {}:", queue.waiting_len())?;
-    let mut place: usize = 0;
-    for download in queue.waiting() {
-        if place == MANY {
-            return Ok(());
+        QueueErr::SameGid => output.text("gid in use"),
+        QueueErr::Full { count } => {
+            output.number(count as u64);
+            output.text(" were added");
         }
-        place = place.saturating_add(1);
-        let mark = if download.paused { "=paused" } else { "" };
-        write!(told, " {:x}{mark}", download.gid.0)?;
+        QueueErr::NoMemory => output.text("out of memory"),
     }
-    Ok(())
 }
 
-fn push_stopped(told: &mut String, queue: &Queue) -> Result<()> {
-    write!(told, "; stopped {}:", queue.stopped_len())?;
-    let mut place: usize = 0;
-    for download in queue.stopped() {
-        if place == MANY {
-            return Ok(());
-        }
-        place = place.saturating_add(1);
-        let ending = match download.ending {
-            Ending::Failed => "error",
-            Ending::Complete => "complete",
-            Ending::Removed => "removed",
-        };
-        write!(told, " {:x}={ending}", download.gid.0)?;
-    }
-    Ok(())
+fn add_entry(gid: Gid, mark: &str, output: &mut Output) {
+    output.letter(' ');
+    output.hex(gid.0);
+    output.text(mark);
 }
 
-/// The lists of a queue.
-pub fn lists(alloc: Global, queue: &Queue) -> Result<String> {
-    let mut told = String::new(alloc);
-    push_active(&mut told, queue)?;
-    push_waiting(&mut told, queue)?;
-    push_stopped(&mut told, queue)?;
-    Ok(told)
+// Begins a list by its name and its length.
+fn begin_list(name: &str, len: usize, output: &mut Output) {
+    output.counted(name, len as u64);
+    output.letter(':');
+}
+
+fn add_active(queue: &Queue, output: &mut Output) {
+    begin_list("active ", queue.active_len(), output);
+    for gid in queue.active().take(MANY) {
+        add_entry(gid, "", output);
+    }
+}
+
+fn add_waiting(queue: &Queue, output: &mut Output) {
+    begin_list("; waiting ", queue.waiting_len(), output);
+    for download in queue.waiting().take(MANY) {
+        add_entry(
+            download.gid,
+            if download.paused { "=paused" } else { "" },
+            output,
+        );
+    }
+}
+
+fn add_stopped(queue: &Queue, output: &mut Output) {
+    begin_list("; stopped ", queue.stopped_len(), output);
+    for download in queue.stopped().take(MANY) {
+        add_entry(download.gid, name_of(&ENDINGS, &download.ending), output);
+    }
+}
+
+/// Adds the lists of a queue.
+pub fn add_lists(queue: &Queue, output: &mut Output) {
+    add_active(queue, output);
+    add_waiting(queue, output);
+    add_stopped(queue, output);
 }

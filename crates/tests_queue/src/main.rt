@@ -10,36 +10,32 @@ mod lines;
 mod lists;
 mod options;
 mod pieces;
-mod spelling;
 mod trial;
 
-use anyhow::{Context, Result};
+use anyhow::Result;
 use std::marker::Sync;
 use std::rt::{Env, Files};
 use std::thread::Threads;
-use std::{env, fs};
-use trial::Trial;
+use test_lines::{Output, print_all, says, texts};
+use trial::Cases;
 
 // Carries the cases of a text out, line by line.
-fn try_cases<R: Print + AllocGlobal + Threads + Sync>(rt: &R, text: &str) -> Result<()> {
-    let mut trial = Trial::new(rt.alloc())?;
+fn try_cases<R: AllocGlobal + Threads + Sync>(rt: &R, text: &str, output: &mut Output) {
+    let mut cases = Cases::new(rt.alloc());
     for line in text.lines() {
-        println!(rt; "{line}")?;
-        let told = trial.told(rt, line).context(format_args!("at {line}"))?;
-        if let Some(told) = told {
-            println!(rt; "  {told}")?;
+        if says(line, output) {
+            cases.step(rt, line, output);
         }
     }
-    Ok(())
 }
 
 // Carries the cases of all files out that the words name.
 fn try_files<R: Env + Files + Print + AllocGlobal + Threads + Sync>(rt: &R) -> Result<()> {
-    for word in env::args(rt)?.skip(1) {
-        let text = fs::read_to_string(rt, word.as_str())?;
-        try_cases(rt, text.as_str())?;
+    let mut output = Output::new(rt.alloc());
+    for text in texts(rt)?.iter() {
+        try_cases(rt, text.as_str(), &mut output);
     }
-    Ok(())
+    print_all(rt, &output)
 }
 
 fn main(rt: HostRuntime) -> Result<()> {

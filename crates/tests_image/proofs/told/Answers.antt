@@ -1,5 +1,5 @@
 use Rattle.std.proofs.Common.{◌∙◌, ap, length}
-use Rattle.load_parts.proofs.Groups.{digests_long}
+use Rattle.load_setup.proofs.Groups.{digests_long}
 use Rattle.tests_image.proofs.told.Goals as goal
 
 pub count_right-requires-after_bounds : goal.count_right-requires-after_bounds
