@@ -13,7 +13,9 @@ from cases import (  # each lists its cases
     connections,
     console,
     faults,
+    lasting,
     layouts,
+    loads,
     many,
     metainfos,
     moves,
@@ -31,10 +33,12 @@ from cases import (  # each lists its cases
 )
 from lib.mirrors import free_port
 from lib.rooms import CASES, PROGRAM, Room
-from lib.wants import Skipped, Wrong
+from lib.wants import Late, Skipped, Wrong
 
 
 MEMORY = "/dev/shm"
+# How often a case that took too long is tried again, with no other beside it.
+TRIES_ALONE = 3
 
 
 def has_ipv6():
@@ -78,6 +82,8 @@ def attempt(function, needs, alone, gone, where):
         function(Room(folder, alone))
     except Skipped as why:
         return "skipped", str(why)
+    except (Late, subprocess.TimeoutExpired) as why:
+        return "late", str(why)
     except Wrong as why:
         return "FAILED", str(why)
     except Exception as why:  # a case that breaks is a failed one, and the others go on
@@ -85,6 +91,23 @@ def attempt(function, needs, alone, gone, where):
     finally:
         shutil.rmtree(folder, ignore_errors=True)
     return "passed", ""
+
+
+def told(name, ended, why):
+    print(f"{ended}: {name}{': ' if why else ''}{why}", flush=True)
+
+
+def tried_alone(late, tried):
+    """What became of the cases that took too long while others ran, each by itself now."""
+    for it in late:
+        for _ in range(TRIES_ALONE):
+            ended, why = tried(it)
+            if ended != "late":
+                break
+        else:
+            ended = "FAILED"
+        told(it[0], ended, why)
+        yield ended
 
 
 def main():
@@ -100,18 +123,26 @@ def main():
     chosen = [it for it in CASES if not sys.argv[2:] or any(part in it[0] for part in sys.argv[2:])]
     counts = {"passed": 0, "skipped": 0, "FAILED": 0}
     gone = lacking()
+    late = []
+
+    def tried(it):
+        _, needs, _, alone, function = it
+        return attempt(function, needs, alone, gone, None if "disk" in needs else memory())
+
     # the slow ones wait rather than work
     with concurrent.futures.ThreadPoolExecutor(max_workers=8) as pool:
         with concurrent.futures.ThreadPoolExecutor(max_workers=12) as waiting:
-            running = {}
-            for it in chosen:
-                _, needs, slow, alone, function = it
-                where = None if "disk" in needs else memory()
-                running[it] = (waiting if slow else pool).submit(attempt, function, needs, alone, gone, where)
+            running = {it: (waiting if it[2] else pool).submit(tried, it) for it in chosen}
             for it in chosen:
                 ended, why = running[it].result()
-                counts[ended] += 1
-                print(f"{ended}: {it[0]}{': ' if why else ''}{why}", flush=True)
+                if ended == "late":
+                    late.append(it)
+                    why = f"{why}; it is tried again alone"
+                else:
+                    counts[ended] += 1
+                told(it[0], ended, why)
+    for ended in tried_alone(late, tried):
+        counts[ended] += 1
     if counts["skipped"]:
         print(f"skipped, as told above: {counts['skipped']}")
     print(f"{counts['passed']} passed, {counts['FAILED']} failed")

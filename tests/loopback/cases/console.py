@@ -1,8 +1,10 @@
 """The cases of a console: front ends, clients that steer a run while it fetches, and clients that break the rules."""
 import base64
+import contextlib
 import json
 import os
 import re
+import socket
 import threading
 import time
 
@@ -22,9 +24,9 @@ from lib.consoles import (
 from lib.killing import Slow
 from lib.mirrors import Site
 from lib.payloads import LONG, MIB
-from lib.rooms import HEADER, case
+from lib.rooms import HEADER, LIMIT, case
 from lib.torrents import bencoded
-from lib.wants import about, want
+from lib.wants import about, want, want_within
 
 # What front ends ask for of each download.
 KEYS = [
@@ -243,7 +245,7 @@ def _(room):
                 time.sleep(0.1)
             begun = time.monotonic()
             want(console.call("aria2.shutdown") == "OK", "it wasn't shut down")
-        want(time.monotonic() - begun < 10, "it took long")
+        want_within(time.monotonic() - begun, 10, "the end")
         other.close()
         status, wrote = ended
         line = paths(wrote)["a.bin"]
@@ -265,7 +267,7 @@ def _(room):
             idle.status(gid)
             begun = time.monotonic()
             want(console.call("aria2.shutdown") == "OK", "it wasn't shut down")
-        want(time.monotonic() - begun < 5, "it took long")
+        want_within(time.monotonic() - begun, 5, "the end")
         idle.close()
         status, wrote = ended
         want(status == 7 and paths(wrote)["a"][1] == "INPR", f"status {status}, {wrote!r}")
@@ -337,3 +339,69 @@ def _(room):
         want("rpc-secret" not in console.call("aria2.getGlobalOption"), "the secret is told")
         console.call("aria2.shutdown")
     want(ended == [0, HEADER], f"{ended}")
+
+
+@case("a console listens at 127.0.0.1 alone", slow=True)
+def _(room):
+    with steered(room) as (console, _):
+        want(console.call("aria2.getVersion")["version"], "it has no version")
+        # all of 127.0.0.0/8 leads to this machine
+        with socket.socket() as other:
+            other.settimeout(5)
+            want(other.connect_ex(("127.0.0.2", console.port)) != 0, "a client was let in at another address")
+        want(console.call("aria2.shutdown") == "OK", "it wasn't shut down")
+
+
+@case("a console whose port is taken lets nobody in, and the download comes")
+def _(room):
+    with Site({"/a.bin": LONG}) as site, socket.socket() as taken:
+        taken.bind(("127.0.0.1", 0))
+        taken.listen()
+        port = taken.getsockname()[1]
+        room.torrent(site.url(), LONG, piece_length=MIB // 4)
+        started = room.start("--enable-rpc", f"--rpc-listen-port={port}", "t.torrent")
+        wrote, said = started.communicate(timeout=LIMIT)
+        want(started.returncode == 0, f"it ended with {started.returncode}, and wrote {wrote!r}")
+        want(said.startswith(b"aria_cli: can't listen at port %d of 127.0.0.1: " % port), f"it said {said!r}")
+        room.has(LONG)
+
+
+def dripping(port, stop):
+    """Sends a request's head, a byte a second."""
+    with socket.create_connection(("127.0.0.1", port)) as client, contextlib.suppress(OSError):
+        for byte in posted(CALL):
+            client.sendall(bytes([byte]))
+            if stop.wait(1):
+                return
+
+
+def never_reading(port, stop):
+    """Asks for many long answers at once, and reads none."""
+    long = multicall([("system.listMethods",)] * 400)
+    with socket.create_connection(("127.0.0.1", port)) as client, contextlib.suppress(OSError):
+        client.settimeout(1)
+        client.sendall(200 * posted(long))
+        stop.wait()
+
+
+@case("a shutdown ends the run within two seconds, whatever peers do", slow=True)
+def _(room):
+    for name, behave in (("a slow mirror alone", None), ("a client that drips", dripping), ("one that never reads", never_reading)):
+        with about(name), Slow({"/a.bin": LONG}, 10_000) as site:
+            room.clear("a.bin")
+            stop = threading.Event()
+            with steered(room, "--split=4", "--max-connection-per-server=4", "--min-split-size=1M") as (console, ended):
+                gid = console.call("aria2.addUri", [site.url().decode()])
+                console.until(gid, {"status": "active"})
+                peer = threading.Thread(target=behave, args=(console.port, stop)) if behave else None
+                if peer:
+                    peer.start()
+                time.sleep(2)
+                begun = time.monotonic()
+                want(console.call("aria2.shutdown") == "OK", "it wasn't shut down")
+            seconds = time.monotonic() - begun
+            stop.set()
+            if peer:
+                peer.join()
+            want(ended[0] == 7, f"it ended with {ended}")
+            want_within(seconds, 2, "the end")

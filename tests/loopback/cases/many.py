@@ -12,7 +12,7 @@ from lib.mirrors import Ending, Site, free_port, head
 from lib.payloads import LONG, MIB
 from lib.recording import asked_by
 from lib.rooms import PLAIN, case
-from lib.wants import about, want
+from lib.wants import about, want, want_within
 
 # Claims of a mebibyte, and as many connections to a host as there are.
 PARTS = ("--min-split-size=1M", "--max-connection-per-server=16")
@@ -187,7 +187,7 @@ def _(room):
         seconds = time.monotonic() - begun
         want(status == 0, f"it ended with {status}, and wrote {wrote!r}")
         # its last block can't be stolen: it is asked for elsewhere once the silence counts as a loss
-        want(seconds < 75, f"it took {seconds:.1f} seconds")
+        want_within(seconds, 75)
         last = max(asked_by(it)[2] for it in first.requests)
         stolen = [it for it in map(asked_by, second.requests) if it[1] <= last]
         want(len(stolen) > 2, f"of the silent mirror's claim only {stolen} was asked for elsewhere")
@@ -202,4 +202,5 @@ def _(room):
         begun = time.monotonic()
         room.fetches(payload, words=["--max-download-limit=200K", "--split=4", *PARTS, *PLAIN[-1:]])
         seconds = time.monotonic() - begun
-        want(9.9 < seconds < 12.2, f"it took {seconds:.2f} seconds")
+        want(seconds > 9.9, f"it took only {seconds:.2f} seconds")
+        want_within(seconds, 12.2)

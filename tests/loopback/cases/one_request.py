@@ -24,7 +24,7 @@ from lib.mirrors import (
 from lib.payloads import MIB
 from lib.rooms import BUILT, LITTLE, PROGRAM, TOP, case, request, want_asked
 from lib.torrents import MOST_PIECE
-from lib.wants import Skipped, about, want
+from lib.wants import Skipped, about, want, want_within
 
 # Runs under these limits of 48 MiB of memory, and of one kilobyte a file at most.
 TOO_LITTLE = "ulimit -v 49152"
@@ -346,7 +346,8 @@ def gives_up(room, url):
     begun = time.monotonic()
     room.fails(6, limit=100)
     took = time.monotonic() - begun
-    want(55 < took < 90, f"it waited {took:.0f} seconds")
+    want(took > 55, f"it waited only {took:.0f} seconds")
+    want_within(took, 90, "its patience")
 
 
 @case("a mirror that is silent", slow=True)

@@ -5,7 +5,7 @@ import time
 from lib.mirrors import Site
 from lib.payloads import MIB, want_all_asked
 from lib.rooms import PLAIN, case
-from lib.wants import about, want
+from lib.wants import about, want, want_within
 
 KIB = 1_024
 
@@ -35,7 +35,8 @@ for _words, _rate in (
             room.torrent(site.url(target="/"), payload, piece_length=MIB)
             seconds = took(room, payload, *words, site=site)
             want_all_asked(site, payload, MIB)
-        want(9.9 < seconds < 12.2, f"it took {seconds:.2f} seconds")
+        want(seconds > 9.9, f"it took only {seconds:.2f} seconds")
+        want_within(seconds, 12.2)
 
 
 @case("a limit that is far away costs no time")
@@ -47,7 +48,7 @@ def _(room):
         for words in ([], ["--max-download-limit=0"], far):
             with about(f"{words}"):
                 seconds = took(room, payload, *words, site=site)
-                want(seconds < 8, f"it took {seconds:.2f} seconds")
+                want_within(seconds, 8)
 
 
 @case("a limit below a block a second", slow=True)
@@ -57,4 +58,5 @@ def _(room):
     with Site({"/a": payload}) as site:
         room.torrent(site.url(target="/"), payload)
         seconds = took(room, payload, "--max-download-limit=1K", site=site)
-        want(8 < seconds < 10, f"it took {seconds:.2f} seconds")
+        want(seconds > 8, f"it took only {seconds:.2f} seconds")
+        want_within(seconds, 10)

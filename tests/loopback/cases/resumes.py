@@ -16,7 +16,7 @@ from lib.rooms import BY_MIB, LIMIT, ONCE, PLAIN, case
 from lib.sevens import ALL, HASH, SEVEN, refused
 from lib.sevens import PIECE as PAIR
 from lib.torrents import whole
-from lib.wants import about, want
+from lib.wants import about, want, want_within
 
 SAVING = ("--auto-save-interval=1",)
 
@@ -79,7 +79,8 @@ def _(room):
                 words = [f"--auto-save-interval={seconds}", *PLAIN]
                 passed = killed(room, *words, when=lambda: listed_of(room, payload))
                 # the disk may be slow
-                want(seconds <= passed < seconds + 10, f"it was first saved after {passed:.2f} seconds")
+                want(passed >= seconds, f"it was first saved after {passed:.2f} seconds")
+                want_within(passed, seconds + 10, "the first save")
         for words in (["--auto-save-interval=0", *PLAIN], PLAIN):
             room.clear()
             with about(f"{words}"):

@@ -5,6 +5,9 @@ from typing import NamedTuple
 from lib.wants import want
 
 BLOCK = 16_384
+# What a control file's name ends with, beside its payload, and that of the file which is to be put in its place.
+SUFFIX = ".aria2"
+TEMPORARY = ".aria2__temp"
 
 
 class Control(NamedTuple):

@@ -1,6 +1,7 @@
 """Mirrors on loopback: two that record what they are asked, nginx, and Python's http.server."""
 import contextlib
 import os
+import random
 import re
 import socket
 import struct
@@ -10,6 +11,9 @@ import threading
 import time
 
 PATIENCE = 100
+
+# The ports that cases were given.
+GIVEN, GIVING = set(), threading.Lock()
 
 # The fields of a right reply with `hello`.
 RANGE, LENGTH = b"Content-Range: bytes 0-4/5", b"Content-Length: 5"
@@ -214,17 +218,21 @@ def says_nothing(connection):
 
 
 def free_port(*hosts):
-    """A port that nobody listens on at these addresses."""
-    for _ in range(100):
-        with contextlib.ExitStack() as stack:
-            port = 0
-            try:
-                for host in hosts:
-                    it = stack.enter_context(socket.socket(socket.AF_INET6 if ":" in host else socket.AF_INET))
-                    it.bind((host, port))
-                    port = it.getsockname()[1]
-            except OSError:
+    """A port that nobody listens on at these addresses. None is given twice, nor one of those that the system gives to connections: before
+    the program listens there, another case's could get it.
+    """
+    with open("/proc/sys/net/ipv4/ip_local_port_range", encoding="utf-8") as file:
+        end = int(file.read().split()[0])
+    for _ in range(1000):
+        port = random.randrange(10_000, end if end > 20_000 else 60_000)
+        with GIVING:
+            if port in GIVEN:
                 continue
+            GIVEN.add(port)
+        with contextlib.suppress(OSError), contextlib.ExitStack() as stack:
+            for host in hosts:
+                it = stack.enter_context(socket.socket(socket.AF_INET6 if ":" in host else socket.AF_INET))
+                it.bind((host, port))
             return port
     raise OSError("no free port")
 

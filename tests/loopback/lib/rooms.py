@@ -9,7 +9,7 @@ import sys
 
 from lib import controls
 from lib.torrents import bencoded, info_of, whole, written
-from lib.wants import Skipped, Wrong, want
+from lib.wants import Late, Skipped, Wrong, want
 
 TOP = os.path.realpath(f"{os.path.dirname(__file__)}/../../..")
 BUILT = f"{TOP}/crates/aria_cli/out/aria_cli"
@@ -128,7 +128,7 @@ class Room:
 
     def clear(self, name="a"):
         """Nothing stands of the download of this name."""
-        for it in (name, f"{name}.aria2", f"{name}.aria2__temp"):
+        for it in (name, f"{name}{controls.SUFFIX}", f"{name}{controls.TEMPORARY}"):
             path = self.path(it)
             if os.path.isdir(path):
                 shutil.rmtree(path)
@@ -184,13 +184,13 @@ class Room:
                 meanwhile(started)
             wrote, said = started.communicate(timeout=limit)
         except subprocess.TimeoutExpired:
-            raise Wrong(f"the program had not ended after {limit} seconds") from None
+            raise Late(f"the program had not ended after {limit} seconds") from None
         finally:
             if started.poll() is None:
                 started.kill()
                 started.communicate()
         want(said == b"", f"it wrote to standard error: {said[:200]!r}")
-        own = {f"{name}.aria2", f"{name}.aria2__temp"}
+        own = {f"{name}{controls.SUFFIX}", f"{name}{controls.TEMPORARY}"}
         right = stood if leaves is None else stood - own | ({f"{name}.aria2"} if leaves else set())
         stands = self.control_files()
         want(stands == right, f"status {started.returncode}, and the control files {stands} stand, not {right}")

@@ -6,6 +6,10 @@ class Wrong(Exception):
     """What a case wants isn't so."""
 
 
+class Late(Wrong):
+    """What a case wants came, but took too long. On a busy machine that says little, so it is tried again alone."""
+
+
 class Skipped(Exception):
     """A case can't be tried here."""
 
@@ -15,10 +19,16 @@ def want(holds, text):
         raise Wrong(text)
 
 
+def want_within(seconds, most, text="it"):
+    """What took so many seconds is to take less than `most`."""
+    if seconds >= most:
+        raise Late(f"{text} took {seconds:.2f} seconds, where less than {most} are wanted")
+
+
 @contextlib.contextmanager
 def about(name):
     """Says which of several things a case found wrong."""
     try:
         yield
     except Wrong as why:
-        raise Wrong(f"{name}: {why}") from None
+        raise type(why)(f"{name}: {why}") from None

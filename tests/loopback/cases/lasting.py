@@ -1,0 +1,134 @@
+"""The cases of what has to last: in which order it is written out, and that a short read or write isn't taken for whole."""
+import os
+from contextlib import contextmanager
+
+from cases.faults import STARTS, ended
+from lib.controls import SUFFIX, TEMPORARY
+from lib.faults import Faults
+from lib.mirrors import Site
+from lib.payloads import SMALL, served
+from lib.rooms import PLAIN, case
+from lib.wants import Wrong, about, want
+
+# Progress is saved at each chance.
+SAVING = ("--auto-save-interval=1", *PLAIN)
+
+
+class Written:
+    """What was written and isn't written out yet: bytes of files, and entries of folders."""
+
+    def __init__(self):
+        self.files = set()
+        self.folders = set()
+
+    def take(self, call):
+        """Follows a call, and says what is wrong with it."""
+        folder = os.path.dirname(call.path)
+        if call.does in ("write", "cut"):
+            want(not call.path.endswith(SUFFIX), f"{call.path} was written, and not put in place whole")
+            self.files.add(call.path)
+        elif call.does == "sync":
+            self.files.discard(call.path)
+            self.folders.discard(call.path)
+        elif call.does in ("create", "make folder"):
+            # the entry of a file that is put in place later need not last
+            if not call.path.endswith(TEMPORARY):
+                self.folders.add(folder)
+        elif call.does == "rename":
+            self.none_left(f"{call.other} was put in place")
+            self.folders.add(os.path.dirname(call.other))
+        elif call.does == "remove":
+            if call.path.endswith(SUFFIX):
+                self.none_left(f"{call.path} was removed")
+            self.folders.add(folder)
+
+    def none_left(self, when):
+        want(not self.files, f"{when} before {sorted(self.files)} were written out")
+        want(not self.folders, f"{when} before the entries of {sorted(self.folders)} were written out")
+
+
+def want_lasting(calls):
+    """Each call tells progress only once what it tells of lasts, and in the end all lasts."""
+    written = Written()
+    for call in calls:
+        written.take(call)
+    written.none_left("the run ended")
+
+
+def want_noticed(what, check):
+    """An edge that does this wrong is noticed."""
+    try:
+        check()
+    except Wrong:
+        return
+    raise Wrong(f"it isn't noticed where {what}")
+
+
+@contextmanager
+def served_start(room, start):
+    """A payload that is served, whose metainfo file stands, with what makes what stands before a run."""
+    name, payload, piece_length, begin = start
+    with about(name), Site(served(payload)) as site:
+        room.torrent(site.url(target="/"), payload, b"a", piece_length)
+        yield payload, begin
+
+
+@case("files and folders are written out before progress is told", "cc")
+def _(room):
+    faults = Faults(room.folder)
+    for start in STARTS:
+        with served_start(room, start) as (_, begin):
+
+            def noted(**told):
+                begin(room)
+                status, _ = ended(room, SAVING, faults.noting(**told))
+                want(status == 0, f"it ended with {status}")
+                return faults.notes()
+
+            calls = noted()
+            want_lasting(calls)
+            told = {it.does for it in calls}
+            want({"create", "cut", "sync"} <= told, f"just {sorted(told)} were seen")
+            # the same run with an edge that is wrong
+            want_noticed("files aren't written out", lambda: want_lasting(noted(FAULT_DROPS="sync-file")))
+            want_noticed("folders aren't written out", lambda: want_lasting(noted(FAULT_DROPS="sync-folder")))
+            if "rename" in told:
+                want_noticed("a control file is copied", lambda: want_lasting(noted(FAULT_DROPS="rename")))
+
+
+@case("reads and writes move fewer bytes than they are asked to", "cc")
+def _(room):
+    faults = Faults(room.folder)
+    for start in STARTS:
+        with served_start(room, start) as (payload, begin):
+
+            def calls(**told):
+                begin(room)
+                room.fetches(payload, anew=False, words=PLAIN, shell=faults.shell(**told))
+                return faults.counts()[0]
+
+            whole, short = calls(), calls(FAULT_SHORT=1)
+            want(short > whole, f"{short} calls moved half of what {whole} do")
+
+
+@case("a file that can't be looked at isn't taken for missing", "cc")
+def _(room):
+    faults = Faults(room.folder)
+    # the payload's file, its control file and the metainfo file stand
+    with served_start(room, STARTS[-1]) as (_, begin):
+        begin(room)
+        status, _ = ended(room, PLAIN, faults.noting())
+        want(status == 0, f"it ended with {status}")
+        seen = [it for it in faults.notes() if it.does == "look"]
+        standing = {os.path.basename(it.path) for it in seen}
+        want({"t.torrent", "a", f"a{SUFFIX}"} <= standing, f"only {sorted(standing)} were looked at")
+        for call in seen:
+            with about(f"{os.path.basename(call.path)}, call {call.number}"):
+
+                def fails(**told):
+                    begin(room)
+                    status, _ = ended(room, PLAIN, faults.shell(FAULT_AT=call.number, FAULT_DOES="fails", **told))
+                    want(status == 17, f"it ended with {status}")
+
+                fails()
+                want_noticed("it is taken for missing", lambda: fails(FAULT_DROPS="look"))
