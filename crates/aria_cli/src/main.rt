@@ -1,14 +1,22 @@
 //! The downloader over real files, TCP and standard output.
 #![tactic(auto)]
 
-ghost use Rattle.std.specs.Prelude.{◌≡◌, ◌≤◌, IfOk, length};
-ghost use Rattle.aria_top.specs.declared.limits.TheConstants.{CONSOLE_DOORS, MAX_LINKS};
+ghost use Rattle.std.specs.Prelude.{◌≡◌, ◌≤◌, IfOk, length, map, string_bytes};
+ghost use Rattle.aria_cli.specs.Exits.{ExitsByRun};
+ghost use Rattle.aria_top.specs.declared.limits.TheConstants.{CONSOLE_DOORS};
+ghost use Rattle.shared_run.specs.declared.limits.TheConstants.{MAX_DOORS, MAX_LINKS};
 
 use aria_top::{CONSOLE_DOORS, FinishedRun, Needs, needs_of, run};
+use dl_clock::{Clock, MemClock};
+use dl_disk::Disk;
+use dl_kinds::{ExitStatus, Sink};
+use door_source::{Doors, MemDoors};
+use link_source::Links;
+use load_setup::{SoundDisk, SoundLinks, UnseenSink};
 use real_edge::{FileDisk, StdClock, StdOut, TcpDoors, TcpLinks, listen_on};
 use run_readout::{Progress, Terminal, WatchedDisk, WatchedLinks, WatchedSink};
-use self_load::{load_of, run_load};
-use std::io::{ErrorKind, IsTerminal, Stderr};
+use std::alloc::Global;
+use std::io::{ErrorKind, IsTerminal, Stderr, Stdout};
 use std::net::{Ipv4Addr, SocketAddr, SocketAddrV4, TcpListener};
 use std::process::ExitCode;
 use std::random::RandomSource;
@@ -18,17 +26,15 @@ use std::sync::atomic::AtomicBool;
 use std::thread::Threads;
 use std::{env, io};
 
-// The status where the run can't begin, for want of memory or of a random number.
-const NOT_BEGUN: u8 = 40;
-
-// The status where the console can't listen at its port.
-const NO_PORT: u8 = 1;
-
 type RealClock<'a> = StdClock<'a, HostRuntime>;
 
 type Link<'a> = WatchedLinks<'a, TcpLinks<'a, HostRuntime>, RealClock<'a>, Stderr>;
 
 type Door<'a> = TcpDoors<'a, HostRuntime>;
+
+type RealDisk<'a> = WatchedDisk<'a, FileDisk<'a, HostRuntime>>;
+
+type Output<'a> = WatchedSink<'a, StdOut<Stdout>, Stderr>;
 
 // What the run shares with its edges: how far it has come, and whether it is over.
 #[derive(Drop)]
@@ -42,35 +48,59 @@ fn main(rt: HostRuntime) -> ExitCode {
         progress: Progress::new(),
         over: AtomicBool::new(false),
     };
-    ExitCode::from(download(&rt, &rt, &shared).unwrap_or(NOT_BEGUN))
+    ExitCode::from(program(&rt, &rt, &shared).unwrap_or(ExitStatus::NoMemory.code()))
 }
 
-fn download<R: Threads + Wait + Sync>(
+fn program<R: Threads + Wait + Sync>(
     threads: &R,
     rt: &HostRuntime,
     shared: &Shared,
 ) -> io::Result<u8> {
     let words = words(rt)?;
-    if let Some(n) = load_of(&words) {
-        let mut out = StdOut::new(rt.stdout());
-        let loaded = run_load(threads, rt.alloc(), n, &mut out);
-        return Ok(loaded.ending.code());
-    }
     // Words without a meaning need one link, which isn't used.
     let needs = needs_of(rt.alloc(), &words)?.unwrap_or(Needs {
         links: 1,
         doors: 0,
         port: 0,
     });
-    match listener(rt, needs) {
-        Ok(Some(listener)) => run_at(threads, rt, shared, &words, needs, Some(&listener)),
-        Ok(None) => run_at(threads, rt, shared, &words, needs, None),
-        Err(error) => {
-            let port = needs.port;
-            eprintln!(rt; "aria_cli: can't listen at port {port} of 127.0.0.1: {error}")?;
-            Ok(NO_PORT)
-        }
-    }
+    let listener = listener(rt, needs)?;
+    run_at(threads, rt, shared, &words, needs, listener.as_ref())
+}
+
+/// The exit status of the run of these words: the code of its ending.
+fn exit_status<
+    R: Threads + Wait + Sync,
+    D: Disk + Send + Drop,
+    L: Links + Send + Drop,
+    A: Doors + Send + Drop,
+    K: Clock + Send + Drop,
+    O: Sink,
+>(
+    rt: &R,
+    alloc: Global,
+    words: &[String],
+    disk: D,
+    over: &AtomicBool,
+    links: Vec<(L, K)>,
+    doors: Vec<(A, K)>,
+    gids: u64,
+    out: &mut O,
+) -> u8
+    requires links { (1 ≤ length links.items) × (length links.items ≤ MAX_LINKS) }
+    requires doors { length doors.items ≤ MAX_DOORS }
+    ensures { ExitsByRun ⟦<SoundDisk as Disk>⟧ ⟦<SoundLinks as Links>⟧ ⟦<MemClock as Clock>⟧
+        ⟦<MemDoors as Doors>⟧ ⟦<UnseenSink as Sink>⟧ D.Disk L.Links K.Clock A.Doors O.Sink
+        (map string_bytes words.now) result }
+{
+    let FinishedRun {
+        ending,
+        disk: _disk,
+        links: _links,
+        doors: _doors,
+        transcripts: _transcripts,
+        journal: _journal,
+    } = run(rt, alloc, words, disk, over, links, doors, gids, out);
+    ending.code()
 }
 
 fn run_at<'a, R: Threads + Wait + Sync>(
@@ -82,6 +112,10 @@ fn run_at<'a, R: Threads + Wait + Sync>(
     listener: Option<&'a TcpListener>,
 ) -> io::Result<u8>
     requires { (1 ≤ needs.links) × (needs.links ≤ MAX_LINKS) }
+    ensures { IfOk result (ExitsByRun ⟦<SoundDisk as Disk>⟧ ⟦<SoundLinks as Links>⟧
+        ⟦<MemClock as Clock>⟧ ⟦<MemDoors as Doors>⟧ ⟦<UnseenSink as Sink>⟧ ⟦<RealDisk<'a> as Disk>⟧
+        ⟦<Link<'a> as Links>⟧ ⟦<RealClock<'a> as Clock>⟧ ⟦<Door<'a> as Doors>⟧ ⟦<Output<'a> as Sink>⟧
+        (map string_bytes words.now)) }
 {
     let alloc = rt.alloc();
     let Shared { progress, over } = shared;
@@ -90,26 +124,27 @@ fn run_at<'a, R: Threads + Wait + Sync>(
     let gids = random_number(rt)?;
     let mut out = WatchedSink::new(StdOut::new(rt.stdout()), progress, rt.stderr());
     let disk = WatchedDisk::new(alloc, FileDisk::new(rt), progress);
-    let FinishedRun {
-        ending,
-        disk: _disk,
-        links: _links,
-        doors: _doors,
-        transcripts: _transcripts,
-        journal: _journal,
-    } = run(
+    Ok(exit_status(
         threads, alloc, words, disk, over, links, doors, gids, &mut out,
-    );
-    Ok(ending.code())
+    ))
 }
 
-// One listener for all doors, where the console is on.
+// One listener for all doors, where the console is on. Where it can't be had, nobody is let in.
 fn listener(rt: &HostRuntime, needs: Needs) -> io::Result<Option<TcpListener>> {
     if needs.doors == 0 {
         return Ok(None);
     }
-    let address = SocketAddr::V4(SocketAddrV4::new(Ipv4Addr::LOCALHOST, needs.port));
-    Ok(Some(listen_on(rt, address)?))
+    let port = needs.port;
+    match listen_on(
+        rt,
+        SocketAddr::V4(SocketAddrV4::new(Ipv4Addr::LOCALHOST, port)),
+    ) {
+        Ok(listener) => Ok(Some(listener)),
+        Err(error) => {
+            eprintln!(rt; "aria_cli: can't listen at port {port} of 127.0.0.1: {error}")?;
+            Ok(None)
+        }
+    }
 }
 
 fn doors<'a>(

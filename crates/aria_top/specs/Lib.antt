@@ -1,6 +1,7 @@
-pub mod Participants
-pub mod Together
-pub mod RunsTogether
-pub mod LinksLeft
-pub mod DoorsCauses
+pub mod Alone
+pub mod Began
+pub mod Loads
 pub mod Needs
+pub mod OneRun
+pub mod Promises
+pub mod Went

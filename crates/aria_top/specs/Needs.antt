@@ -1,11 +1,13 @@
--- What a run of a command line needs of the outside.
+-- What a run needs of the outside.
 use Rattle.std.specs.Prelude.{◌≡◌, ◌≤◌, ◌*◌, ℕ, List, min, if◌then◌else◌}
-use Rattle.command_line.specs.Lines.{IsLine}
-use Rattle.command_line.specs.declared.line.CommandLine.{CommandLine}
+use Rattle.command_meanings.specs.Meanings.{HaveMeaning}
+use Rattle.command_meanings.specs.declared.meanings.Meaning.{Meaning}
+use Rattle.command_meanings.specs.declared.meanings.Meaning.TheVariants.{Download, Load}
 use Rattle.option_set.specs.Values.{OptionValues, number_value}
 use Rattle.option_set.specs.declared.kinds.Num.TheVariants.{MaxConcurrentDownloads, RpcListenPort, Split}
-use Rattle.run_frame.specs.Consoles.{is_console_on}
-use Rattle.aria_top.specs.declared.limits.TheConstants.{CONSOLE_DOORS, MAX_LINKS}
+use Rattle.run_lifecycle.specs.Consoles.{is_console_on}
+use Rattle.shared_run.specs.declared.limits.TheConstants.{MAX_LINKS}
+use Rattle.aria_top.specs.declared.limits.TheConstants.{CONSOLE_DOORS}
 use Rattle.aria_top.specs.declared.needs.Needs.{Needs}
 
 -- as many as may work for one download; with a console, for all that may be active
@@ -21,12 +23,19 @@ doors_by values = if is_console_on values then CONSOLE_DOORS else 0
 abbrev pub port_by : OptionValues → ℕ
 port_by values = number_value values RpcListenPort
 
--- the words mean a line, whose values say this
+-- a load has links of its own in memory
+abbrev pub needs_by : Meaning → Needs
+needs_by (Download line) = record {
+  links = links_by line.globals;
+  doors = doors_by line.globals;
+  port = port_by line.globals;
+}
+needs_by (Load n) = record { links = 1; doors = 0; port = 0 }
+
+-- the words mean something that needs this
 pub record AreNeeds (words : List (List ℕ)) (needs : Needs) : Type 0 where
-  pub line : CommandLine
-  pub means : IsLine words line
-  pub links : needs.links ≡ links_by line.globals
-  pub doors : needs.doors ≡ doors_by line.globals
-  pub port : needs.port ≡ port_by line.globals
+  pub meaning : Meaning
+  pub means : HaveMeaning words meaning
+  pub is : needs ≡ needs_by meaning
   pub some : 1 ≤ needs.links
   pub few : needs.links ≤ MAX_LINKS

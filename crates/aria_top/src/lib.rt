@@ -1,16 +1,15 @@
-//! A run over all of its links at once, and with a console, from the words of its command line to its summary.
+//! A run of the program, from the words of its command line to its exit status: of downloads over one link or over many, with a
+//! console or without, or a load that checks itself.
 #![tactic(auto)]
 
-mod finished;
+mod arms;
+mod laws;
 mod limits;
 mod needs;
 mod running;
-mod stop;
-mod taking_part;
-mod together;
-mod work;
 
-pub use finished::FinishedRun;
-pub use limits::{CONSOLE_DOORS, MAX_LINKS};
+pub use laws::limits_are_told;
+pub use limits::CONSOLE_DOORS;
 pub use needs::{Needs, needs_of};
 pub use running::run;
+pub use shared_run::{FinishedRun, MAX_DOORS, MAX_LINKS};

@@ -1,23 +1,25 @@
 // What a run needs of the outside.
 ghost use Rattle.std.specs.Prelude.{◌≡◌, ◌≤◌, IfOk, MatchOption, map, string_bytes};
-ghost use Rattle.run_frame.specs.Begins.{LacksLine};
-ghost use Rattle.aria_top.specs.Needs.{AreNeeds, doors_by, links_by, port_by};
-ghost use Rattle.aria_top.specs.declared.limits.TheConstants.{MAX_LINKS};
+ghost use Rattle.aria_top.specs.Needs.{AreNeeds, doors_by, links_by, needs_by, port_by};
+ghost use Rattle.command_meanings.specs.Meanings.{LackMeaning};
+ghost use Rattle.shared_run.specs.declared.limits.TheConstants.{MAX_LINKS};
 
-use crate::limits::{CONSOLE_DOORS, MAX_LINKS};
-use command_line::{NoMemory, read};
+use crate::limits::CONSOLE_DOORS;
+use command_meanings::{Meaning, meaning_of};
+use dl_kinds::NoMemory;
 use option_set::{Num, Options};
-use run_frame::is_console_on;
+use run_lifecycle::is_console_on;
+use shared_run::MAX_LINKS;
 use std::alloc::Global;
 
-/// What a run of a command line needs.
+/// What a run of the words needs.
 #[derive(Clone, Copy, Debug, PartialEq, Eq)]
 pub struct Needs {
     /// One link for each worker.
     pub links: u16,
     /// Doors of the console. None without a console.
     pub doors: u16,
-    /// The port at which a console listens.
+    /// The port at which a console listens. 0 where the words ask for no downloads.
     pub port: u16,
 }
 
@@ -52,17 +54,33 @@ fn port_of(globals: &Options) -> u16
     globals.number(Num::RpcListenPort) as u16
 }
 
+fn needs_by(meaning: &Meaning) -> Needs
+    ensures is { result ≡ needs_by meaning.now }
+    ensures some { 1 ≤ result.links }
+    ensures few { result.links ≤ MAX_LINKS }
+{
+    match meaning {
+        Meaning::Download(line) => Needs {
+            links: links_of(&line.globals),
+            doors: doors_of(&line.globals),
+            port: port_of(&line.globals),
+        },
+        // its own links are in memory, and the one that the run asks for isn't used
+        Meaning::Load(_) => Needs {
+            links: 1,
+            doors: 0,
+            port: 0,
+        },
+    }
+}
+
 /// What a run of these words needs, which stand behind the program's name. None where the words have no meaning.
 pub fn needs_of(alloc: Global, words: &[String]) -> Result<Option<Needs>, NoMemory>
-    ensures { IfOk result (λ needs. MatchOption needs (LacksLine (map string_bytes words.now))
+    ensures { IfOk result (λ needs. MatchOption needs (LackMeaning (map string_bytes words.now))
         (AreNeeds (map string_bytes words.now))) }
 {
-    let Some(line) = read(alloc, words)? else {
-        return Ok(None);
-    };
-    Ok(Some(Needs {
-        links: links_of(&line.globals),
-        doors: doors_of(&line.globals),
-        port: port_of(&line.globals),
-    }))
+    match meaning_of(alloc, words)? {
+        Some(meaning) => Ok(Some(needs_by(&meaning))),
+        None => Ok(None),
+    }
 }

@@ -1,62 +1,48 @@
-// A run over all links and doors.
-ghost use Rattle.std.specs.Prelude.{◌≡◌, ◌≤◌, ◌||◌, false, IsTrue, length, map, string_bytes};
-ghost use Rattle.served_runs.specs.Completes.{CompletesServed};
-ghost use Rattle.served_runs.specs.CompletesUris.{CompletesUris};
-ghost use Rattle.served_runs.specs.LinksCauses.{ShowsLinks};
-ghost use Rattle.served_runs.specs.Served.{SparesServing};
-ghost use Rattle.served_runs.specs.Unfinished.{ShowsUnfinished};
-ghost use Rattle.run_frame.specs.DiskCauses.{LeavesOtherFiles, ShowsDisk};
-ghost use Rattle.run_frame.specs.Endings.{EndsAsShown};
-ghost use Rattle.run_frame.specs.Histories.{IsHistory};
-ghost use Rattle.run_frame.specs.Printing.{PrintsText};
-ghost use Rattle.run_frame.specs.Survivals.{SurvivesRun};
-ghost use Rattle.aria_top.specs.declared.limits.TheConstants.{CONSOLE_DOORS, MAX_LINKS};
-ghost use Rattle.aria_top.specs.DoorsCauses.{ShowsDoors};
-ghost use Rattle.aria_top.specs.LinksLeft.{LeavesLinks};
-ghost use Rattle.aria_top.specs.RunsTogether.{GoesOnBegun, GoesTogether, RunsTogether, edges, edges_left, ended_run};
-ghost use Rattle.aria_top.specs.Together.{ComesFirst};
+// The run of every command.
+ghost use Rattle.std.specs.Prelude.{◌≡◌, ◌&&◌, ◌==◌, ◌≤◌, length, map, not, string_bytes};
+ghost use Rattle.aria_top.specs.Alone.{is_alone_by};
+ghost use Rattle.aria_top.specs.Began.{BeganOrNot};
+ghost use Rattle.aria_top.specs.Loads.{RunsLoads};
+ghost use Rattle.aria_top.specs.OneRun.{one_run};
+ghost use Rattle.aria_top.specs.Promises.{BoundsAlone, Completes, CompletesByPieces, CompletesMirrors, Does, HasEnding, HasHistory, HasOutput, LeavesOthers, LeavesUntouched, RefusesFirst, SparesMirrors, Survives, TellsDisk, TellsDoors, TellsLinks, TellsWhyUnfinished};
+ghost use Rattle.aria_top.specs.Went.{WentByMeaning, WentForDownloads};
+ghost use Rattle.command_line.specs.Lines.{IsLine};
+ghost use Rattle.shared_run.specs.declared.limits.TheConstants.{MAX_DOORS, MAX_LINKS};
 
-use crate::finished::FinishedRun;
-use crate::work::{Work, work_through};
-use conn_worker::turns_bring_what_came;
-use console_session::{Transcript, calls_stand_where_replied, replies_are_of_the_history};
-use dl_clock::Clock;
+use crate::arms::{alone, load, refused, together};
+use command_line::{CommandLine, lines_are_one};
+use command_meanings::{Meaning, load_words_are_no_line, meaning_of};
+use dl_clock::{Clock, MemClock};
 use dl_disk::Disk;
 use dl_kinds::Sink;
-use door_source::Doors;
-use engine_turns::turns_tell_runs;
+use door_source::{Doors, MemDoors};
 use link_source::Links;
-use machine_core::Journal;
-use run_frame::{
-    Begun, Ended, Unbegun, begin, begun_runs_are_stopped, finish, refuse, runs_end_as_shown,
-    runs_have_whole_histories, runs_leave_other_files, runs_print_one_text, runs_show_their_disk,
-    runs_survive_crashes, unbegun_runs_only_read,
+use load_setup::{SoundDisk, SoundLinks, UnseenSink};
+use option_set::Options;
+use run_lifecycle::{
+    begun_runs_are_stopped, is_console_on, runs_end_as_shown, runs_have_whole_histories,
+    runs_leave_other_files, runs_print_one_text, runs_show_their_disk, runs_survive_crashes,
+    unbegun_runs_only_read,
 };
+use run_report::RunEnding;
 use served_runs::{
     runs_complete_uris, runs_complete_what_is_served, runs_show_their_links,
     runs_show_why_unfinished, runs_spare_serving_mirrors,
 };
+use shared_run::FinishedRun;
 use std::alloc::Global;
 use std::sync::Wait;
 use std::sync::atomic::AtomicBool;
 use std::thread::Threads;
 
-/// What is left of a run that came to its end, its links and its doors, and what was done at these.
-pub(crate) struct Left<D, L, A, K> {
-    pub(crate) ended: Ended<D>,
-    pub(crate) links: Vec<(L, K)>,
-    pub(crate) doors: Vec<(A, K)>,
-    pub(crate) transcripts: Vec<Transcript>,
-}
-
-fn either(first: bool, second: bool) -> bool
-    ensures { result ≡ first || second }
+fn is_alone(globals: &Options, links: usize) -> bool
+    ensures { result ≡ is_alone_by links globals.now }
 {
-    first || second
+    links == 1 && !is_console_on(globals)
 }
 
-// All workers work, these doors are served, and the run ends.
-fn go_through<
+// The downloads that the line asks for, over the one link or over all of them.
+fn download<
     R: Threads + Wait + Sync,
     D: Disk + Send,
     L: Links + Send,
@@ -66,84 +52,30 @@ fn go_through<
 >(
     rt: &R,
     alloc: Global,
-    begun: Begun<D>,
+    words: &[String],
+    line: &CommandLine,
+    disk: D,
     over: &AtomicBool,
     links: Vec<(L, K)>,
     doors: Vec<(A, K)>,
+    gids: u64,
     out: &mut O,
-) -> Left<D, L, A, K>
+) -> FinishedRun<D, L, K, A>
+    requires line { IsLine (map string_bytes words.now) line.now }
     requires links { (1 ≤ length links.items) × (length links.items ≤ MAX_LINKS) }
-    requires doors { length doors.items ≤ CONSOLE_DOORS }
-    requires first { ComesFirst begun.desk.own }
-    ensures { GoesTogether D.Disk L.Links K.Clock A.Doors O.Sink begun
-        (edges links.items doors.items) out.old result.ended
-        (edges result.links.items result.doors.items) result.transcripts.items out.new }
+    requires doors { length doors.items ≤ MAX_DOORS }
+    ensures { WentForDownloads D.Disk L.Links K.Clock A.Doors O.Sink
+        (one_run (map string_bytes words.now) gids disk links.items doors.items out.old result out.new) }
 {
-    let Begun {
-        desk,
-        is_short,
-        console,
-    } = begun;
-    let Work {
-        engine,
-        links,
-        doors,
-        transcripts,
-        is_short: is_work_short,
-    } = work_through(rt, alloc, desk, &console, over, links, doors);
-    Left {
-        ended: finish(alloc, engine, either(is_short, is_work_short), out),
-        links,
-        doors,
-        transcripts,
+    if is_alone(&line.globals, links.len()) {
+        alone(alloc, words, disk, links, doors, gids, out)
+    } else {
+        together(rt, alloc, words, disk, over, links, doors, gids, out)
     }
 }
 
-// Doors are served where the console is on.
-fn go_on<
-    R: Threads + Wait + Sync,
-    D: Disk + Send,
-    L: Links + Send,
-    A: Doors + Send,
-    K: Clock + Send,
-    O: Sink,
->(
-    rt: &R,
-    alloc: Global,
-    begun: Begun<D>,
-    over: &AtomicBool,
-    links: Vec<(L, K)>,
-    doors: Vec<(A, K)>,
-    out: &mut O,
-) -> Left<D, L, A, K>
-    requires links { (1 ≤ length links.items) × (length links.items ≤ MAX_LINKS) }
-    requires doors { length doors.items ≤ CONSOLE_DOORS }
-    requires first { ComesFirst begun.desk.own }
-    ensures { GoesOnBegun D.Disk L.Links K.Clock A.Doors O.Sink begun
-        (edges links.items doors.items) out.old result.ended
-        (edges result.links.items result.doors.items) result.transcripts.items out.new }
-{
-    if begun.console.is_on {
-        return go_through(rt, alloc, begun, over, links, doors, out);
-    }
-    let no_doors = Vec::<(A, K)>::new(alloc);
-    let Left {
-        ended,
-        links,
-        doors: none,
-        transcripts,
-    } = go_through(rt, alloc, begun, over, links, no_doors, out);
-    none.destroy_empty();
-    Left {
-        ended,
-        links,
-        doors,
-        transcripts,
-    }
-}
-
-// The run of these words over these links and doors.
-fn run_through<
+// What the words ask for.
+fn by_meaning<
     R: Threads + Wait + Sync,
     D: Disk + Send,
     L: Links + Send,
@@ -160,33 +92,38 @@ fn run_through<
     doors: Vec<(A, K)>,
     gids: u64,
     out: &mut O,
-) -> Left<D, L, A, K>
+) -> FinishedRun<D, L, K, A>
     requires links { (1 ≤ length links.items) × (length links.items ≤ MAX_LINKS) }
-    requires doors { length doors.items ≤ CONSOLE_DOORS }
-    ensures { RunsTogether D.Disk L.Links K.Clock A.Doors O.Sink (map string_bytes words.now) gids
-        disk (edges links.items doors.items) out.old result.ended
-        (edges result.links.items result.doors.items) result.transcripts.items out.new }
+    requires doors { length doors.items ≤ MAX_DOORS }
+    ensures { WentByMeaning D.Disk L.Links K.Clock A.Doors O.Sink
+        (one_run (map string_bytes words.now) gids disk links.items doors.items out.old result out.new)
+        ⟦<SoundDisk as Disk>⟧ ⟦<SoundLinks as Links>⟧ ⟦<MemClock as Clock>⟧ ⟦<MemDoors as Doors>⟧
+        ⟦<UnseenSink as Sink>⟧ }
 {
-    match begin(alloc, words, disk, gids, doors.len() as u16) {
-        Ok(begun) => go_on(rt, alloc, begun, over, links, doors, out),
-        Err(Unbegun { ending, disk }) => Left {
-            ended: Ended {
-                ending: refuse(alloc, ending, out),
-                disk,
-                journal: Journal::new(alloc),
-            },
-            links,
-            doors,
-            transcripts: Vec::new(alloc),
-        },
+    match meaning_of(alloc, words) {
+        Ok(Some(Meaning::Load(n))) => load(rt, alloc, n, disk, links, doors, out),
+        Ok(Some(Meaning::Download(line))) => download(
+            rt, alloc, words, &line, disk, over, links, doors, gids, out,
+        ),
+        Ok(None) => refused(alloc, RunEnding::NoMeaning, disk, links, doors, out),
+        Err(_) => refused(alloc, RunEnding::NoMemory, disk, links, doors, out),
     }
 }
 
-/// The run of these words, which stand behind the program's name, over all links: one worker for each, in a thread of its own
-/// where one can be started. Where the words turn the console on, each door is served beside them by a session, numbered
-/// from 1 on, in a thread of its own; otherwise doors aren't used. `gids` is what the ids of downloads are made from. `over` is
-/// set once a worker's work ended, or a door found the run finished: from then on nothing is waited for, so an edge may fail
-/// a call that would still wait.
+/// The run of these words, which stand behind the program's name: of downloads, or of a load.
+///
+/// For every interleaving of connection workers and console sessions the run's one history is legal: each reply is the queue
+/// machine's at its place, each block is counted once, and Complete is told of a listed download only when every wanted piece
+/// on disk has its listed digest; and whatever a crash at any moment leaves, resume calls verified only matching pieces, among
+/// them those of every acknowledged save.
+///
+/// Over one link without a console it works on the calling thread, and comes to an end of itself where its link does. Otherwise
+/// each link has a worker, in a thread of its own where one can be started, and, where the words turn the console on, each door
+/// a session, numbered from 1 on; else doors aren't used. A load has a disk and links of its own in memory. `gids` is what the
+/// ids of downloads are made from. `over` is set once a worker's work ended, or a door found the run finished: from then on
+/// nothing is waited for, so an edge may fail a call that would still wait.
+///
+/// What a disk, a link, a door, a clock or the output tells is trusted, and that nobody else writes to the files of a download.
 pub fn run<
     R: Threads + Wait + Sync,
     D: Disk + Send,
@@ -206,55 +143,69 @@ pub fn run<
     out: &mut O,
 ) -> FinishedRun<D, L, K, A>
     requires links { (1 ≤ length links.items) × (length links.items ≤ MAX_LINKS) }
-    requires doors { length doors.items ≤ CONSOLE_DOORS }
-    // What was done over the links and at the doors, from the words to the summary.
-    ensures does { RunsTogether D.Disk L.Links K.Clock A.Doors O.Sink (map string_bytes words.now)
-        gids disk (edges links.items doors.items) out.old (ended_run result) (edges_left result)
-        result.transcripts.items out.new }
-    // How it ended is shown.
-    ensures ending { EndsAsShown D.Disk O.Sink (map string_bytes words.now) gids
-        (length doors.items) disk out.old (ended_run result) out.new }
-    // Why it didn't begin is printed, or the summary, and nothing else.
-    ensures output { PrintsText D.Disk O.Sink (map string_bytes words.now) gids
-        (length doors.items) disk out.old (ended_run result) out.new }
-    // Where it is unfinished it was told to shut down, or a worker met a full journal, or only paused downloads were left.
-    ensures unfinished { ShowsUnfinished false L.Links (map string_bytes words.now) gids
-        (length doors.items) links.items result.links.items (ended_run result) }
+    requires doors { length doors.items ≤ MAX_DOORS }
+    // The run of a line of downloads began, or it is printed why not and nothing was touched; or the words ask for a load.
+    ensures began { BeganOrNot (one_run (map string_bytes words.now) gids disk links.items
+        doors.items out.old result out.new) D.Disk O.Sink }
+    // Words without a meaning, and a named file that is refused, end it so.
+    ensures refuses { RefusesFirst D.Disk O.Sink (one_run (map string_bytes words.now) gids disk
+        links.items doors.items out.old result out.new) }
+    // How it ended is what its history says.
+    ensures ending { HasEnding D.Disk O.Sink (one_run (map string_bytes words.now) gids disk
+        links.items doors.items out.old result out.new) }
+    // The summary is printed, and nothing else.
+    ensures output { HasOutput D.Disk O.Sink (one_run (map string_bytes words.now) gids disk
+        links.items doors.items out.old result out.new) }
+    // Where it is unfinished it was told to shut down, or a worker was cut short, or only paused downloads were left.
+    ensures unfinished { TellsWhyUnfinished L.Links (one_run (map string_bytes words.now) gids disk
+        links.items doors.items out.old result out.new) }
     // One legal history, which begins with the call of the line and leaves nothing unsaved.
-    ensures history { IsHistory D.Disk (map string_bytes words.now) gids
-        (length doors.items) disk (ended_run result) }
+    ensures history { HasHistory D.Disk (one_run (map string_bytes words.now) gids disk links.items
+        doors.items out.old result out.new) }
     // What it tells of the disk was so, and files that weren't asked for are as they were.
-    ensures disk { ShowsDisk D.Disk (map string_bytes words.now) gids
-        (length doors.items) disk (ended_run result) }
-    ensures others { IsTrue D.tells → LeavesOtherFiles D.Disk (map string_bytes words.now) gids
-        (length doors.items) disk (ended_run result) }
+    ensures disk { TellsDisk D.Disk (one_run (map string_bytes words.now) gids disk links.items
+        doors.items out.old result out.new) }
+    ensures others { LeavesOthers D.Disk (one_run (map string_bytes words.now) gids disk links.items
+        doors.items out.old result out.new) }
     // What it tells of a claim's loss or length came over the link of the claim's worker.
-    ensures links { ShowsLinks L.Links (map string_bytes words.now) gids (length doors.items)
-        result.journal.events.items links.items result.links.items }
+    ensures links { TellsLinks L.Links (one_run (map string_bytes words.now) gids disk links.items
+        doors.items out.old result out.new) }
     // A mirror that serves a payload is held to account for faults of links alone.
-    ensures marks { IsTrue L.tells → SparesServing D.Disk L.Links (map string_bytes words.now)
-        gids (length doors.items) links.items result.links.items (ended_run result) }
+    ensures marks { SparesMirrors L.Links (one_run (map string_bytes words.now) gids disk
+        links.items doors.items out.old result out.new) D.Disk }
     // What is served comes: a run whose links lead to all of a metainfo file's payload is done, unless it was cut short.
-    ensures completes { IsTrue D.tells → IsTrue L.tells → CompletesServed false D.Disk
-        L.Links O.Sink (map string_bytes words.now) disk links.items out.old (ended_run result)
-        result.links.items out.new }
+    ensures completes { Completes D.Disk L.Links O.Sink (one_run (map string_bytes words.now) gids
+        disk links.items doors.items out.old result out.new) }
     // So it does without a metainfo file, where all mirrors lead alike to one resource and no file stands in its folder; and
     // then its file has just the resource's bytes.
-    ensures completes_uris { IsTrue D.tells → IsTrue L.tells → CompletesUris false D.Disk
-        L.Links O.Sink (map string_bytes words.now) disk links.items out.old (ended_run result)
-        result.links.items out.new }
+    ensures completes_uris { CompletesMirrors D.Disk L.Links O.Sink (one_run
+        (map string_bytes words.now) gids disk links.items doors.items out.old result out.new) }
+    // Over one link so it does where each piece has a mirror that holds it, with fewer bad answers left than tries.
+    ensures completes_pieces { CompletesByPieces D.Disk L.Links O.Sink (one_run
+        (map string_bytes words.now) gids disk links.items doors.items out.old result out.new) }
+    // Over one link it has few claims, events and turns, by its download's blocks, pieces, mirrors and tries.
+    ensures bounds { BoundsAlone D.Disk L.Links O.Sink (one_run (map string_bytes words.now) gids
+        disk links.items doors.items out.old result out.new) }
     // What is complete has its digests, and nothing that was promised is lost by a crash.
-    ensures survives { IsTrue D.tells → SurvivesRun D.Disk (map string_bytes words.now) gids
-        (length doors.items) disk (ended_run result) }
+    ensures survives { Survives D.Disk (one_run (map string_bytes words.now) gids disk links.items
+        doors.items out.old result out.new) }
     // Nothing else is touched, and each link keeps its place.
-    ensures untouched { LeavesLinks D.Disk L.Links disk links.items (ended_run result)
-        result.links.items }
+    ensures untouched { LeavesUntouched L.Links (one_run (map string_bytes words.now) gids disk
+        links.items doors.items out.old result out.new) D.Disk }
     // Each door was served by the session of its number, and what its clients were told is of the one history, all calls of
     // which are theirs or the line's own; or none was.
-    ensures doors { ShowsDoors A.Doors (map string_bytes words.now) gids
-        (edges links.items doors.items) (ended_run result) (edges_left result)
-        result.transcripts.items }
+    ensures doors { TellsDoors A.Doors (one_run (map string_bytes words.now) gids disk links.items
+        doors.items out.old result out.new) }
+    // Words that ask for a load have it run, over a disk and links of its own, and its line printed.
+    ensures load { RunsLoads ⟦<SoundDisk as Disk>⟧ ⟦<SoundLinks as Links>⟧ ⟦<MemClock as Clock>⟧
+        ⟦<MemDoors as Doors>⟧ ⟦<UnseenSink as Sink>⟧ O.Sink (one_run (map string_bytes words.now) gids
+        disk links.items doors.items out.old result out.new) }
+    // What was done over the links and at the doors, from the words to the summary.
+    ensures does { Does D.Disk L.Links K.Clock A.Doors O.Sink (one_run (map string_bytes words.now)
+        gids disk links.items doors.items out.old result out.new) }
 {
+    lines_are_one();
+    load_words_are_no_line();
     begun_runs_are_stopped::<D, O>();
     runs_end_as_shown::<D, O>();
     runs_print_one_text::<D, O>();
@@ -268,27 +219,5 @@ pub fn run<
     runs_complete_uris::<D, L, K, O>();
     runs_survive_crashes::<D, O>();
     unbegun_runs_only_read::<D, O>();
-    turns_bring_what_came();
-    turns_tell_runs();
-    replies_are_of_the_history();
-    calls_stand_where_replied();
-    let Left {
-        ended,
-        links,
-        doors,
-        transcripts,
-    } = run_through(rt, alloc, words, disk, over, links, doors, gids, out);
-    let Ended {
-        ending,
-        disk,
-        journal,
-    } = ended;
-    FinishedRun {
-        ending,
-        disk,
-        links,
-        doors,
-        transcripts,
-        journal,
-    }
+    by_meaning(rt, alloc, words, disk, over, links, doors, gids, out)
 }

@@ -14,7 +14,7 @@ use Rattle.dl_history.specs.PayloadParts.{source_in}
 use Rattle.dl_kinds.specs.Plan.{blocks_of, piece_end, piece_of, piece_start, pieces_of, IsPlan}
 use Rattle.dl_kinds.specs.PlanLaws.{BlocksFollow, PlacesAreNumbered}
 use Rattle.dl_kinds.specs.declared.gid.Gid.{Gid}
-use Rattle.dl_words.specs.Lists.{part_at}
+use Rattle.dl_kinds.specs.Lists.{part_at}
 use Rattle.engine_core.proofs.Promising.{download_on, legal_front}
 use Rattle.engine_core.specs.TurnReads.{SealsAsRead, TakesAsRead}
 use Rattle.engine_core.specs.Writings.{WritesAsTold}

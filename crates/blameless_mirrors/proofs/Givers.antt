@@ -4,7 +4,7 @@ use Rattle.std.proofs.lemmas.List.{length-drop, length-take, get_or-take, get_or
 use Rattle.std.proofs.lemmas.List.Elements.{All-get_or}
 use Rattle.std.proofs.lemmas.List.FromFn.{get_or-map-range_with_len, length-map-range_with_len}
 use Rattle.dl_kinds.specs.Plan.{blocks_of, blocks_of_piece, full_blocks, piece_of}
-use Rattle.dl_words.specs.Lists.{part_at}
+use Rattle.dl_kinds.specs.Lists.{part_at}
 use Rattle.piece_table.proofs.Numbers.{place_from, place_within}
 use Rattle.piece_table.specs.Changes.{Absent, From, MayBeFrom, is_present}
 use Rattle.piece_table.specs.declared.giver.Giver.TheVariants.{One}

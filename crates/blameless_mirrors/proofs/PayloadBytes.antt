@@ -11,7 +11,7 @@ use Rattle.control_file.specs.declared.want.Want.{Want}
 use Rattle.dl_disk.specs.Files.{Files, file_bytes}
 use Rattle.dl_kinds.specs.Plan.{IsPlan, block_end, block_start, blocks_of, blocks_of_piece, full_blocks, piece_end, piece_of, piece_start, pieces_of, place_of}
 use Rattle.dl_kinds.specs.PlanLaws.{PlacesAreNumbered}
-use Rattle.dl_words.specs.Lists.{part_at}
+use Rattle.dl_kinds.specs.Lists.{part_at}
 use Rattle.payload_files.specs.Names.{name_of}
 use Rattle.payload_files.specs.Payload.{HasFiles, payload_in}
 use Rattle.resume_core.specs.Resume.{byte_at, payload_bytes}

@@ -7,7 +7,7 @@ use Rattle.dl_history.specs.PayloadParts.{source_in}
 use Rattle.dl_kinds.specs.Plan.{piece_end, piece_start}
 use Rattle.dl_kinds.specs.declared.gid.Gid.{Gid}
 use Rattle.dl_kinds.specs.declared.marks.Mark.{Mark}
-use Rattle.dl_words.specs.Lists.{part_at}
+use Rattle.dl_kinds.specs.Lists.{part_at}
 use Rattle.engine_core.specs.Askings.{IsWrittenAlone}
 use Rattle.engine_core.specs.TurnReads.{TurnsFitDisk}
 use Rattle.engine_turns.specs.RunTurns.{MayComeAfter}

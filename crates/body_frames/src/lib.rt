@@ -11,10 +11,14 @@ ghost use Rattle.body_frames.specs.Bodies.{Framing, body_of, content_of, used_of
 ghost use Rattle.body_frames.specs.Written.{ChunkIsRead, LastChunkIsRead};
 
 mod body;
+mod laws;
 mod line;
 mod phase;
 
 pub use body::Body;
+pub use laws::limits_are_told;
+pub use line::LINE_LIMIT;
+pub use phase::TRAILER_LIMIT;
 use std::alloc::AllocError;
 use thiserror::Error;
 

@@ -4,7 +4,7 @@ ghost use Rattle.std.specs.Prelude.{◌≡◌, ◌≤◌, ℕ, false, List, [], 
 use crate::BodyErr;
 
 /// The most bytes that a size line or a trailer line has before its CR LF.
-pub(crate) const LINE_LIMIT: u32 = 256;
+pub const LINE_LIMIT: u32 = 256;
 
 /// A line whose CR LF hasn't come.
 #[derive(Clone, Copy, Debug, PartialEq, Eq)]

@@ -7,8 +7,8 @@ use crate::line::{LINE_LIMIT, LineStep, OpenLine, SizeLine, SizeStep};
 use crate::{BodyEnd, BodyErr};
 use std::num::{NonZeroU32, NonZeroU64};
 
-// How many trailer lines a body may have.
-const TRAILER_LIMIT: u32 = 64;
+/// How many trailer lines a body may have.
+pub const TRAILER_LIMIT: u32 = 64;
 
 #[derive(Clone, Copy, Debug, PartialEq, Eq)]
 pub(crate) enum Phase {

@@ -10,4 +10,3 @@ mod source;
 pub use laws::lines_are_one;
 pub use line::{CommandLine, read};
 pub use source::Source;
-pub use std::alloc::AllocError as NoMemory;

@@ -4,12 +4,13 @@ ghost use Rattle.std.specs.Prelude.{◌≡◌, ◌↔◌, IsTrue, map, string_by
 ghost use Rattle.command_line.specs.Found.{IsFoundLine, found_console};
 ghost use Rattle.command_line.specs.Lines.{IsLine};
 
+use crate::Source;
 use crate::command::{OTHERS, is_given, matches_of};
 use crate::options::read_options;
 use crate::source::source_of;
-use crate::{NoMemory, Source};
 use clap::ArgMatches;
 use clap::error::ErrorKind;
+use dl_kinds::NoMemory;
 use option_set::{Num, Opt, OptErr, Options, Settings};
 use std::alloc::Global;
 

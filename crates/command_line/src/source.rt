@@ -3,8 +3,7 @@ ghost use Rattle.std.specs.Prelude.{◌≡◌, ◌↔◌, Bool, map, IsTrue, IfO
 ghost use Rattle.link_source.specs.Endpoint.{IsUsable};
 ghost use Rattle.command_line.specs.Sources.{AreUris, IsFirst, IsMetainfoName, IsNoUrl, IsSource, words_of};
 
-use crate::NoMemory;
-use dl_kinds::{MAX_MIRRORS, Text, Texts};
+use dl_kinds::{MAX_MIRRORS, NoMemory, Text, Texts};
 use link_source::{EndErr, Endpoint};
 use std::alloc::Global;
 

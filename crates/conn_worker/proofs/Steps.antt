@@ -1,7 +1,7 @@
 -- What a step of a fetch makes of what is in hand.
 use Rattle.std.proofs.Common.{◌≡◌, ◌≢◌, ◌≤◌, ◌+◌, ◌-◌, ◌++◌, ℕ, Bool, true, false, IsTrue, List, Option, Some, None, IfSome, IsSome, Result, Ok, Err, ◌↔◌, ⊎_elim, length, refl, sym, ap, subst, ◌∙◌, arith, length-append}
 use Rattle.dl_kinds.specs.declared.runs.Run.{Run}
-use Rattle.dl_words.specs.Counts.{Rose}
+use Rattle.dl_kinds.specs.Counts.{Rose}
 use Rattle.dl_kinds.specs.declared.marks.Mark.{Mark}
 use Rattle.fetch_session.specs.Blocks.{cut, ready_blocks}
 use Rattle.fetch_session.specs.Fetches.{Fails, FetchSteps, HandedIsFetched, IsFetch, IsFrontOfFetched, IsHeldBack, MayStep, fetch_plan, lost_of, ready_of, rest_of}

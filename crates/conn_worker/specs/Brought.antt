@@ -3,7 +3,7 @@ use Rattle.std.specs.Prelude.{◌≡◌, ◌<◌, ◌≤◌, ◌+◌, ℕ, Bool,
 use Rattle.dl_kinds.specs.declared.gid.Gid.{Gid}
 use Rattle.dl_kinds.specs.declared.marks.Mark.{Mark}
 use Rattle.dl_kinds.specs.declared.runs.Run.{Run}
-use Rattle.dl_words.specs.Counts.{Rose}
+use Rattle.dl_kinds.specs.Counts.{Rose}
 use Rattle.engine_turns.specs.RunTurns.{brought_bytes}
 use Rattle.engine_turns.specs.Told.{RunTurn}
 use Rattle.engine_turns.specs.declared.operations.FetchGrant.{FetchGrant}

@@ -2,6 +2,9 @@
 ghost use Rattle.conn_worker.specs.Allowed.{LinksReceiveWhatIsAllowed};
 ghost use Rattle.conn_worker.specs.Brought.{LinksGoOn, TurnsBringWhatCame};
 ghost use Rattle.conn_worker.specs.Sound.{AnswersAreSound};
+ghost use Rattle.std.specs.Prelude.{◌≡◌, ◌^◌};
+ghost use Rattle.conn_worker.specs.declared.ends.TheConstants.{IDLE_PAUSE};
+ghost use Rattle.conn_worker.specs.declared.working.TheConstants.{MAX_TURNS};
 
 /// Blocks that a run grants are blocks of a plan, and an allowance is of a byte at least.
 pub fn answers_are_sound()
@@ -20,4 +23,10 @@ pub fn links_receive_what_is_allowed()
 pub fn turns_bring_what_came()
     ensures brought { TurnsBringWhatCame }
     ensures links { LinksGoOn }
+{}
+
+/// The most turns of a worker over one link, and the milliseconds that one without work waits. It does nothing when it runs.
+pub fn limits_are_told()
+    ensures turns { MAX_TURNS ≡ 2 ^ 48 }
+    ensures pause { IDLE_PAUSE ≡ 50 }
 {}

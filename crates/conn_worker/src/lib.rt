@@ -15,7 +15,9 @@ mod working;
 
 pub use ends::{IDLE_PAUSE, Spent, WorkEnd};
 pub use keeping::keep_work;
-pub use laws::{answers_are_sound, links_receive_what_is_allowed, turns_bring_what_came};
+pub use laws::{
+    answers_are_sound, limits_are_told, links_receive_what_is_allowed, turns_bring_what_came,
+};
 pub use state::WorkState;
 pub use turning::work_once;
 pub use working::{MAX_TURNS, work};

@@ -1,7 +1,7 @@
 -- The response to one request.
 use Rattle.std.specs.Prelude.{◌≡◌, ◌⊎◌, ℕ, All, IsTrue, List, [], Option, Result, Ok, Err}
 use Rattle.dl_kinds.specs.declared.outside.IoErr.{IoErr}
-use Rattle.dl_words.specs.Counts.{Rose}
+use Rattle.dl_kinds.specs.Counts.{Rose}
 use Rattle.door_source.specs.declared.Doors.{Ghosts as DoorSays}
 use Rattle.rpc_envelope.specs.Turns.{Invocation, Invoked, OutcomeData, BeginsWith, CamePlain, Extends, invocations_in, outcomes_in}
 use Rattle.console_http.specs.Ends.{end_by_error}

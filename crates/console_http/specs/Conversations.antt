@@ -1,7 +1,7 @@
 -- What a conversation came to.
 use Rattle.std.specs.Prelude.{◌≡◌, ◌⊎◌, ℕ, true, IsTrue, List, [], ◌∷◌, ◌++◌}
 use Rattle.std.specs.List.{flat_map}
-use Rattle.dl_words.specs.Counts.{Rose}
+use Rattle.dl_kinds.specs.Counts.{Rose}
 use Rattle.door_source.specs.Doors.{Connection, DoorState, Becomes, hung_up, met}
 use Rattle.door_source.specs.declared.Doors.{Ghosts as DoorSays}
 use Rattle.request_stream.specs.Requests.{Request, is_last, IsOneRequest}

@@ -1,6 +1,6 @@
 -- What is received of a connection, and what is sent in it.
 use Rattle.std.specs.Prelude.{◌≡◌, ◌⊎◌, ℕ, ◌<◌, List, [], ◌++◌, length, IsTrue, Option, Some, None}
-use Rattle.dl_words.specs.Counts.{Rose}
+use Rattle.dl_kinds.specs.Counts.{Rose}
 use Rattle.door_source.specs.Doors.{Connection, DoorState, Becomes}
 use Rattle.door_source.specs.declared.Doors.{Ghosts as DoorSays}
 use Rattle.console_http.specs.declared.ends.ConnectionEnd.{ConnectionEnd}

@@ -1,14 +1,14 @@
 // What comes of a connection.
 ghost use Rattle.std.specs.Prelude.{◌≡◌, ◌<◌, ◌≤◌, ◌+◌, length, drop, false, slice_range, ◌++◌, IfOk, MatchOption, IsTrue, true};
-ghost use Rattle.ask_heads.specs.declared.head.TheConstants.{MAX_ASK_BYTES};
+ghost use Rattle.http_heads.specs.declared.limits.TheConstants.{MAX_HEAD_BYTES};
 ghost use Rattle.request_stream.specs.Next.{IsNextRequest};
 ghost use Rattle.console_http.specs.Readings.{fresh_reading};
 ghost use Rattle.console_http.specs.Receiving.{HasReceived};
 
 use crate::ends::{ConnectionEnd, end_by_error};
-use ask_heads::MAX_ASK_BYTES;
 use dl_kinds::NoMemory;
 use door_source::Doors;
+use http_heads::MAX_HEAD_BYTES;
 use request_stream::{NextRequest, next_request};
 use std::alloc::Global;
 use std::marker::Model;
@@ -28,7 +28,7 @@ pub struct Intake {
 
 impl Model for Intake {
     ghost use Rattle.std.specs.Prelude.{◌≡◌, ◌≤◌, ◌+◌, length, vec_len};
-    ghost use Rattle.ask_heads.specs.declared.head.TheConstants.{MAX_ASK_BYTES};
+    ghost use Rattle.http_heads.specs.declared.limits.TheConstants.{MAX_HEAD_BYTES};
     ghost use Rattle.console_http.specs.Readings.{Reading};
     ghost use Rattle.console_http.specs.declared.intake.TheConstants.{PIECE_BYTES};
 
@@ -41,7 +41,7 @@ impl Model for Intake {
     } };
 
     ghost invariant = { λ intake. (length intake.piece.items ≡ PIECE_BYTES)
-        × (length intake.unread.items ≤ intake.most + MAX_ASK_BYTES + PIECE_BYTES) };
+        × (length intake.unread.items ≤ intake.most + MAX_HEAD_BYTES + PIECE_BYTES) };
 }
 
 // Puts the piece behind the others, or tells that the connection ends.
@@ -135,7 +135,7 @@ impl Intake {
 
     /// Receives the next bytes, or tells how the connection ends.
     pub(crate) fn receive<A: Doors>(&mut self, door: &mut A) -> Option<ConnectionEnd>
-        requires few { length self.old.unread < MAX_ASK_BYTES + self.old.most }
+        requires few { length self.old.unread < MAX_HEAD_BYTES + self.old.most }
         requires opened { IsTrue A.tells → (A.state door.old).is_open ≡ true }
         ensures stays_open { IsTrue A.tells → (A.state door.new).is_open ≡ true }
         ensures same { self.new ≡ record self.old { unread = self.new.unread } }

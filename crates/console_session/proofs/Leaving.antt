@@ -46,6 +46,7 @@ module _ {D T K A : Type 0} (sight : T → SessionSight D) (desk_id : T → Desk
       visits = did.visits;
       end = kept.end;
       served = did.served;
+      last = did.last;
       came = did.came;
       told = did.told;
       faults = did.faults;

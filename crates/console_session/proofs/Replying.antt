@@ -15,8 +15,8 @@ use Rattle.engine_turns.specs.declared.operations.Said.TheVariants as said
 use Rattle.machine_core.specs.declared.calls.Call.{Call}
 use Rattle.machine_core.specs.declared.events.Event.{Event}
 use Rattle.machine_core.specs.declared.events.Event.TheVariants.{Called}
-use Rattle.run_replies.specs.Replies.{IsReplyAt}
-use Rattle.run_replies.specs.declared.kinds.Reply.{Reply}
+use Rattle.run_report.specs.Replies.{IsReplyAt}
+use Rattle.run_report.specs.declared.kinds.Reply.{Reply}
 use Rattle.console_session.specs.SessionLaws.{RepliesAreOfTheHistory}
 
 -- ---- parts of an answer

@@ -22,7 +22,7 @@ use Rattle.turn_desk.specs.Sights.{DeskId}
 use Rattle.console_session.proofs.Carrying.{takes_none}
 use Rattle.console_session.proofs.DoorEnds.{ComesToEnd, ended_by, found_last}
 use Rattle.console_session.specs.CallTurns.{CameInOrder, FindsFinish, SessionSight, call_turns, is_finish}
-use Rattle.console_session.specs.DoorSessions.{AreServed, IsCauseOf}
+use Rattle.console_session.specs.DoorSessions.{AreServed, EndsLast, IsCauseOf}
 use Rattle.console_session.specs.Sessions.{AsksForFinish, Attends, HasCarriedOut, SessionAt, TakesTurns, secret_of, session_at}
 use Rattle.console_session.specs.declared.session.ConsoleSession.{ConsoleSession}
 
@@ -82,6 +82,38 @@ module _ {S T A : Type 0} (at : CallsAt S T) (asks : AskingAt S T) (says : DoorS
   all_served visits Closed a b keeps = served_by visits Closed a b keeps
   all_served visits Finished a b keeps = served_by visits Finished a b keeps
   all_served visits (Fault count) a b keeps = served_by visits (Fault count) a b keeps
+
+  -- ---- the last one
+
+  last_behind : (visits : List Visit) (end : DoorEnd) (finished : Bool) (n b : DoorAt S T A)
+      → (Keeps at asks says most visits end n b → EndsLast visits end)
+      → MatchBool finished ((visits ≡ []) × (end ≡ Finished) × (b ≡ n)) (Keeps at asks says most visits end n b)
+      → EndsLast visits end
+  last_behind visits end true n b on ends = subst (λ (vs : List Visit). EndsLast vs end) (sym ends.0) tt
+  last_behind visits end false n b on keeps = on keeps
+
+  last_from : (visits : List Visit) (end : DoorEnd) (found : Bool) (m b : DoorAt S T A)
+      → ((n : DoorAt S T A) → Keeps at asks says most visits end n b → EndsLast visits end)
+      → MatchBool found ((visits ≡ []) × (end ≡ Finished) × (b ≡ m))
+      ((n : DoorAt S T A) × (finished : Bool) × AsksDoor at asks says most finished m n
+      × MatchBool finished ((visits ≡ []) × (end ≡ Finished) × (b ≡ n)) (Keeps at asks says most visits end n b))
+      → MatchBool found ((visits ≡ []) × (end ≡ Finished)) (EndsLast visits end)
+  last_from visits end true m b on ends = (ends.0, ends.1)
+  last_from visits end false m b on (n, finished, asked, more) = last_behind visits end finished n b (on n) more
+
+  last_by : (visits : List Visit) (end : DoorEnd) (a b : DoorAt S T A) → Keeps at asks says most visits end a b
+      → EndsLast visits end
+  last_by [] end a b ends = tt
+  last_by (Waits ∷ visits) end a b (m, is, rest) = last_from visits end false m b (λ n. last_by visits end n b) rest
+  last_by (Welcomes steps how ∷ visits) end a b (m, is, rest) =
+      last_from visits end (ends_run how) m b (λ n. last_by visits end n b) rest
+
+  pub ends_last : (visits : List Visit) (end : DoorEnd) (a b : DoorAt S T A)
+      → KeepsToEnd at asks says most visits end a b → EndsLast visits end
+  ends_last visits NoBuffers a b (none, same) = subst (λ (vs : List Visit). EndsLast vs NoBuffers) (sym none) tt
+  ends_last visits Closed a b keeps = last_by visits Closed a b keeps
+  ends_last visits Finished a b keeps = last_by visits Finished a b keeps
+  ends_last visits (Fault count) a b keeps = last_by visits (Fault count) a b keeps
 
 -- ---- a session
 
@@ -178,6 +210,7 @@ module _ {D T K : Type 0} (sight : T → SessionSight D) (desk_id : T → DeskId
           takes = all.1;
           visits = visits;
           served = all_served at_attending asks_attending says most visits kept.end a b keeps.keeps;
+          last = ends_last at_attending asks_attending says most visits kept.end a b keeps.keeps;
           came = all.2;
           told = keeps.told;
           faults = keeps.faults;

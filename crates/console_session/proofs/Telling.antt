@@ -10,8 +10,8 @@ use Rattle.rpc_console.specs.declared.asking.Keys.{Keys}
 use Rattle.rpc_envelope.specs.Outcomes.{outcome_if_any, outcome_view}
 use Rattle.rpc_envelope.specs.Turns.{Invocation, OutcomeData}
 use Rattle.rpc_envelope.specs.declared.caller.Outcome.{Outcome}
-use Rattle.run_replies.specs.declared.kinds.Reply.{Reply}
-use Rattle.run_replies.specs.declared.kinds.Reply.TheVariants as reply
+use Rattle.run_report.specs.declared.kinds.Reply.{Reply}
+use Rattle.run_report.specs.declared.kinds.Reply.TheVariants as reply
 use Rattle.console_session.specs.CallTurns.{IsToldOrLost, NeedsNoTurn, told_of_reply}
 
 -- a reply that isn't want of memory is told

@@ -17,8 +17,8 @@ use Rattle.rpc_console.specs.declared.asking.Keys.{Keys}
 use Rattle.rpc_envelope.specs.Turns.{Invocation, Invoked, OutcomeData, failed}
 use Rattle.rpc_envelope.specs.declared.fault.RpcFault.{RpcFault}
 use Rattle.rpc_envelope.specs.declared.fault.RpcFault.TheVariants.{JournalFull}
-use Rattle.run_replies.specs.declared.kinds.Reply.{Reply}
-use Rattle.run_replies.specs.declared.kinds.Reply.TheVariants as reply
+use Rattle.run_report.specs.declared.kinds.Reply.{Reply}
+use Rattle.run_report.specs.declared.kinds.Reply.TheVariants as reply
 use Rattle.turn_desk.specs.declared.turn.Sight.{Sight}
 
 -- what a session knows of the run at whose desk it is

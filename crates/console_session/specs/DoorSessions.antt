@@ -1,7 +1,8 @@
 -- What a session did at the desk of a run, for the clients of its door.
 use Rattle.std.specs.Prelude.{◌≡◌, ◌+◌, ℕ, true, IsTrue, List, [], ◌∷◌, ◌++◌, All, Option}
+use Rattle.std.specs.Bool.{MatchBool}
 use Rattle.console_http.specs.Conversations.{IsServedBy, conversation_of}
-use Rattle.console_http.specs.Visits.{GainsTalks, RoseBy, Visit, Waits, Welcomes, capped, failed_in, faults_of_end, starved_in, starved_of_end, turns_in}
+use Rattle.console_http.specs.Visits.{GainsTalks, RoseBy, Visit, Waits, Welcomes, capped, failed_in, faults_of_end, finds_end, starved_in, starved_of_end, turns_in}
 use Rattle.console_http.specs.declared.ends.DoorEnd.{DoorEnd}
 use Rattle.console_http.specs.declared.ends.DoorEnd.TheVariants.{Closed, Finished, Fault, NoBuffers}
 use Rattle.door_source.specs.declared.Doors.{Ghosts as DoorSays}
@@ -17,6 +18,12 @@ abbrev pub AreServed : ℕ → List Visit → Type 0
 AreServed most [] = Unit {0}
 AreServed most (Waits ∷ visits) = AreServed most visits
 AreServed most (Welcomes steps end ∷ visits) = IsServedBy most end (conversation_of steps) × AreServed most visits
+
+-- a connection that was cut off since the run was found finished is the last one, and so the door ended
+abbrev pub EndsLast : List Visit → DoorEnd → Type 0
+EndsLast [] end = Unit {0}
+EndsLast (visit ∷ visits) end =
+    MatchBool (finds_end visit) ((visits ≡ []) × (end ≡ Finished)) (EndsLast visits end)
 
 module _ {A : Type 0} (says : DoorSays A) where
   -- Why the door is served no more: no client comes any more, the last turn found the run finished, a call of the door
@@ -34,6 +41,7 @@ module _ {A : Type 0} (says : DoorSays A) where
     pub visits : List Visit
     pub end : DoorEnd
     pub served : AreServed most visits
+    pub last : EndsLast visits end
     pub came : CameInOrder secret session (call_turns turns) (turns_in visits)
     pub told : IsTrue says.tells → GainsTalks visits (says.state door) (says.state door')
     pub faults : RoseBy (failed_in visits + faults_of_end end) (says.faults door) (says.faults door')

@@ -10,8 +10,8 @@ use Rattle.machine_core.specs.Starts.{RunStart}
 use Rattle.machine_core.specs.declared.calls.Call.{Call}
 use Rattle.machine_core.specs.declared.events.Event.{Event}
 use Rattle.machine_core.specs.declared.events.Event.TheVariants.{Called}
-use Rattle.run_replies.specs.Replies.{IsReplyAt}
-use Rattle.run_replies.specs.declared.kinds.Reply.{Reply}
+use Rattle.run_report.specs.Replies.{IsReplyAt}
+use Rattle.run_report.specs.declared.kinds.Reply.{Reply}
 use Rattle.console_session.specs.CallTurns.{reply_places}
 
 -- The turn's first event is the call, at this place of the history, and the reply is that of the history before it. Of

@@ -13,7 +13,7 @@ use Rattle.rpc_console.specs.declared.asking.Keys.{Keys}
 use Rattle.rpc_envelope.specs.Turns.{Invoked, OutcomeData}
 use Rattle.turn_desk.specs.Sights.{DeskId, Went}
 use Rattle.console_session.specs.CallTurns.{AreReadFrom, CameBy, CameInOrder, IsOfSession, IsToldOrLost, SessionSight, call_turns, is_finish, outcome_by, places_by, reply_places, starved_in_reply}
-use Rattle.console_session.specs.DoorSessions.{AreServed, IsCauseOf}
+use Rattle.console_session.specs.DoorSessions.{AreServed, EndsLast, IsCauseOf}
 pub use Rattle.console_session.specs.SessionPlaces.{SessionAt, secret_of, session_at}
 use Rattle.console_session.specs.declared.session.ConsoleSession.{ConsoleSession}
 
@@ -84,6 +84,7 @@ module _ {D T K : Type 0} (sight : T → SessionSight D) (desk_id : T → DeskId
       pub takes : TakesTurns turns (session_in a) (session_in b)
       pub visits : List Visit
       pub served : AreServed most visits
+      pub last : EndsLast visits kept.end
       pub came : CameInOrder (secret_of a.session) a.session.number (call_turns turns) (turns_in visits)
       pub told : IsTrue says.tells → GainsTalks visits (says.state a.door) (says.state b.door)
       pub faults : RoseBy (failed_in visits + faults_of_end kept.end) (says.faults a.door) (says.faults b.door)

@@ -3,7 +3,7 @@ use Rattle.std.proofs.Common.{◌≡◌, ℕ, ◌<◌, List, All, Result, Ok, Er
 use Rattle.std.specs.Prelude.{IfOk}
 use Rattle.std.specs.Global.{Vec}
 use Rattle.std.specs.declared.alloc.AllocError.{AllocError}
-use Rattle.dl_words.specs.Answers.{Gives}
+use Rattle.dl_kinds.specs.Answers.{Gives}
 use Rattle.control_file.specs.declared.control.Control.{Control}
 use Rattle.control_file.specs.declared.fault.ControlErr.{ControlErr}
 use Rattle.control_file.specs.declared.fields.ByteOrder.TheVariants.{Big}

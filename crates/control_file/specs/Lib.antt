@@ -1,4 +1,5 @@
 pub mod Laws
+pub mod Names
 pub mod Reading
 pub mod Spelling
 pub mod Unread

@@ -1,6 +1,6 @@
 // Bytes as control files.
 ghost use Rattle.std.specs.Prelude.{◌≡◌, ◌+◌, ◌≤◌, ◌<◌, ◌^◌, Ok, length, IfOk};
-ghost use Rattle.dl_words.specs.Answers.{Gives};
+ghost use Rattle.dl_kinds.specs.Answers.{Gives};
 ghost use Rattle.dl_kinds.specs.Plan.{blocks_of_piece};
 ghost use Rattle.control_file.specs.Unread.{unread};
 ghost use Rattle.control_file.specs.Spelling.{IsControlFile, bytes_of_piece};

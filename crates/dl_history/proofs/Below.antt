@@ -6,7 +6,7 @@ use Rattle.std.proofs.lemmas.List.FromFn.{get_or-map-range_with_len}
 use Rattle.std.proofs.lemmas.List.{length-take-le, length-drop, get_or-take, get_or-drop}
 use Rattle.dl_kinds.specs.Plan.{pieces_of, blocks_of, full_blocks, blocks_of_piece, piece_of, IsPlan}
 use Rattle.dl_kinds.specs.PlanLaws.{BlocksAreOfPieces, PlacesAreNumbered}
-use Rattle.dl_words.specs.Lists.{part_at}
+use Rattle.dl_kinds.specs.Lists.{part_at}
 use Rattle.piece_table.specs.Afresh.{IsAfresh, IsWithin, after_changes}
 use Rattle.piece_table.specs.Changes.{Change}
 use Rattle.piece_table.specs.Progress.{IsStart}

@@ -2,14 +2,15 @@
 -- or settled since their last landing, by its events.
 use Rattle.std.specs.Prelude.{ℕ, ◌==◌, ◌&&◌, ◌||◌, Bool, true, false, not, if◌then◌else◌, Option, Some, None, List, [], ◌∷◌, map, slice_index_or}
 use Rattle.std.specs.List.{list_any, filter_map, range_with_len}
+use Rattle.dl_kinds.specs.ExitStatuses.{exit_code}
 use Rattle.dl_kinds.specs.Plan.{piece_of, blocks_of}
+use Rattle.dl_kinds.specs.declared.exit_status.ExitStatus.TheVariants.{Checksum}
 use Rattle.dl_kinds.specs.declared.runs.Run.{Run}
 use Rattle.dl_kinds.specs.declared.marks.Mark.{Mark}
 use Rattle.mirror_blame.specs.declared.blame.Blame.{Blame}
 use Rattle.piece_table.specs.Changes.{is_in, Source, Absent, Unknown, From, is_present, is_wrong_last}
 use Rattle.piece_table.specs.declared.giver.Giver.{Giver}
 use Rattle.piece_table.specs.declared.giver.Giver.TheVariants.{Nobody, One, Mixed}
-use Rattle.dl_history.specs.declared.marks.TheConstants.{CHECKSUM_FAILED}
 use Rattle.dl_history.specs.OwnEvents.{OwnEvent, Opens, Lands, Settles, Clears, Loses, Sizes, Checks, Halts}
 use Rattle.dl_history.specs.StandingClaims.{since, stands_in, has_given_all, blocks_in}
 
@@ -123,7 +124,7 @@ is_ended own = list_any is_ending own
 
 -- what is held against a mirror whose piece doesn't have its digest
 abbrev pub checksum_mark : Mark
-checksum_mark = record { code = record { 0 = CHECKSUM_FAILED }; count = 0 }
+checksum_mark = record { code = exit_code Checksum; count = 0 }
 
 -- what an event marks
 abbrev pub blame_in : OwnEvent → Option Blame

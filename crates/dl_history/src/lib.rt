@@ -2,10 +2,8 @@
 #![tactic(auto)]
 
 mod laws;
-mod marks;
 
 pub use laws::{
     accounts_match_events, histories_are_sound, unopened_accounts_are_alike,
     worked_histories_are_told,
 };
-pub use marks::CHECKSUM_FAILED;

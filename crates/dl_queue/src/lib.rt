@@ -3,6 +3,7 @@
 
 mod calls;
 mod kinds;
+mod laws;
 mod lines;
 mod listed;
 mod named;
@@ -11,5 +12,6 @@ mod queue;
 mod room;
 
 pub use kinds::{Added, Ending, How, MAX_DOWNLOADS, QueueErr, Queued, Stopped};
+pub use laws::limits_are_told;
 pub use listed::{ActiveGids, QueuedDownloads, StoppedDownloads};
 pub use queue::Queue;

@@ -7,7 +7,6 @@ ghost use Rattle.door_source.specs.Doors.{DoorState, Accepts, ReceivesFromPeer, 
 
 use dl_kinds::IoErr;
 
-mod calls;
 mod laws;
 mod memory;
 mod sessions;

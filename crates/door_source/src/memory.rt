@@ -2,10 +2,9 @@
 ghost use Rattle.std.specs.Prelude.{◌≡◌, ◌<◌, ◌≤◌, All, drop, length, map, IsTrue, IfOk};
 ghost use Rattle.door_source.specs.Doors.{met, IsUntouched};
 
-use crate::calls::Calls;
 use crate::sessions::MemSession;
 use crate::{Came, Doors};
-use dl_kinds::{Blob, IoErr, NoMemory};
+use dl_kinds::{Blob, Calls, IoErr, NoMemory};
 use std::alloc::Global;
 
 /// A door to clients in memory, which come one after the other. Once the last has come the door is closed.

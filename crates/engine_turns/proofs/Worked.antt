@@ -11,10 +11,10 @@ use Rattle.machine_core.specs.declared.calls.Call.TheVariants.{GetVersion, Pause
 use Rattle.machine_core.specs.declared.ends.End.TheVariants as end
 use Rattle.machine_core.specs.declared.events.Event.{Event}
 use Rattle.machine_core.specs.declared.events.Event.TheVariants.{Called, Ended, Stopped}
-use Rattle.run_replies.specs.Replies.{reply_of}
-use Rattle.run_replies.specs.Subjects.{AreNames}
-use Rattle.run_replies.specs.declared.kinds.Reply.{Reply}
-use Rattle.run_replies.specs.declared.kinds.Reply.TheVariants.{Fine, Refused, Version}
+use Rattle.run_report.specs.Replies.{reply_of}
+use Rattle.run_report.specs.Subjects.{AreNames}
+use Rattle.run_report.specs.declared.kinds.Reply.{Reply}
+use Rattle.run_report.specs.declared.kinds.Reply.TheVariants.{Fine, Refused, Version}
 use Rattle.engine_turns.specs.ClaimRows.{MoreRow}
 use Rattle.engine_turns.specs.declared.outcome.Outcome.TheVariants.{Went}
 use Rattle.engine_turns.specs.RunTurns.{IsTurnAnswered, turn_start}

@@ -12,8 +12,8 @@ use Rattle.machine_core.specs.Starts.{RunStart}
 use Rattle.machine_core.specs.declared.calls.Call.{Call}
 use Rattle.machine_core.specs.declared.events.Event.{Event}
 use Rattle.machine_core.specs.declared.events.Event.TheVariants.{Called, Left, Stopped}
-use Rattle.run_replies.specs.Replies.{IsReplyAt}
-use Rattle.run_replies.specs.declared.kinds.Reply.{Reply}
+use Rattle.run_report.specs.Replies.{IsReplyAt}
+use Rattle.run_report.specs.declared.kinds.Reply.{Reply}
 use Rattle.engine_turns.specs.Phases.{SavesPhase, TurnStart}
 use Rattle.engine_turns.specs.declared.outcome.Outcome.{Outcome}
 use Rattle.engine_turns.specs.declared.outcome.Outcome.TheVariants.{Over, Starved, Went}

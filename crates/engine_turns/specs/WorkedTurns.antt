@@ -11,8 +11,8 @@ use Rattle.machine_core.specs.declared.calls.Call.TheVariants.{GetVersion, Pause
 use Rattle.machine_core.specs.declared.events.Event.{Event}
 use Rattle.machine_core.specs.declared.events.Event.TheVariants.{Called, Settled, Stopped}
 use Rattle.machine_core.specs.declared.handed.Handed.{Handed}
-use Rattle.run_replies.specs.declared.kinds.Reply.{Reply}
-use Rattle.run_replies.specs.declared.kinds.Reply.TheVariants.{Fine, Refused, Version}
+use Rattle.run_report.specs.declared.kinds.Reply.{Reply}
+use Rattle.run_report.specs.declared.kinds.Reply.TheVariants.{Fine, Refused, Version}
 use Rattle.engine_turns.specs.RunTurns.{MayComeAfter}
 use Rattle.engine_turns.specs.Told.{RunTurn, handed_in, latest_moment}
 use Rattle.engine_turns.specs.declared.operations.Grant.TheVariants.{Hash}

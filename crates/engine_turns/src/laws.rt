@@ -2,6 +2,8 @@
 ghost use Rattle.engine_turns.specs.RunLaws.{ActiveAreGoing, EndedAreGone, GoneStay, InactiveAreIdle};
 ghost use Rattle.engine_turns.specs.TurnLaws.{HandedAreActive, MomentsNeverFall, TurnsAppend};
 ghost use Rattle.engine_turns.specs.WorkedTurns.{WorkedRows, WorkedTurns};
+ghost use Rattle.std.specs.Prelude.{◌≡◌};
+ghost use Rattle.engine_turns.specs.declared.limits.TheConstants.{MAX_ALLOWANCE, MAX_DELIVERY, MAX_ENTRIES};
 
 /// Turns append their events to the history; the pieces that they hand out are of active downloads; the moment of a turn is
 /// that of no earlier one at least. It does nothing when it runs.
@@ -27,4 +29,11 @@ pub fn active_downloads_are_going()
 pub fn downloads_go_on_once()
     ensures gone { GoneStay }
     ensures ended { EndedAreGone }
+{}
+
+/// The most events of a run, the most blocks of a delivery, and the most bytes let go at once. It does nothing when it runs.
+pub fn limits_are_told()
+    ensures entries { MAX_ENTRIES ≡ 16777216 }
+    ensures delivery { MAX_DELIVERY ≡ 64 }
+    ensures allowance { MAX_ALLOWANCE ≡ 1048576 }
 {}

@@ -1,7 +1,7 @@
 // What is asked of a run, and what it answers.
 use dl_kinds::{Blob, Gid, Mark, Moment, Run, Text};
 use machine_core::Call;
-use run_replies::Reply;
+use run_report::Reply;
 use span_map::Job;
 use verify_piece::Sealed;
 

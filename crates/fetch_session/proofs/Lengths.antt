@@ -16,7 +16,8 @@ use Rattle.span_map.specs.Jobs.{IsJobPart, parts_len}
 use Rattle.request_chain.specs.Exchanges.{Replies}
 use Rattle.request_chain.specs.Fetched.{FetchedBy}
 use Rattle.request_chain.specs.Plans.{FetchEnding, Done, Open, Lost, NextAsk, Ask, Over, plan_of, plan_behind, plan_at, rest_behind, asked_of, next_plan, unusable}
-use Rattle.request_chain.specs.Redirects.{moved_to, redirect_limit}
+use Rattle.request_chain.specs.Redirects.{moved_to}
+use Rattle.request_chain.specs.declared.course.TheConstants.{REDIRECT_LIMIT}
 use Rattle.fetch_session.specs.Lengths.{Fits, FetchedFits}
 
 len_of-cons : (part : JobPart) (parts : List JobPart) → parts_len (part ∷ parts) ≡ part.len + parts_len parts
@@ -96,7 +97,7 @@ module _ (streams : List Exchange) (fit : FitOver streams) (part : JobPart) (par
   away_fits got status location none =
       let no_bytes : length got ≡ 0 = ap length none in
       let some : 0 < part.len = is_part.some in
-      cond_both (nat_le redirect_limit count) (Over (Lost Redirects)) (plan_at part parts (count + 1) status (moved_to url location))
+      cond_both (nat_le REDIRECT_LIMIT count) (Over (Lost Redirects)) (plan_at part parts (count + 1) status (moved_to url location))
       (λ (plan : NextAsk). FetchedBy plan streams more ending [] → Fits (part ∷ parts) (got ++ more) ending)
       (λ often fetched. cut_short part parts got more ending fetched.0 (lost_not_done ending Redirects fetched.1) (omega (arith, no_bytes)))
       (λ few fetched. at_fits got status (moved_to url location) none fetched)

@@ -14,6 +14,7 @@ use Rattle.request_chain.specs.Plans.{FetchEnding, Done, Lost}
 use Rattle.request_chain.specs.Rests.{LetsGo, RestsOn, RestsWhole}
 use Rattle.request_chain.specs.Turns.{AsksFor, MayGoOn}
 use Rattle.request_chain.specs.declared.chain.Chain.{Chain}
+use Rattle.fetch_session.specs.declared.blocks.TheConstants.{MOST_READY}
 use Rattle.fetch_session.specs.Blocks.{cut, ready_blocks}
 use Rattle.span_map.specs.Jobs.{IsJob, parts_len, run_start}
 use Rattle.fetch_session.specs.declared.fetch.Fetch.{Fetch}
@@ -116,7 +117,7 @@ HandedIsFetched = (job : Job) (used : List Exchange) (handed : List ℕ) (fetch 
 
 -- A step ends where this many blocks are ready, where so many bytes came as are allowed, or where it holds back a loss.
 abbrev pub IsStopped : ℕ → Got → Option Loss → Type 0
-IsStopped allow got lost = (got.ready.count ≡ 64) ⊎ (got.taken ≡ allow) ⊎ IsSome lost
+IsStopped allow got lost = (got.ready.count ≡ MOST_READY) ⊎ (got.taken ≡ allow) ⊎ IsSome lost
 
 -- What a step gained: came is what came and wasn't handed out.
 pub record FetchSteps (job : Job) (before used : List Exchange) (handed : List ℕ) (now : List Exchange) (allow : ℕ) (got : Got) (new : Fetch) : Type 0 where
@@ -132,7 +133,7 @@ pub record FetchSteps (job : Job) (before used : List Exchange) (handed : List �
   pub few : got.taken ≤ allow
   pub full : (got.done ≡ true) ⊎ IsStopped allow got (lost_of new)
   -- a loss that the streams tell is held back, unless the step stopped before it
-  pub lost : (loss : Loss) → ending ≡ Lost loss → (lost_of new ≡ Some loss) ⊎ (got.ready.count ≡ 64) ⊎ (got.taken ≡ allow)
+  pub lost : (loss : Loss) → ending ≡ Lost loss → (lost_of new ≡ Some loss) ⊎ (got.ready.count ≡ MOST_READY) ⊎ (got.taken ≡ allow)
 
 -- What a step gained that lost the rest: no whole block came that wasn't handed out.
 pub record Fails (job : Job) (before used : List Exchange) (handed : List ℕ) (now : List Exchange) (allow : ℕ) (loss : Loss) (new : Fetch) : Type 0 where

@@ -2,6 +2,7 @@
 ghost use Rattle.std.specs.Prelude.{◌≡◌, ◌≤◌, ◌<◌, ◌+◌, ◌-◌, ◌++◌, min, vec_len, vec_capacity};
 ghost use Rattle.dl_kinds.specs.Plan.{blocks_of};
 ghost use Rattle.fetch_session.specs.Blocks.{cut, AreReady};
+ghost use Rattle.fetch_session.specs.declared.blocks.TheConstants.{MOST_READY};
 
 use dl_kinds::{Plan, Run};
 use std::mem;
@@ -22,12 +23,12 @@ pub fn cut(plan: &Plan, block: u32) -> u64
     }
 }
 
-/// How many bytes of the 64 blocks from the first one on, or of those up to the end, aren't there yet.
+/// How many bytes of the blocks from the first one on that may be ready, or of those up to the end, aren't there yet.
 pub fn missing(plan: &Plan, first: u32, end: u32, len: usize) -> u64
     requires first { first ≤ end }
     requires end { end ≤ blocks_of plan.now.total plan.now.piece_len }
-    requires bounded { cut plan.now first + len ≤ cut plan.now (min (first + 64) end) }
-    ensures value { cut plan.now first + len + result ≡ cut plan.now (min (first + 64) end) }
+    requires bounded { cut plan.now first + len ≤ cut plan.now (min (first + MOST_READY) end) }
+    ensures value { cut plan.now first + len + result ≡ cut plan.now (min (first + MOST_READY) end) }
 {
     let most = first.saturating_add(MOST_READY).min(end);
     cut(plan, most) - cut(plan, first) - len as u64
@@ -37,7 +38,7 @@ pub fn missing(plan: &Plan, first: u32, end: u32, len: usize) -> u64
 pub fn whole_from(plan: &Plan, first: u32, end: u32, len: usize) -> Run
     requires first { first ≤ end }
     requires end { end ≤ blocks_of plan.now.total plan.now.piece_len }
-    requires bounded { cut plan.now first + len ≤ cut plan.now (min (first + 64) end) }
+    requires bounded { cut plan.now first + len ≤ cut plan.now (min (first + MOST_READY) end) }
     ensures first { result.first ≡ first }
     ensures ready { AreReady plan.now end result len }
 {

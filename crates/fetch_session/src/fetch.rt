@@ -4,6 +4,8 @@ ghost use Rattle.std.specs.Option.{ForSome, ForNone};
 ghost use Rattle.dl_kinds.specs.Plan.{blocks_of};
 ghost use Rattle.reply_reader.specs.Losses.{IsKnown};
 ghost use Rattle.fetch_session.specs.Blocks.{AreReady};
+ghost use Rattle.fetch_session.specs.declared.blocks.TheConstants.{MOST_READY};
+ghost use Rattle.fetch_session.specs.declared.room.TheConstants.{BUFFER};
 ghost use Rattle.link_source.specs.Link.{LinkState};
 ghost use Rattle.link_source.specs.Exchanges.{Exchange};
 ghost use Rattle.request_chain.specs.Rests.{RestsOn, RestsWhole};
@@ -42,8 +44,8 @@ pub struct Fetch {
     lost: Option<Loss>,
     ghost within: { end ≤ blocks_of plan.total plan.piece_len },
     ghost holds: { AreReady plan end ready (vec_len held) },
-    ghost held_fits: { 1048576 ≤ vec_capacity held },
-    ghost spare_fits: { ForSome spare (λ buffer. 1048576 ≤ vec_capacity buffer) },
+    ghost held_fits: { BUFFER ≤ vec_capacity held },
+    ghost spare_fits: { ForSome spare (λ buffer. BUFFER ≤ vec_capacity buffer) },
     // Where blocks are ready, so is the buffer for what is behind them.
     ghost spare_is_in: { ForNone spare (ready.count ≡ 0) },
     ghost known: { ForSome lost IsKnown },
@@ -156,7 +158,7 @@ impl Fetch {
         // The ready blocks are the first ones that weren't handed out.
         ensures ready { IfOk result (λ got. got.ready ≡ ready_of self.new) }
         ensures within { (ready_of self.new).count ≤ (rest_of self.new).count }
-        ensures few { (ready_of self.new).count ≤ 64 }
+        ensures few { (ready_of self.new).count ≤ MOST_READY }
         ensures allowed { IfOk result (λ got. got.taken ≤ allow) }
         ensures done { IfOk result (λ got. IsTrue got.done
             ↔ (got.ready.count ≡ (rest_of self.new).count)) }
@@ -239,7 +241,7 @@ impl Fetch {
         requires some_room { 0 < room }
         requires may { IsTrue L.tells → MayStep self.old (L.state link.old) }
         requires room { cut self.old.plan self.old.ready.first + vec_len self.old.held + room
-            ≡ cut self.old.plan (min (self.old.ready.first + 64) self.old.end) }
+            ≡ cut self.old.plan (min (self.old.ready.first + MOST_READY) self.old.end) }
         ensures reads { IsTrue L.tells → (job : Job) (before used : List Exchange) (handed : List ℕ)
             → IsFetch job used handed self.old → Gains before (L.state link.old).exchanges used
             → MatchResult result
@@ -251,7 +253,7 @@ impl Fetch {
         ensures rest { rest_of self.new ≡ rest_of self.old }
         ensures ready { IfOk result (λ got. got.ready ≡ ready_of self.new) }
         ensures within { (ready_of self.new).count ≤ (rest_of self.new).count }
-        ensures few { (ready_of self.new).count ≤ 64 }
+        ensures few { (ready_of self.new).count ≤ MOST_READY }
         ensures allowed { IfOk result (λ got. got.taken ≤ allow) }
         ensures done { IfOk result (λ got. IsTrue got.done
             ↔ (got.ready.count ≡ (rest_of self.new).count)) }

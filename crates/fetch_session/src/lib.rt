@@ -8,7 +8,7 @@ mod probing;
 mod room;
 
 pub use fetch::{Fetch, Got};
-pub use laws::handed_bytes_are_fetched;
+pub use laws::{handed_bytes_are_fetched, limits_are_told};
 pub use probing::probe;
 pub use reply_reader::Loss;
 pub use room::FetchRoom;

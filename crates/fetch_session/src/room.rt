@@ -1,30 +1,32 @@
 // What a fetch reads with.
 ghost use Rattle.std.specs.Prelude.{◌≤◌, List, vec_capacity, IfOk};
 ghost use Rattle.std.specs.Option.{ForSome};
+ghost use Rattle.fetch_session.specs.declared.room.TheConstants.{BUFFER};
 
-use dl_kinds::NoMemory;
+use crate::blocks::MOST_READY;
+use dl_kinds::{BLOCK_LEN, NoMemory};
 use request_chain::ChainRoom;
 use std::alloc::Global;
 
-/// The bytes of 64 blocks.
-pub const BUFFER: usize = 1_048_576;
+/// The bytes of the most blocks that are ready at once.
+pub const BUFFER: usize = MOST_READY as usize * BLOCK_LEN as usize;
 
-/// A buffer for 64 blocks.
+/// A buffer for those blocks.
 pub fn make_buffer(alloc: Global) -> Result<Vec<u8>, NoMemory>
-    ensures { IfOk result (λ buffer. 1048576 ≤ vec_capacity buffer) }
+    ensures { IfOk result (λ buffer. BUFFER ≤ vec_capacity buffer) }
 {
     Vec::with_capacity(alloc, BUFFER)
 }
 
-/// What a fetch reads with: the room of its requests, and two buffers of 64 blocks each. The second one is missing
+/// What a fetch reads with: the room of its requests, and two buffers for the most blocks each. The second one is missing
 /// where a fetch handed it out and didn't get it back.
 #[derive(Debug, Drop)]
 pub struct FetchRoom {
     pub(crate) chain: ChainRoom,
     pub(crate) held: Vec<u8>,
     pub(crate) spare: Option<Vec<u8>>,
-    ghost held_fits: { 1048576 ≤ vec_capacity held },
-    ghost spare_fits: { ForSome spare (λ buffer. 1048576 ≤ vec_capacity buffer) },
+    ghost held_fits: { BUFFER ≤ vec_capacity held },
+    ghost spare_fits: { ForSome spare (λ buffer. BUFFER ≤ vec_capacity buffer) },
 }
 
 impl FetchRoom {

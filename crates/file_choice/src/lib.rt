@@ -4,6 +4,5 @@
 mod pieces;
 mod selection;
 
-pub use bit_rows::NoMemory;
 pub use pieces::{all_wanted, wanted_row};
 pub use selection::selected;

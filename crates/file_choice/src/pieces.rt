@@ -5,10 +5,9 @@ ghost use Rattle.option_set.specs.Files.{IsFileList};
 ghost use Rattle.file_choice.specs.Selected.{wanted_of_files};
 ghost use Rattle.file_choice.specs.Sweeps.{AreMarked, IsSetBetween};
 
-use crate::NoMemory;
 use crate::selection::selected;
 use bit_rows::BitRow;
-use dl_kinds::Plan;
+use dl_kinds::{NoMemory, Plan};
 use span_map::Layout;
 use std::alloc::Global;
 

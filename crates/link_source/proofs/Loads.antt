@@ -7,7 +7,7 @@ use Rattle.std.specs.Int.{byte_at, bytes_low_first}
 use Rattle.std.specs.List.{range_with_len}
 use Rattle.std.specs.Prelude.{◌^◌, bit_xor}
 use Rattle.rand_xoshiro.specs.SplitMix64.{mix_u64}
-use Rattle.dl_words.specs.Lists.{part_at}
+use Rattle.dl_kinds.specs.Lists.{part_at}
 use Rattle.link_source.specs.Load.{folded, load_byte, load_bytes, load_part, load_word}
 
 -- ---- parts

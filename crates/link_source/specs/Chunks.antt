@@ -3,7 +3,7 @@ use Rattle.std.specs.Prelude.{ℕ, ◌*◌, false, List, [], ◌++◌, length, f
 use Rattle.std.specs.Fmt.{digits}
 use Rattle.std.specs.Int.{div_ceil}
 use Rattle.std.specs.List.{range_with_len}
-use Rattle.dl_words.specs.Lists.{part_at}
+use Rattle.dl_kinds.specs.Lists.{part_at}
 use Rattle.link_source.specs.Requests.{ended_line}
 
 -- the size in hexadecimal digits, and the bytes

@@ -2,7 +2,7 @@
 -- ones in their place.
 use Rattle.std.specs.Prelude.{ℕ, ◌-◌, ◌+◌, Bool, true, false, List, [], ◌++◌, length, take, min, nat_lt, nat_le, slice_index, slice_set, bit_xor, codes, Option, Some, None, if◌then◌else◌}
 use Rattle.std.specs.Fmt.{decimal}
-use Rattle.dl_words.specs.Lists.{part_at}
+use Rattle.dl_kinds.specs.Lists.{part_at}
 use Rattle.link_source.specs.Chunks.{in_chunks}
 use Rattle.link_source.specs.Requests.{ended_line}
 use Rattle.link_source.specs.declared.bad_answers.Bad.{Bad}

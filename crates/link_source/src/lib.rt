@@ -9,7 +9,6 @@ ghost use Rattle.link_source.specs.declared.exchanges.TheConstants.{MOST_RECEIVE
 use dl_kinds::IoErr;
 
 mod bad_answers;
-mod calls;
 mod chunks;
 mod due;
 mod endpoint;
@@ -25,7 +24,7 @@ mod resources;
 pub use bad_answers::{Bad, BadKind};
 pub use endpoint::{EndErr, Endpoint, is_usable};
 pub use exchanges::MOST_RECEIVED;
-pub use laws::requests_are_read_once;
+pub use laws::{limits_are_told, requests_are_read_once};
 pub use load::load_part;
 pub use memory::MemLinks;
 pub use mirrors::{Manner, MemFile, MemMirror};

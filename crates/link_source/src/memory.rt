@@ -4,11 +4,10 @@ ghost use Rattle.link_source.specs.Memory.{GivesTextBehind};
 
 use crate::Links;
 use crate::bad_answers::{Bad, BadAnswers};
-use crate::calls::Calls;
 use crate::due::Due;
 use crate::exchanges::{MemExchanges, MemPeer};
 use crate::mirrors::{Answered, MemMirror, answer, is_unknown, unanswered};
-use dl_kinds::{IoErr, NoMemory};
+use dl_kinds::{Calls, IoErr, NoMemory};
 use std::alloc::{AllocError, Global};
 
 /// A link to mirrors in memory. A dial to a host and a port that no mirror has is a fault. Each `send` is one whole

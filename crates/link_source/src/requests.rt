@@ -7,7 +7,7 @@ ghost use Rattle.link_source.specs.Reading.{between_of, IsSplitAt, EndsInNumber,
 ghost use Rattle.link_source.specs.Requests.{Asks};
 
 use crate::endpoint::host_field;
-use dl_words::numeral_value;
+use dl_kinds::numeral_value;
 use std::alloc::{AllocError, Global};
 
 /// What a request asks for: the bytes from first to last of a target.

@@ -1,6 +1,6 @@
 // Resources of mirrors in memory.
 ghost use Rattle.std.specs.Prelude.{◌≡◌, ◌+◌, ◌≤◌, ◌<◌, ◌^◌, length, IfOk};
-ghost use Rattle.dl_words.specs.Lists.{part_at};
+ghost use Rattle.dl_kinds.specs.Lists.{part_at};
 ghost use Rattle.link_source.specs.Resources.{bytes_of};
 
 use crate::load::load_part;

@@ -1,5 +1,6 @@
 -- The names on a disk that a download writes (aria2 manual, "Resuming Download").
-use Rattle.std.specs.Prelude.{◌≡◌, ◌⊎◌, ℕ, ◌++◌, Option, Some, None, List, [], ◌∷◌, codes, Any}
+use Rattle.std.specs.Prelude.{◌≡◌, ◌⊎◌, ℕ, Option, Some, None, List, [], ◌∷◌, Any}
+use Rattle.control_file.specs.Names.{control_of, temporary_of}
 use Rattle.std.specs.Option.{unwrap_or}
 use Rattle.option_set.specs.Values.{text_of_word}
 use Rattle.option_set.specs.declared.kinds.Word.TheVariants.{Dir, Out}
@@ -32,8 +33,8 @@ pub record WritesName (download : Download) (name : List ℕ) : Type 0 where
   pub base : List ℕ
   pub named : IsPayloadName download download.subject base
   pub is : IsFileName download download.subject base name
-      ⊎ (name ≡ name_of (folder_in download) (base ∷ []) ++ codes ".aria2")
-      ⊎ (name ≡ name_of (folder_in download) (base ∷ []) ++ codes ".aria2__temp")
+      ⊎ (name ≡ control_of (name_of (folder_in download) (base ∷ [])))
+      ⊎ (name ≡ temporary_of (name_of (folder_in download) (base ∷ [])))
 
 pub record ShareName (one other : Download) : Type 0 where
   pub name : List ℕ

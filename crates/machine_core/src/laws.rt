@@ -4,6 +4,9 @@ ghost use Rattle.machine_core.specs.RunLegal.{DownloadsAreLegal, DownloadsStay, 
 ghost use Rattle.machine_core.specs.RunSteps.{AccountsMatchRuns, OpenedHavePlans, StepsStayLegal};
 ghost use Rattle.machine_core.specs.WorkedAnswers.{WorkedAnswers};
 ghost use Rattle.machine_core.specs.WorkedRuns.{WorkedRuns};
+ghost use Rattle.std.specs.Prelude.{◌≡◌};
+ghost use Rattle.machine_core.specs.declared.gids.TheConstants.{GID_STEP};
+ghost use Rattle.machine_core.specs.declared.journal.TheConstants.{TURN_EVENTS};
 
 use dl_history::{accounts_match_events, histories_are_sound};
 use dl_kinds::plan_laws;
@@ -64,4 +67,10 @@ pub fn worked_runs_are_told()
 /// What the definitions say of the answers of calls in worked runs.
 pub fn worked_answers_are_told()
     ensures { WorkedAnswers }
+{}
+
+/// The events that a turn needs room for, and what a made GID is multiplied by. It does nothing when it runs.
+pub fn limits_are_told()
+    ensures turn { TURN_EVENTS ≡ 256 }
+    ensures step { GID_STEP ≡ 11400714819323198485 }
 {}

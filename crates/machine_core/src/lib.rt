@@ -41,9 +41,8 @@ pub use handed::{Handed, HandedPieces};
 pub use journal::{Journal, MAX_BEFORE_TURN, MAX_EVENTS, TURN_EVENTS};
 pub use laws::{
     accounts_match_runs, downloads_are_legal, downloads_stay, known_downloads_are_idle,
-    steps_stay_legal, worked_answers_are_told, worked_runs_are_told,
+    limits_are_told, steps_stay_legal, worked_answers_are_told, worked_runs_are_told,
 };
 pub use machine::Machine;
 pub use offers::{Offer, Offered};
-pub use std::alloc::AllocError as NoMemory;
 pub use wants::{payload_folder, payload_name, wants_stay};

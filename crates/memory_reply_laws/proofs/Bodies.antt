@@ -10,7 +10,7 @@ use Rattle.std.specs.Prelude.{codes, true, false, ◌==◌, if◌then◌else◌,
 use Rattle.body_frames.specs.Bodies.{StreamBody, body_of, with_front, Length, Chunked, ToEnd}
 use Rattle.body_frames.specs.Lines.{Standing, Whole, Short}
 use Rattle.body_frames.specs.Written.{WritesSize, ChunkIsRead, LastChunkIsRead}
-use Rattle.dl_words.specs.Lists.{part_at}
+use Rattle.dl_kinds.specs.Lists.{part_at}
 use Rattle.link_source.specs.Chunks.{chunk_at, chunk_count, in_chunks, last_chunk}
 use Rattle.link_source.specs.Requests.{ended_line}
 use Rattle.memory_reply_laws.specs.Replies.{ToldContentIsPlain}

@@ -7,8 +7,8 @@ use Rattle.body_frames.specs.Lines.{Whole, Wrong}
 use Rattle.range_http.specs.declared.asked.Asked.{Asked}
 use Rattle.range_http.specs.declared.framing.Framing.{Framing}
 use Rattle.range_http.specs.declared.verdict.Verdict.{Verdict}
-use Rattle.range_http.specs.HeadLaws.{HeadComesWhole, HeadStoodBefore}
-use Rattle.range_http.specs.Heads.{IsUnfinished}
+use Rattle.http_heads.specs.HeadLaws.{HeadComesWhole, HeadStoodBefore}
+use Rattle.http_heads.specs.Heads.{IsUnfinished}
 use Rattle.memory_reply_laws.specs.Reading.{BeginsWithHead, ContentComes, framing_seen}
 use Rattle.memory_reply_laws.specs.Replies.{FrontsAreRead, HeadFrontsAreRead}
 

@@ -9,13 +9,13 @@ use Rattle.std.specs.Fmt.{decimal}
 use Rattle.std.specs.Prelude.{Option, Some, None, codes}
 use Rattle.httparse.specs.Grammar.{is_token_byte}
 use Rattle.body_frames.specs.Written.{ChunkIsRead, LastChunkIsRead}
-use Rattle.dl_words.specs.Lists.{part_at}
+use Rattle.dl_kinds.specs.Lists.{part_at}
 use Rattle.link_source.specs.Replies.{length_line, part_head, part_reply, body_text, text_of}
 use Rattle.link_source.specs.Requests.{ended_line}
 use Rattle.range_http.specs.declared.asked.Asked.{Asked}
 use Rattle.range_http.specs.declared.framing.Framing.{Framing}
 use Rattle.range_http.specs.declared.framing.Framing.TheVariants.{Length, Chunked as InChunks}
-use Rattle.range_http.specs.declared.head.Head.{Head}
+use Rattle.http_heads.specs.declared.head.Head.{Head}
 use Rattle.range_http.specs.declared.range.ContentRange.{ContentRange}
 use Rattle.range_http.specs.declared.verdict.Verdict.TheVariants.{Part}
 use Rattle.range_http.specs.Framing.{framing_of}

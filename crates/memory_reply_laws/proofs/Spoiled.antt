@@ -4,7 +4,7 @@ use Rattle.std.proofs.Math.Seq.{take-set-lt, set_out}
 use Rattle.std.proofs.lemmas.Bool.{cond-true, cond-false, cases_lt, le-leb, lt-leb}
 use Rattle.std.proofs.lemmas.List.{drop-set-lt, drop-set-add, take-set-le, length-set, get_or-take, get_or-drop, take-append-drop}
 use Rattle.std.specs.Prelude.{bit_xor, nat_le, nat_lt, min}
-use Rattle.dl_words.specs.Lists.{part_at}
+use Rattle.dl_kinds.specs.Lists.{part_at}
 use Rattle.link_source.specs.Replies.{Reply, bare_reply, body_text, flipped, not_satisfiable, part_head, ranges_reply, whole_head, whole_reply}
 use Rattle.link_source.specs.declared.mirrors.Manner.TheVariants.{Ranges, Whole, Chunked, ToEnd}
 use Rattle.memory_reply_laws.specs.BadReplies.{with_turned, FlippedIsTrue, BareIsNotFlipped, CutIsFront}

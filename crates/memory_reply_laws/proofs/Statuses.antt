@@ -16,8 +16,8 @@ use Rattle.range_http.specs.declared.framing.Framing.TheVariants.{Length}
 use Rattle.range_http.specs.declared.verdict.Verdict.{Verdict}
 use Rattle.range_http.specs.declared.verdict.Verdict.TheVariants.{Empty, Moved, NotFound}
 use Rattle.range_http.specs.Framing.{framing_of}
-use Rattle.range_http.specs.HeadLaws.{HeadComesWhole}
-use Rattle.range_http.specs.Heads.{IsNoHead}
+use Rattle.http_heads.specs.HeadLaws.{HeadComesWhole}
+use Rattle.http_heads.specs.Heads.{IsNoHead}
 use Rattle.range_http.specs.Range.{WritesNumber, ◌>>=◌}
 use Rattle.range_http.specs.RangeLaws.{NumbersAreRead}
 use Rattle.range_http.specs.Verdict.{framed_verdict, whole_verdict, content_verdict, is_moved, is_empty, overloaded, unauthorized, unexpected, verdict_of}

@@ -17,7 +17,7 @@ use Rattle.range_http.specs.declared.framing.Framing.TheVariants.{Length, ToEnd}
 use Rattle.range_http.specs.declared.range.ContentRange.{ContentRange}
 use Rattle.range_http.specs.declared.verdict.Verdict.TheVariants.{Whole, Empty, NotFound}
 use Rattle.range_http.specs.Framing.{framing_of}
-use Rattle.range_http.specs.Heads.{IsHead}
+use Rattle.http_heads.specs.Heads.{IsHead}
 use Rattle.range_http.specs.Range.{IsContentRange, ◌>>=◌}
 use Rattle.range_http.specs.RangeLaws.{NumbersAreRead, RangesAreRead}
 use Rattle.range_http.specs.Verdict.{sized, framed_verdict, told_range, is_empty_range, verdict_of}

@@ -17,9 +17,10 @@ use Rattle.body_frames.specs.Bodies.{body_of}
 use Rattle.body_frames.specs.Lines.{Whole}
 use Rattle.range_http.specs.declared.asked.Asked.{Asked}
 use Rattle.range_http.specs.declared.framing.Framing.{Framing}
-use Rattle.range_http.specs.declared.head.Head.{Head}
+use Rattle.http_heads.specs.declared.head.Head.{Head}
 use Rattle.range_http.specs.declared.verdict.Verdict.{Verdict}
-use Rattle.range_http.specs.Heads.{IsHead, entry_of}
+use Rattle.http_heads.specs.Fields.{entry_of}
+use Rattle.http_heads.specs.Heads.{IsHead}
 use Rattle.range_http.specs.Verdict.{verdict_of}
 use Rattle.memory_reply_laws.specs.Reading.{BeginsWithHead, ReadsAs, framing_seen}
 

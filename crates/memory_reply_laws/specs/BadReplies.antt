@@ -4,7 +4,7 @@ use Rattle.link_source.specs.Mirrors.{content_reply}
 use Rattle.link_source.specs.Replies.{Reply, bare_reply, body_text, flipped, spoiled_text, status_head, text_of}
 use Rattle.link_source.specs.declared.bad_answers.BadKind.TheVariants.{Cut}
 use Rattle.link_source.specs.declared.mirrors.Manner.{Manner}
-use Rattle.range_http.specs.Heads.{IsNoHead, IsUnfinished}
+use Rattle.http_heads.specs.Heads.{IsNoHead, IsUnfinished}
 use Rattle.range_http.specs.Verdict.{sized, overloaded, unauthorized, unexpected}
 use Rattle.range_http.specs.declared.asked.Asked.{Asked}
 use Rattle.range_http.specs.declared.framing.Framing.TheVariants.{Length}

@@ -6,11 +6,11 @@ use Rattle.link_source.specs.Replies.{moved}
 use Rattle.range_http.specs.declared.asked.Asked.{Asked}
 use Rattle.range_http.specs.declared.framing.Framing.{Framing}
 use Rattle.range_http.specs.declared.framing.Framing.TheVariants.{Length, Chunked, ToEnd}
-use Rattle.range_http.specs.declared.head.Head.{Head}
+use Rattle.http_heads.specs.declared.head.Head.{Head}
 use Rattle.range_http.specs.declared.verdict.Verdict.{Verdict}
 use Rattle.range_http.specs.declared.verdict.Verdict.TheVariants.{Moved}
 use Rattle.range_http.specs.Fields.{IsLocation}
-use Rattle.range_http.specs.Heads.{IsHead, IsUnfinished}
+use Rattle.http_heads.specs.Heads.{IsHead, IsUnfinished}
 use Rattle.range_http.specs.Verdict.{verdict_of}
 
 -- the bytes begin with a head of this status and length, which means this for what was asked

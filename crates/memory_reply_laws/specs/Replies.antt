@@ -1,6 +1,6 @@
 -- How the replies of mirrors in memory are read (RFC 9110 sections 14.4, 15.3.1, 15.3.7, 15.4.3 and 15.5.5).
 use Rattle.std.specs.Prelude.{◌≡◌, ℕ, ◌+◌, ◌-◌, ◌^◌, ◌<◌, ◌≤◌, List, ◌++◌, length, drop, min, Some, None}
-use Rattle.dl_words.specs.Lists.{part_at}
+use Rattle.dl_kinds.specs.Lists.{part_at}
 use Rattle.link_source.specs.Mirrors.{content_reply}
 use Rattle.link_source.specs.Replies.{bare_reply, moved, not_found, not_satisfiable, text_of}
 use Rattle.link_source.specs.declared.mirrors.Manner.TheVariants.{Ranges, Whole, Chunked, ToEnd}

@@ -4,7 +4,8 @@ ghost use Rattle.memory_reply_laws.specs.BadReplies.{FlippedIsTrue, BareIsNotFli
 ghost use Rattle.memory_reply_laws.specs.Replies.{PartIsRead, ChunkedPartIsRead, WholeIsRead, StreamIsRead, MovedIsRead, NotFoundIsRead, EmptyIsRead, ToldContentIsPlain, FrontsAreRead, HeadFrontsAreRead};
 
 use body_frames::{chunks_are_read, pieces_join};
-use range_http::{heads_are_one_and_stay, numbers_and_ranges_are_read};
+use http_heads::heads_are_one_and_stay;
+use range_http::numbers_and_ranges_are_read;
 
 /// How each reply is read: by its head the verdict, and behind it the content.
 pub fn replies_are_read()

@@ -4,7 +4,7 @@ use Rattle.link_source.specs.Mirrors.{Content, mirror_at, number_at}
 use Rattle.link_source.specs.Exchanges.{Exchange}
 use Rattle.link_source.specs.Files.{MemFile}
 use Rattle.request_chain.specs.Answered.{GaveAll}
-use Rattle.request_chain.specs.Redirects.{redirect_limit}
+use Rattle.request_chain.specs.declared.course.TheConstants.{REDIRECT_LIMIT}
 use Rattle.memory_serving_laws.specs.Alike.{AnswersKeepMirrors, LeadsAlike, LeadsAmongAlike, LeadsToSizeAlike}
 use Rattle.memory_serving_laws.specs.Leads.{StandsAt, Redirects, Leads}
 use Rattle.memory_serving_laws.specs.Serving.{LeadsThrough, NamesMirror, used_among}
@@ -86,4 +86,4 @@ pub leads_to_size_alike : LeadsToSizeAlike
 leads_to_size_alike old new most url size same is = leads-to old new same most url size is
 
 pub leads_among_alike : LeadsAmongAlike
-leads_among_alike old new among url same is number is_through = is number (through new old (sym same) redirect_limit url number is_through)
+leads_among_alike old new among url same is number is_through = is number (through new old (sym same) REDIRECT_LIMIT url number is_through)

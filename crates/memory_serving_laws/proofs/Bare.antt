@@ -5,10 +5,10 @@ use Rattle.std.proofs.lemmas.List.{drop_all}
 use Rattle.link_source.specs.Replies.{status_head}
 use Rattle.range_http.specs.declared.asked.Asked.{Asked}
 use Rattle.range_http.specs.declared.framing.Framing.TheVariants.{Length}
-use Rattle.range_http.specs.declared.head.Head.{Head}
+use Rattle.http_heads.specs.declared.head.Head.{Head}
 use Rattle.range_http.specs.declared.verdict.Verdict.{Verdict}
 use Rattle.range_http.specs.declared.verdict.Verdict.TheVariants.{Whole, WrongLength, NotFound}
-use Rattle.range_http.specs.Heads.{IsUnfinished}
+use Rattle.http_heads.specs.Heads.{IsUnfinished}
 use Rattle.range_http.specs.Verdict.{sized, overloaded, unauthorized, unexpected, verdict_of}
 use Rattle.memory_reply_laws.specs.BadReplies.{StatusIsReadOrNone, NothingIsUnfinished, bare_verdict}
 use Rattle.reply_reader.specs.Answers.{Due, Lost, Answer, Answers, head_due, without_bytes, answer_by}

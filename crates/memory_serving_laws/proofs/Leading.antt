@@ -5,9 +5,9 @@ use Rattle.link_source.specs.Files.{MemFile, Bytes, Moved}
 use Rattle.link_source.specs.Mirrors.{Content}
 use Rattle.link_source.specs.Replies.{bare_reply, moved, text_of}
 use Rattle.memory_reply_laws.specs.Replies.{MovedIsRead}
-use Rattle.range_http.specs.Fields.{sole}
+use Rattle.http_heads.specs.Fields.{sole}
 use Rattle.range_http.specs.Verdict.{verdict_of}
-use Rattle.range_http.specs.declared.head.Head.{Head}
+use Rattle.http_heads.specs.declared.head.Head.{Head}
 use Rattle.range_http.specs.declared.verdict.Verdict.TheVariants.{Moved as HasMoved}
 use Rattle.reply_reader.specs.HeadLaws.{HasOneFinalHead}
 use Rattle.reply_reader.specs.Heads.{HasFinalHead}

@@ -3,7 +3,7 @@ use Rattle.std.proofs.Common.{◌≡◌, ◌⊎◌, inl, inr, ℕ, ◌+◌, ◌<
 use Rattle.std.proofs.lemmas.Bool.{cases_lt, cond-true, cond-false, le-ltb, lt-ltb, lt-leb}
 use Rattle.std.proofs.lemmas.List.{length-map, length-replicate, replicate-append-replicate}
 use Rattle.std.specs.Prelude.{Option, Some, None, nat_lt, nat_le}
-use Rattle.dl_words.specs.Lists.{part_at}
+use Rattle.dl_kinds.specs.Lists.{part_at}
 use Rattle.link_source.specs.Mirrors.{Content}
 use Rattle.link_source.specs.Exchanges.{Exchange}
 use Rattle.link_source.specs.Files.{Bytes}
@@ -16,7 +16,8 @@ use Rattle.request_chain.specs.Answered.{Gave}
 use Rattle.request_chain.specs.Exchanges.{Replies}
 use Rattle.request_chain.specs.Fetched.{FetchedBy}
 use Rattle.request_chain.specs.Plans.{FetchEnding, Done, Open, Lost, NextAsk, Ask, Over, plan_of, asked_of, rest_behind, plan_behind, plan_at, next_plan}
-use Rattle.request_chain.specs.Redirects.{redirect_limit, moved_to}
+use Rattle.request_chain.specs.Redirects.{moved_to}
+use Rattle.request_chain.specs.declared.course.TheConstants.{REDIRECT_LIMIT}
 use Rattle.memory_serving_laws.specs.Charges.{BadAnswersPay, IsPaidFor, differing, lost_known, next_known}
 use Rattle.memory_serving_laws.specs.Leads.{StandsAt}
 use Rattle.memory_serving_laws.specs.Serving.{NamesMirror, used_among}
@@ -190,7 +191,7 @@ module _ (laws : Laws) (among : ℕ → Bool) (content : Content) where
       plan-there : (on : LeadsOn content served.left url served.resource)
           → next_plan part parts url count (Away on.redirects.head.status on.redirects.text) ≡ Ask part parts on.next (count + 1) on.redirects.head.status
       plan-there on =
-          cond-false (nat_le redirect_limit count) _ _ (lt-leb redirect_limit count (omega (arith, served.counts, on.one)))
+          cond-false (nat_le REDIRECT_LIMIT count) _ _ (lt-leb REDIRECT_LIMIT count (omega (arith, served.counts, on.one)))
           ∙ ap (plan_at part parts (count + 1) on.redirects.head.status) on.redirects.next_is
 
       -- it has moved from there
@@ -336,7 +337,7 @@ module _ (laws : Laws) (among : ℕ → Bool) (content : Content) where
             later = known;
             known_is = refl;
             as_long = ap length none_came;
-            expects = moves-on (nat_le redirect_limit count) status location;
+            expects = moves-on (nat_le REDIRECT_LIMIT count) status location;
             paid = omega (arith, ap (λ got. differing got []) none_came, no-fewer);
           })))
       by-turn (LostTurn loss) is =

@@ -3,21 +3,21 @@ use Rattle.std.proofs.Common.{◌≡◌, ◌⊎◌, inl, inr, ℕ, zero, suc, �
 use Rattle.std.proofs.lemmas.List.Elements.{All-head, All-tail}
 use Rattle.std.specs.Prelude.{All, Option, Some, None}
 use Rattle.memory_serving_laws.specs.Charges.{AreKnownOf, IsKnownOf, next_known}
-use Rattle.dl_words.specs.Lists.{part_at}
+use Rattle.dl_kinds.specs.Lists.{part_at}
 use Rattle.link_source.specs.Endpoint.{IsUsable}
 use Rattle.link_source.specs.Files.{MemFile, Bytes}
 use Rattle.memory_serving_laws.specs.Leads.{StandsAt, Redirects, Leads}
 use Rattle.link_source.specs.Mirrors.{Content}
 use Rattle.span_map.specs.Jobs.{IsJobPart}
 use Rattle.request_chain.specs.Plans.{Done, Open, Lost, NextAsk, Ask, Over, plan_of}
-use Rattle.request_chain.specs.Redirects.{redirect_limit}
+use Rattle.request_chain.specs.declared.course.TheConstants.{REDIRECT_LIMIT}
 use Rattle.memory_serving_laws.specs.Serving.{LeadsThrough, NamesMirror}
 use Rattle.span_map.specs.declared.jobs.JobPart.{JobPart}
 
 -- the URL leads within the redirects that are left to a resource with the part, whose bytes are known
 pub record IsServed (content : Content) (among : ℕ → Bool) (part : JobPart) (url : List ℕ) (count : ℕ) (known : List (Option ℕ)) : Type 0 where
   pub left : ℕ
-  pub counts : count + left ≡ redirect_limit
+  pub counts : count + left ≡ REDIRECT_LIMIT
   pub resource : List ℕ
   pub leads : Leads content left url resource
   pub size : length resource ≡ part.total
@@ -61,7 +61,7 @@ plan_expects content among (part ∷ parts) known parts_are smalls (front, rest,
   where
     served : IsKnownOf content among part front → IsServed content among part part.url 0 front ⊎ (front ≡ replicate part.len None)
     served (inl (bytes, serves, leads, known_is)) = inl (record {
-      left = redirect_limit;
+      left = REDIRECT_LIMIT;
       counts = refl;
       resource = serves.resource;
       leads = serves.leads;

@@ -14,7 +14,7 @@ use Rattle.link_source.specs.declared.bad_answers.BadKind.{BadKind}
 use Rattle.link_source.specs.declared.bad_answers.BadKind.TheVariants.{Status, Cut, Flip}
 use Rattle.link_source.specs.declared.mirrors.Manner.{Manner}
 use Rattle.link_source.specs.declared.mirrors.Manner.TheVariants.{Ranges, Whole, Chunked, ToEnd}
-use Rattle.range_http.specs.declared.head.Head.{Head}
+use Rattle.http_heads.specs.declared.head.Head.{Head}
 use Rattle.range_http.specs.declared.verdict.Verdict.{Verdict}
 use Rattle.range_http.specs.declared.verdict.Verdict.TheVariants.{NotFound}
 use Rattle.range_http.specs.Verdict.{overloaded, unauthorized, unexpected, verdict_of}
@@ -27,7 +27,7 @@ use Rattle.reply_reader.specs.declared.loss.Loss.{Loss}
 use Rattle.reply_reader.specs.declared.loss.Loss.TheVariants as losses
 use Rattle.request_chain.specs.Answered.{Gave, GaveAnswer}
 use Rattle.request_chain.specs.Probes.{Probe, Due, Told, Away, Lost, ProbeAnswers, ProbeReplies, ProbedBy, Search, At, Found, next_search, search_at, probe_asked, probe_by}
-use Rattle.request_chain.specs.Redirects.{redirect_limit}
+use Rattle.request_chain.specs.declared.course.TheConstants.{REDIRECT_LIMIT}
 use Rattle.memory_serving_laws.specs.Leads.{Redirects}
 use Rattle.memory_serving_laws.specs.Serving.{LeadsThrough, NamesMirror, used_among}
 use Rattle.memory_serving_laws.specs.Sizes.{TellsSize, LeadsToSize, misses, BadAnswersPayProbes, ServedSizeIsTold}
@@ -244,7 +244,7 @@ module _ (laws : Laws) (none_stays : NoFinalHeadStays) (empty : EmptyIsRead) (am
   -- the URL leads within the redirects that are left to a resource whose length is told
   record IsSought (url : List ℕ) (count size : ℕ) : Type 0 where
     left : ℕ
-    counts : count + left ≡ redirect_limit
+    counts : count + left ≡ REDIRECT_LIMIT
     leads : LeadsToSize old left url size
     through : (number : ℕ) → LeadsThrough old left url number → among number ≡ true
 
@@ -308,7 +308,7 @@ module _ (laws : Laws) (none_stays : NoFinalHeadStays) (empty : EmptyIsRead) (am
           through = λ number through. sought.through number (subst (λ n. LeadsThrough old n url number) (sym is) (inr (next, on, through)));
         } in
         let search : next_search url count (Away on.head.status on.text) ≡ At next (count + 1) on.head.status =
-        cond-false (nat_le redirect_limit count) _ _ (lt-leb redirect_limit count (omega (arith, sought.counts, is)))
+        cond-false (nat_le REDIRECT_LIMIT count) _ _ (lt-leb REDIRECT_LIMIT count (omega (arith, sought.counts, is)))
         ∙ ap (λ place. search_at place (count + 1) on.head.status) on.next_is in
         next-by (Away on.head.status on.text) (place-told at after url stream due probe mirrors replies named gave next on)
         (subst (λ s. Seeks s size) (sym search) sought_there)
@@ -341,7 +341,7 @@ probes_are_paid_for laws none_stays empty old link gained among url size probe h
     let top = top_of among old has.before link has.answered in
     let each = gave_each old link.content has.before link.exchanges gained top.top has.gains top.on_top top.gave in
     probes laws none_stays empty among old (At url 0 0) gained probe size old link.content refl
-    (record { left = redirect_limit; counts = refl; leads = leads; through = through }) each probed
+    (record { left = REDIRECT_LIMIT; counts = refl; leads = leads; through = through }) each probed
 
 told-or-due : (size : ℕ) (probe : Probe) → misses size probe ≤ 0 → (probe ≡ Due) ⊎ (probe ≡ Told size)
 told-or-due size Due none = inl refl

@@ -4,7 +4,7 @@ use Rattle.std.proofs.lemmas.Bool.{cond-true, eq-eqb}
 use Rattle.std.proofs.lemmas.List.{take_all}
 use Rattle.std.specs.Prelude.{nat_le, nat_lt, codes, Option, Some, unwrap_or}
 use Rattle.body_frames.specs.Bodies.{StreamBody, content_of}
-use Rattle.dl_words.specs.Lists.{part_at}
+use Rattle.dl_kinds.specs.Lists.{part_at}
 use Rattle.link_source.specs.Mirrors.{content_reply}
 use Rattle.link_source.specs.Replies.{text_of}
 use Rattle.link_source.specs.declared.mirrors.Manner.{Manner}
@@ -12,10 +12,11 @@ use Rattle.link_source.specs.declared.mirrors.Manner.TheVariants as manners
 use Rattle.range_http.specs.declared.asked.Asked.{Asked}
 use Rattle.range_http.specs.declared.framing.Framing.{Framing}
 use Rattle.range_http.specs.declared.framing.Framing.TheVariants.{Length, Chunked, ToEnd}
-use Rattle.range_http.specs.declared.head.Head.{Head}
+use Rattle.http_heads.specs.declared.head.Head.{Head}
 use Rattle.range_http.specs.declared.verdict.Verdict.{Verdict}
 use Rattle.range_http.specs.declared.verdict.Verdict.TheVariants.{Part, Whole, Moved}
-use Rattle.range_http.specs.Fields.{values_of, sole}
+use Rattle.http_heads.specs.Fields.{sole}
+use Rattle.range_http.specs.Fields.{values_of}
 use Rattle.range_http.specs.Verdict.{verdict_of}
 use Rattle.memory_reply_laws.specs.Reading.{BeginsWithHead, ReadsAs, IsKnownAs, framing_seen}
 use Rattle.memory_reply_laws.specs.Replies.{AsksWithin, PartIsRead, ChunkedPartIsRead, WholeIsRead, StreamIsRead, last_of}

@@ -5,10 +5,11 @@ use Rattle.link_source.specs.Mirrors.{Content, Mirror, mirror_at, file_at}
 use Rattle.link_source.specs.Replies.{bare_reply, moved, text_of}
 use Rattle.link_source.specs.declared.endpoint.Endpoint.{Endpoint}
 use Rattle.memory_reply_laws.specs.Reading.{IsReadable}
-use Rattle.range_http.specs.Fields.{values_of, sole}
+use Rattle.http_heads.specs.Fields.{sole}
+use Rattle.range_http.specs.Fields.{values_of}
 use Rattle.range_http.specs.Verdict.{verdict_of}
 use Rattle.range_http.specs.declared.asked.Asked.{Asked}
-use Rattle.range_http.specs.declared.head.Head.{Head}
+use Rattle.http_heads.specs.declared.head.Head.{Head}
 use Rattle.range_http.specs.declared.verdict.Verdict.TheVariants.{Moved as HasMoved}
 use Rattle.reply_reader.specs.Heads.{HasFinalHead}
 use Rattle.request_chain.specs.Exchanges.{LeadsTo}

@@ -1,17 +1,17 @@
 -- What mirrors in memory serve of parts of resources.
 use Rattle.std.specs.Prelude.{◌≡◌, ◌⊎◌, ℕ, zero, suc, Bool, true, List, [], ◌∷◌, ◌++◌, length, count_by, Some}
-use Rattle.dl_words.specs.Lists.{part_at}
+use Rattle.dl_kinds.specs.Lists.{part_at}
 use Rattle.memory_serving_laws.specs.Leads.{Leads, Redirects}
 use Rattle.link_source.specs.Mirrors.{Content, number_at}
 use Rattle.link_source.specs.declared.endpoint.Endpoint.{Endpoint}
 use Rattle.request_chain.specs.Exchanges.{LeadsTo}
-use Rattle.request_chain.specs.Redirects.{redirect_limit}
+use Rattle.request_chain.specs.declared.course.TheConstants.{REDIRECT_LIMIT}
 use Rattle.span_map.specs.declared.jobs.JobPart.{JobPart}
 
 -- the URL leads within 20 redirects to a resource of the length there, and these are the bytes that are asked for
 pub record ServesPart (content : Content) (part : JobPart) (bytes : List ℕ) : Type 0 where
   pub resource : List ℕ
-  pub leads : Leads content redirect_limit part.url resource
+  pub leads : Leads content REDIRECT_LIMIT part.url resource
   pub size : length resource ≡ part.total
   pub bytes_are : bytes ≡ part_at resource part.at part.len
 
@@ -37,7 +37,7 @@ LeadsThrough content (suc more) url number =
 
 -- each mirror that the URL leads through is one of these
 abbrev pub UrlLeadsAmong : Content → (ℕ → Bool) → List ℕ → Type 0
-UrlLeadsAmong content among url = (number : ℕ) → LeadsThrough content redirect_limit url number → among number ≡ true
+UrlLeadsAmong content among url = (number : ℕ) → LeadsThrough content REDIRECT_LIMIT url number → among number ≡ true
 
 -- so of the URL of a part
 abbrev pub LeadsAmong : Content → (ℕ → Bool) → JobPart → Type 0

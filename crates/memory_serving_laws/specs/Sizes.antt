@@ -6,7 +6,7 @@ use Rattle.link_source.specs.Exchanges.{Exchange}
 use Rattle.link_source.specs.Files.{Bytes}
 use Rattle.link_source.specs.declared.mirrors.Manner.TheVariants.{ToEnd}
 use Rattle.request_chain.specs.Probes.{Probe, Due, Told, Away, Lost, Probed}
-use Rattle.request_chain.specs.Redirects.{redirect_limit}
+use Rattle.request_chain.specs.declared.course.TheConstants.{REDIRECT_LIMIT}
 use Rattle.memory_serving_laws.specs.Laws.{GainedAnswers}
 use Rattle.memory_serving_laws.specs.Leads.{Redirects, StandsAt}
 use Rattle.memory_serving_laws.specs.Serving.{UrlLeadsAmong, used_among}
@@ -36,7 +36,7 @@ misses size (Lost loss) = 1
 abbrev pub BadAnswersPayProbes : Type 0
 BadAnswersPayProbes = (old : Content) (link : LinkState) (gained : List Exchange) (among : ℕ → Bool)
     (url : List ℕ) (size : ℕ) (probe : Probe)
-    → GainedAnswers old link gained → LeadsToSize old redirect_limit url size → UrlLeadsAmong old among url
+    → GainedAnswers old link gained → LeadsToSize old REDIRECT_LIMIT url size → UrlLeadsAmong old among url
     → Probed url gained probe
     → used_among among old + misses size probe ≤ used_among among link.content
 
@@ -44,6 +44,6 @@ BadAnswersPayProbes = (old : Content) (link : LinkState) (gained : List Exchange
 abbrev pub ServedSizeIsTold : Type 0
 ServedSizeIsTold = (old : Content) (link : LinkState) (gained : List Exchange) (among : ℕ → Bool)
     (url : List ℕ) (size : ℕ) (probe : Probe)
-    → GainedAnswers old link gained → LeadsToSize old redirect_limit url size → UrlLeadsAmong old among url
+    → GainedAnswers old link gained → LeadsToSize old REDIRECT_LIMIT url size → UrlLeadsAmong old among url
     → Probed url gained probe
     → ((probe ≡ Due) ⊎ (probe ≡ Told size)) ⊎ (used_among among old < used_among among link.content)

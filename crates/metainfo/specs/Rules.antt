@@ -2,7 +2,7 @@
 -- that fails is the refusal. A dictionary may have other keys, which are passed over.
 use Rattle.std.specs.Prelude.{◌≡◌, ℕ, ◌/◌, ◌%◌, ◌==◌, zero, suc, ℤ, pos, negsuc, Bool, ◌&&◌, nat_le, if◌then◌else◌, List, [], ◌∷◌, length, take, drop, filter, filter_map, position, is_none, Option, Some, None, Result, Ok, Err}
 use Rattle.std.specs.List.{list_all}
-use Rattle.dl_words.specs.Lists.{part_at}
+use Rattle.dl_kinds.specs.Lists.{part_at}
 use Rattle.dl_kinds.specs.Plan.{pieces_of}
 use Rattle.dl_kinds.specs.declared.claims.TheConstants.{MAX_MIRRORS}
 use Rattle.dl_kinds.specs.declared.plan.TheConstants.{MAX_PAYLOAD_LEN, MAX_PIECE_LEN}

@@ -1,6 +1,6 @@
 // Values by the keys of a dictionary.
 ghost use Rattle.std.specs.Prelude.{◌≡◌, ◌≤◌, length, IfSome, IfOk};
-ghost use Rattle.dl_words.specs.Answers.{Gives};
+ghost use Rattle.dl_kinds.specs.Answers.{Gives};
 ghost use Rattle.bencode_core.specs.Value.{spelling};
 ghost use Rattle.bencode_core.specs.Placed.{StandsIn};
 ghost use Rattle.metainfo.specs.Refusals as specs;

@@ -2,16 +2,16 @@
 ghost use Rattle.std.specs.Prelude.{◌≡◌, ◌≤◌, ℕ, true, length, IfOk};
 ghost use Rattle.std.specs.List.{list_all};
 ghost use Rattle.std.specs.Str.{is_utf8};
-ghost use Rattle.dl_words.specs.Answers.{Gives};
+ghost use Rattle.dl_kinds.specs.Answers.{Gives};
 ghost use Rattle.metainfo.specs.Kept.{kept_part, kept_path, kept_parts, kept, all_kept};
 ghost use Rattle.metainfo.specs.Refusals.{refusal_of};
 ghost use Rattle.metainfo.specs.Rules as specs;
 ghost use Rattle.metainfo.specs.Tests.{is_string, is_dict};
 
 use crate::fields::{integer_in, is_dict, is_list, sought, value_in};
-use crate::{Key, MetaErr, NoMemory};
+use crate::{Key, MetaErr};
 use bencode_core::BenSlice;
-use dl_kinds::{Text, Texts};
+use dl_kinds::{NoMemory, Text, Texts};
 use span_map::{FileLen, Layout, LayoutErr, MAX_PARTS};
 use std::alloc::Global;
 

@@ -6,9 +6,8 @@ ghost use Rattle.span_map.specs.Layout.{total_of};
 ghost use Rattle.span_map.specs.Slices.{IsPart};
 ghost use Rattle.metainfo.specs.Jobs.{mirror_part, run_parts};
 
-use crate::NoMemory;
 use crate::urls::url_of;
-use dl_kinds::{Plan, Run, Text, plan_laws};
+use dl_kinds::{NoMemory, Plan, Run, Text, plan_laws};
 use span_map::{Job, JobPart, JobParts, Layout, Part};
 use std::alloc::Global;
 

@@ -8,6 +8,7 @@ ghost use Rattle.span_map.specs.declared.files.LayoutErr.TheVariants.{BadPath, R
 ghost use Rattle.metainfo.specs.Info.{Info, IsSeed, IsSound};
 ghost use Rattle.metainfo.specs.Rules.{IsMetaOfSome};
 ghost use Rattle.metainfo.specs.Tests.{is_part, bad_file, is_plan, is_seed};
+ghost use Rattle.metainfo.specs.declared.rules.TheConstants.{DIGEST_LEN};
 
 /// The tests that the rules make say what the crates below say of parts, paths, plans and URLs.
 pub fn tests_say_what_holds()
@@ -23,4 +24,9 @@ pub fn tests_say_what_holds()
 /// Whatever a metainfo file says is within the limits, and its parts fit each other.
 pub fn metainfo_is_sound()
     ensures { (said : Info) → IsMetaOfSome said → IsSound said }
+{}
+
+/// The bytes of a digest. It does nothing when it runs.
+pub fn limits_are_told()
+    ensures { DIGEST_LEN ≡ 20 }
 {}

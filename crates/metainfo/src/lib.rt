@@ -13,8 +13,7 @@ mod seeds;
 mod urls;
 
 pub use jobs::mirror_job;
-pub use laws::{metainfo_is_sound, tests_say_what_holds};
+pub use laws::{limits_are_told, metainfo_is_sound, tests_say_what_holds};
 pub use meta::Meta;
 pub use refusals::{Key, MetaErr};
 pub use rules::DIGEST_LEN;
-pub use std::alloc::AllocError as NoMemory;

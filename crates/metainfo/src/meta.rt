@@ -1,12 +1,12 @@
 // What a metainfo file says.
 ghost use Rattle.std.specs.Prelude.{◌≡◌, ◌^◌, ◌<◌, ◌⊎◌, length, Ok, Err, IfOk, IsOkUnless};
-ghost use Rattle.dl_words.specs.Answers.{Gives};
+ghost use Rattle.dl_kinds.specs.Answers.{Gives};
 ghost use Rattle.span_map.specs.Layout.{total_of};
 
+use crate::MetaErr;
 use crate::reading::meta_of;
 use crate::urls::url_of;
-use crate::{MetaErr, NoMemory};
-use dl_kinds::{Digests, Plan, Text, Texts};
+use dl_kinds::{Digests, NoMemory, Plan, Text, Texts};
 use span_map::Layout;
 use std::alloc::Global;
 

@@ -1,6 +1,6 @@
 // The bytes of a metainfo file, by all rules.
 ghost use Rattle.std.specs.Prelude.{◌≡◌, ◌^◌, ◌<◌, length, IfOk};
-ghost use Rattle.dl_words.specs.Answers.{Gives};
+ghost use Rattle.dl_kinds.specs.Answers.{Gives};
 ghost use Rattle.span_map.specs.Layout.{total_of};
 ghost use Rattle.metainfo.specs.Info.{info_of};
 ghost use Rattle.metainfo.specs.Refusals.{refusal_of};

@@ -1,7 +1,7 @@
 // The rules for the value of `info` but those for its files.
 ghost use Rattle.std.specs.Prelude.{◌≡◌, ◌+◌, ◌/◌, ◌^◌, ◌<◌, ◌≤◌, length, IfOk, OnOk, true, Some, None, option_map, if◌then◌else◌};
 ghost use Rattle.std.specs.Str.{is_utf8};
-ghost use Rattle.dl_words.specs.Answers.{Gives};
+ghost use Rattle.dl_kinds.specs.Answers.{Gives};
 ghost use Rattle.bencode_core.specs.Value.{Spells, spelling};
 ghost use Rattle.bencode_core.specs.Placed.{StandsIn};
 ghost use Rattle.metainfo.specs.Refusals.{refusal_of};
@@ -9,9 +9,9 @@ ghost use Rattle.metainfo.specs.Rules as specs;
 ghost use Rattle.metainfo.specs.Tests.{is_part};
 
 use crate::fields::{integer_in, is_dict, string_in, value_in};
-use crate::{Key, MetaErr, NoMemory};
+use crate::{Key, MetaErr};
 use bencode_core::{BenErr, BenSlice};
-use dl_kinds::{Digests, MAX_PIECE_LEN, Plan, Text};
+use dl_kinds::{Digests, MAX_PIECE_LEN, NoMemory, Plan, Text};
 use sha1::Sha1;
 use span_map::is_valid_part;
 use std::alloc::Global;

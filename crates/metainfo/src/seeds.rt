@@ -1,6 +1,6 @@
 // The seeds of a metainfo file (BEP 19).
 ghost use Rattle.std.specs.Prelude.{◌≡◌, ◌≤◌, ◌<◌, ◌^◌, IfSome, position, is_none, ◌++◌, ◌∷◌, [], length, take, filter, Some, None, option_map, if◌then◌else◌, IfOk, OnOk};
-ghost use Rattle.dl_words.specs.Answers.{Gives};
+ghost use Rattle.dl_kinds.specs.Answers.{Gives};
 ghost use Rattle.bencode_core.specs.Placed.{string_of};
 ghost use Rattle.bencode_core.specs.Value.{spelling};
 ghost use Rattle.metainfo.specs.Refusals.{refusal_of};
@@ -8,9 +8,9 @@ ghost use Rattle.metainfo.specs.Rules as specs;
 ghost use Rattle.metainfo.specs.Tests.{is_seed};
 
 use crate::fields::{is_list, sought};
-use crate::{Key, MetaErr, NoMemory};
+use crate::{Key, MetaErr};
 use bencode_core::BenSlice;
-use dl_kinds::{MAX_MIRRORS, Text, Texts};
+use dl_kinds::{MAX_MIRRORS, NoMemory, Text, Texts};
 use link_source::is_usable;
 use std::alloc::Global;
 

@@ -4,8 +4,7 @@ ghost use Rattle.std.specs.List.{join_with_byte};
 ghost use Rattle.span_map.specs.declared.paths.TheConstants.{SLASH};
 ghost use Rattle.metainfo.specs.Urls as specs;
 
-use crate::NoMemory;
-use dl_kinds::Texts;
+use dl_kinds::{NoMemory, Texts};
 use percent_encoding::{AsciiSet, NON_ALPHANUMERIC, ascii_set, utf8_percent_encode};
 use std::alloc::Global;
 

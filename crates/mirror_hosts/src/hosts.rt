@@ -4,8 +4,7 @@ ghost use Rattle.dl_kinds.specs.declared.claims.TheConstants.{MAX_MIRRORS};
 ghost use Rattle.link_source.specs.Endpoint.{IsUsable};
 ghost use Rattle.mirror_hosts.specs.Hosts as specs;
 
-use crate::NoMemory;
-use dl_kinds::{Text, Texts};
+use dl_kinds::{NoMemory, Text, Texts};
 use link_source::Endpoint;
 use std::alloc::Global;
 

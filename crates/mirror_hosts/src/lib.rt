@@ -3,5 +3,4 @@
 
 mod hosts;
 
-pub use dl_kinds::NoMemory;
 pub use hosts::host_numbers;

@@ -5,7 +5,7 @@ use Rattle.dl_kinds.specs.declared.gid.Gid.{Gid}
 use Rattle.dl_kinds.specs.declared.marks.Mark.{Mark}
 use Rattle.dl_kinds.specs.declared.runs.Moment.{Moment}
 use Rattle.dl_kinds.specs.declared.runs.Run.{Run}
-use Rattle.dl_words.specs.Lists.{part_at}
+use Rattle.dl_kinds.specs.Lists.{part_at}
 use Rattle.engine_turns.specs.Told.{AllTurns, RunTurn, history_of}
 use Rattle.engine_turns.specs.declared.operations.Operation.TheVariants.{Deliver}
 use Rattle.machine_core.specs.OwnParts.{PayloadLengths}

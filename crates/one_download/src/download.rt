@@ -16,8 +16,7 @@ ghost use Rattle.segment_claim.specs.declared.limits.TheConstants.{MAX_SPLIT};
 use crate::payload::{Before, Payload};
 use crate::{Choice, Split};
 use bit_rows::BitRow;
-use dl_history::CHECKSUM_FAILED;
-use dl_kinds::{Claim, Code, MAX_MIRRORS, Mark, Moment, Plan, Run};
+use dl_kinds::{Claim, Code, ExitStatus, MAX_MIRRORS, Mark, Moment, Plan, Run};
 use mirror_blame::Marks;
 use piece_table::{Giver, NewRuns, Table};
 use std::alloc::{AllocError, Global};
@@ -247,7 +246,7 @@ impl OneDownload {
         if !right {
             if let Giver::One(mirror) = giver {
                 let mark = Mark {
-                    code: Code(CHECKSUM_FAILED),
+                    code: Code::of(ExitStatus::Checksum),
                     count: 0,
                 };
                 self.blame(mirror, piece, mark);

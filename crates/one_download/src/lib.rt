@@ -12,4 +12,3 @@ mod rows;
 pub use choices::{Choice, Split};
 pub use download::OneDownload;
 pub use laws::steps_match_events;
-pub use std::alloc::AllocError as NoMemory;

@@ -12,7 +12,7 @@ mod table;
 
 pub use files::{FileRange, MAX_FILES, file_range};
 pub use kinds::{Change, Num, Opt, Rule, Scope, Spelling, Word, WordUse};
-pub use laws::names_are_apart;
+pub use laws::{limits_are_told, names_are_apart};
 pub use options::Options;
 pub use setting::{OptErr, Setting, read};
 pub use settings::Settings;

@@ -6,7 +6,7 @@ ghost use Rattle.std.specs.Option.{option_map};
 ghost use Rattle.option_set.specs.Numbers.{has_leading_zero, is_decimal, decimal_value, size_value, truth_value, number_value, saturated};
 
 use crate::Spelling;
-use dl_words::numeral_value;
+use dl_kinds::numeral_value;
 
 const KIB: u64 = 1_024;
 

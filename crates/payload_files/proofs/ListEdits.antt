@@ -2,7 +2,7 @@
 use Rattle.std.proofs.Common.{◌≡◌, ◌∙◌, ap, sym, ℕ, suc, ◌+◌, ◌-◌, ◌<◌, ◌≤◌, List, [], ◌∷◌, ◌++◌, length, take, drop, replicate, get_or, refl, arith, zero-add, append_assoc, append-nil, length-append, length-take, length-drop, ⊎_elim, inl, inr, slice_get}
 use Rattle.std.proofs.lemmas.List.{take-append-drop, take-append-le, drop-append-le, take-take, take_at, drop-drop, drop_at, drop-take, get_or-take, get_or-drop, length-take-le, same_lists}
 use Rattle.std.proofs.lemmas.Option.{same_Some, slice_get-get_or}
-use Rattle.dl_words.specs.Lists.{part_at}
+use Rattle.dl_kinds.specs.Lists.{part_at}
 use Rattle.dl_disk.specs.Files.{lengthened, replaced, overwritten, Torn}
 use Rattle.payload_files.specs.Changes.{SameOutside}
 

@@ -6,7 +6,7 @@ use Rattle.std.proofs.lemmas.List.Concat.{flat_map-append}
 use Rattle.std.proofs.lemmas.List.Elements.{All-more}
 use Rattle.std.proofs.lemmas.Slice.{take-put_mid}
 use borrow.Rule.Slice.PartMut.{put_mid}
-use Rattle.dl_words.specs.Lists.{part_at}
+use Rattle.dl_kinds.specs.Lists.{part_at}
 use Rattle.dl_disk.specs.Files.{Files, IsSame, file_bytes}
 use Rattle.dl_disk.specs.Passes.{passes_none, passes_more}
 use Rattle.dl_disk.specs.State.{DiskState}

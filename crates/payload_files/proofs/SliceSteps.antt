@@ -4,7 +4,7 @@ use Rattle.std.specs.List.{sum_by}
 use Rattle.std.proofs.lemmas.List.{take-take, take_all, drop-take, take-append-drop, length-take-le}
 use Rattle.std.proofs.lemmas.List.Sums.{sum_by_more, sum_by_more_le}
 use Rattle.std.proofs.lemmas.Option.{slice_get_within, slice_get-get_or, get_or_from_slice_get}
-use Rattle.dl_words.specs.Lists.{part_at}
+use Rattle.dl_kinds.specs.Lists.{part_at}
 use Rattle.dl_disk.specs.Files.{Files, file_bytes, replaced, overwritten, Puts, Torn, MayMake, Changes, TornWrite}
 use Rattle.span_map.specs.Layout.{IsLayout, total_of}
 use Rattle.span_map.specs.Slices.{slice_of, IsPart}

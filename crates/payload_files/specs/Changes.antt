@@ -1,6 +1,6 @@
 -- What the calls on the files of a payload change on the disk, and what a crash then may leave.
 use Rattle.std.specs.Prelude.{◌≡◌, ◌≤◌, ◌<◌, ◌⊎◌, ℕ, ◌+◌, max, List, length, take, slice_get, Some, All}
-use Rattle.dl_words.specs.Lists.{part_at}
+use Rattle.dl_kinds.specs.Lists.{part_at}
 use Rattle.dl_disk.specs.Files.{Files, Follows, MayMake, Stretched, replaced}
 use Rattle.dl_disk.specs.State.{DiskState}
 use Rattle.span_map.specs.Layout.{total_of}

@@ -1,7 +1,7 @@
 -- What is read of the files of a payload.
 use Rattle.std.specs.Prelude.{◌≡◌, ◌≤◌, ℕ, ◌+◌, List, [], length, All}
 use Rattle.std.specs.List.{slice_index_or}
-use Rattle.dl_words.specs.Lists.{part_at}
+use Rattle.dl_kinds.specs.Lists.{part_at}
 use Rattle.dl_disk.specs.Calls.{Stays}
 use Rattle.dl_disk.specs.Files.{Files, IsSame}
 use Rattle.dl_disk.specs.Passes.{Passes}

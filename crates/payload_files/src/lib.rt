@@ -15,6 +15,5 @@ pub use folders::make_folders;
 pub use laws::{files_fill, names_differ, same_files_hold};
 pub use names::file_name;
 pub use reading::read_slice;
-pub use std::alloc::AllocError as NoMemory;
 pub use syncing::sync_files;
 pub use writing::write_slice;

@@ -4,7 +4,7 @@ use Rattle.std.proofs.Math.Nat.{mul-le-mul_right}
 use Rattle.std.proofs.lemmas.Bool.{cases_lt}
 use Rattle.std.proofs.lemmas.List.{length-take, length-drop, drop-set-lt, drop-set-add, take-set-le, take_at, drop_at, length-take-le, length-replicate, get_or-take, get_or-drop}
 use Rattle.dl_kinds.specs.Plan.{full_blocks, blocks_of_piece}
-use Rattle.dl_words.specs.Lists.{part_at}
+use Rattle.dl_kinds.specs.Lists.{part_at}
 use Rattle.piece_table.specs.Progress.{piece_part}
 use Rattle.piece_table.specs.Steps.{filled}
 use Rattle.piece_table.proofs.Counts.{count_of, count-set_le}

@@ -1,7 +1,7 @@
 -- What a download has of its payload (BEP 3: a piece is right where its SHA-1 digest is the listed one).
 use Rattle.std.specs.Prelude.{◌≡◌, ◌↔◌, ◌⊎◌, ℕ, ◌*◌, ◌<◌, Bool, true, false, List, All, count_by, length, slice_get, Some}
 use Rattle.dl_kinds.specs.Plan.{full_blocks, blocks_of, blocks_of_piece, pieces_of, piece_of}
-use Rattle.dl_words.specs.Lists.{part_at}
+use Rattle.dl_kinds.specs.Lists.{part_at}
 use Rattle.piece_table.specs.declared.giver.Giver.{Giver}
 use Rattle.piece_table.specs.declared.giver.Giver.TheVariants.{Nobody}
 

@@ -11,5 +11,4 @@ mod table;
 pub use giver::Giver;
 pub use laws::kept_is_afresh;
 pub use new_runs::NewRuns;
-pub use std::alloc::AllocError as NoMemory;
 pub use table::Table;

@@ -2,7 +2,7 @@
 ghost use Rattle.std.specs.Prelude.{◌≡◌, ◌<◌, ◌≤◌, ◌+◌, ◌^◌, length, map, count_by, IfOk};
 ghost use Rattle.dl_kinds.specs.Plan.{blocks_of, pieces_of};
 ghost use Rattle.dl_kinds.specs.declared.plan.TheConstants.{MAX_PIECE_BLOCKS};
-ghost use Rattle.dl_words.specs.Lists.{part_at};
+ghost use Rattle.dl_kinds.specs.Lists.{part_at};
 ghost use Rattle.piece_table.specs.Kept.{AreCounts};
 ghost use Rattle.piece_table.specs.Steps.{giver_at_start};
 ghost use Rattle.piece_table.specs.Sums.{block_bytes, piece_bytes, sum_where};

@@ -1,5 +1,5 @@
 -- A head ends in an empty line.
-use Rattle.std.proofs.Common.{◌≡◌, ℕ, ◌≤◌, List, [], ◌∷◌, ◌++◌, append_assoc, append-nil, length, take, ap, sym, ◌∙◌, refl, inl, inr, true}
+use Rattle.std.proofs.Common.{◌≡◌, ℕ, ◌≤◌, List, [], ◌∷◌, ◌++◌, append_assoc, append-nil, length, length-append, take, arith, ap, sym, ◌∙◌, refl, inl, inr, true}
 use Rattle.std.proofs.lemmas.Bool.{or_left, or_right, cases_lt}
 use Rattle.std.proofs.lemmas.Bool.Decides.{Decides-eqb}
 use Rattle.std.proofs.lemmas.Slice.Eq.{ends_is}
@@ -8,10 +8,9 @@ use Rattle.std.specs.List.{flat_map, ends_with}
 use Rattle.std.specs.Prelude.{codes, nat_eq}
 use Rattle.httparse.specs.Ascii.{colon}
 use Rattle.httparse.specs.Grammar.{Field, LineEnd, lf, crlf, print_field, print_end, ResponseHead, print_response, print_blank, print_version, print_reason}
-use Rattle.range_http.specs.declared.head.Head.{Head}
+use Rattle.http_heads.specs.declared.head.Head.{Head}
 use Rattle.range_http.specs.EmptyLine.{ends_in_empty_line, HasEmptyLine}
-use Rattle.range_http.specs.Heads.{IsHead}
-use Rattle.range_http.proofs.HeadLawLemmas.{head_comes_whole}
+use Rattle.http_heads.specs.Heads.{IsHead}
 
 -- a line feed stands last
 record IsLine (bytes : List ℕ) : Type 0 where
@@ -55,7 +54,7 @@ head-ends h =
 -- a head that stands where no empty line ends behind a place stands up to there
 pub head_ends : (bytes : List ℕ) (from : ℕ) (head : Head) (used : ℕ) → (HasEmptyLine bytes from → ⊥) → IsHead bytes head used → used ≤ from
 head_ends bytes from head used none is =
-    let fits = (head_comes_whole bytes head used is).0 in
+    let fits : used ≤ length bytes = omega (arith, is.takes, ap length is.reads.1, length-append (print_response is.text) is.rest) in
     let cut : take used bytes ≡ print_response is.text =
     ap (λ n. take n bytes) is.takes ∙ ap (take (length (print_response is.text))) is.reads.1 ∙ take-append_seam (print_response is.text) is.rest in
     elim (cases_lt from used) [

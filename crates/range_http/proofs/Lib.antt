@@ -1,10 +1,6 @@
 mod EmptyLineLemmas
-mod FieldLemmas
 mod FramingLemmas
-mod HeadLawLemmas
-mod HeadLemmas
 mod NumberLemmas
 mod RangeLemmas
 mod RequestLemmas
-mod Room
 mod TableLemmas

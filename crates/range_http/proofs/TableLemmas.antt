@@ -7,11 +7,12 @@ use Rattle.std.specs.Prelude.{◌&&◌, ◌||◌, if◌then◌else◌, nat_le, c
 use Rattle.range_http.specs.declared.asked.Asked.{Asked}
 use Rattle.range_http.specs.declared.framing.Framing.{Framing}
 use Rattle.range_http.specs.declared.framing.Framing.TheVariants.{Length, Chunked, ToEnd}
-use Rattle.range_http.specs.declared.head.Head.{Head}
+use Rattle.http_heads.specs.declared.head.Head.{Head}
 use Rattle.range_http.specs.declared.range.ContentRange.{ContentRange}
 use Rattle.range_http.specs.declared.verdict.Verdict.{Verdict}
 use Rattle.range_http.specs.declared.verdict.Verdict.TheVariants.{Part, Whole, Empty, WrongLength, Moved, NotFound}
-use Rattle.range_http.specs.Fields.{values_of, sole}
+use Rattle.http_heads.specs.Fields.{sole}
+use Rattle.range_http.specs.Fields.{values_of}
 use Rattle.range_http.specs.Framing.{framing_of}
 use Rattle.range_http.specs.Table.{IsMovedStatus, moved_permanently, found, see_other, temporary_redirect, permanent_redirect, IsRedirect, IsEmptyProbe, IsUnexpected, HasContent, HasBadContent, MayHaveLength, TellsPart, AgreesOnLength, Differs, IsVerdict, not_found, not_allowed, not_ready, moved, empty, other, bad_content, other_part, part_of_other, part_of_any, part, other_whole, whole_of_any, whole, HasOneVerdict}
 use Rattle.range_http.specs.Verdict.{told_range, told_length, is_told, is_asked_part, is_encoded, is_moved, is_empty, is_empty_range, is_zero, sized, part_verdict, ranged_verdict, whole_verdict, framed_verdict, content_verdict, verdict_of, unexpected, unauthorized, overloaded}

@@ -1,12 +1,9 @@
 pub mod EmptyLine
 pub mod Fields
 pub mod Framing
-pub mod HeadLaws
-pub mod Heads
 pub mod Persistence
 pub mod Range
 pub mod RangeLaws
 pub mod Request
-pub mod Spans
 pub mod Table
 pub mod Verdict

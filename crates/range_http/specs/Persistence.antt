@@ -1,7 +1,7 @@
 -- Whether a connection persists behind a reply (RFC 9112 section 9.3).
 use Rattle.std.specs.Prelude.{Bool, ◌&&◌, ◌==◌, codes}
 use Rattle.std.specs.List.{list_all}
-use Rattle.range_http.specs.declared.head.Head.{Head}
+use Rattle.http_heads.specs.declared.head.Head.{Head}
 use Rattle.range_http.specs.Fields.{values_of}
 use Rattle.range_http.specs.Framing.{is_word}
 

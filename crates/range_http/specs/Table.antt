@@ -4,10 +4,11 @@ use Rattle.std.specs.Prelude.{◌≡◌, ◌≢◌, ℕ, ◌⊎◌, ◌+◌, ◌
 use Rattle.range_http.specs.declared.asked.Asked.{Asked}
 use Rattle.range_http.specs.declared.framing.Framing.{Framing}
 use Rattle.range_http.specs.declared.framing.Framing.TheVariants.{Length, Chunked, ToEnd}
-use Rattle.range_http.specs.declared.head.Head.{Head}
+use Rattle.http_heads.specs.declared.head.Head.{Head}
 use Rattle.range_http.specs.declared.verdict.Verdict.{Verdict}
 use Rattle.range_http.specs.declared.verdict.Verdict.TheVariants.{Part, Whole, Empty, WrongLength, Moved, NotFound}
-use Rattle.range_http.specs.Fields.{values_of, sole}
+use Rattle.http_heads.specs.Fields.{sole}
+use Rattle.range_http.specs.Fields.{values_of}
 use Rattle.range_http.specs.Framing.{framing_of}
 use Rattle.range_http.specs.Verdict.{is_encoded, told_range, told_length, unexpected, unauthorized, overloaded}
 

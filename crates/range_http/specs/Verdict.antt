@@ -1,27 +1,30 @@
 -- What the head of a reply means for what was asked (RFC 9110 sections 14 and 15).
 use Rattle.std.specs.Prelude.{ℕ, ◌+◌, ◌-◌, Bool, true, false, ◌&&◌, ◌||◌, not, [], ◌∷◌, if◌then◌else◌, ◌==◌, nat_le, codes, Option, Some, None, is_none, is_some}
 use Rattle.std.specs.List.{list_all, list_any}
+use Rattle.dl_kinds.specs.ExitStatuses.{exit_code}
+use Rattle.dl_kinds.specs.declared.exit_status.ExitStatus.TheVariants.{HttpReply, Authorization, Unavailable}
 use Rattle.range_http.specs.declared.asked.Asked.{Asked}
 use Rattle.range_http.specs.declared.framing.Framing.{Framing}
 use Rattle.range_http.specs.declared.framing.Framing.TheVariants.{Length, Chunked, ToEnd}
-use Rattle.range_http.specs.declared.head.Head.{Head}
+use Rattle.http_heads.specs.declared.head.Head.{Head}
 use Rattle.range_http.specs.declared.range.ContentRange.{ContentRange}
 use Rattle.range_http.specs.declared.verdict.Verdict.{Verdict}
 use Rattle.range_http.specs.declared.verdict.Verdict.TheVariants.{Part, Whole, Empty, WrongLength, Moved, NotFound, Refused}
-use Rattle.range_http.specs.Fields.{values_of, sole}
+use Rattle.http_heads.specs.Fields.{sole}
+use Rattle.range_http.specs.Fields.{values_of}
 use Rattle.range_http.specs.Framing.{is_word, framing_of}
 use Rattle.range_http.specs.Range.{range_of, ◌>>=◌}
 
--- refused, with the exit status that the aria2 manual has for it: a reply that is bad or wasn't expected, one to who
+-- refused, with the exit status for it: a reply that is bad or wasn't expected, one to who
 -- isn't allowed, and one of an overloaded server
 abbrev pub unexpected : Verdict
-unexpected = Refused (record { 0 = 22 })
+unexpected = Refused (exit_code HttpReply)
 
 abbrev pub unauthorized : Verdict
-unauthorized = Refused (record { 0 = 24 })
+unauthorized = Refused (exit_code Authorization)
 
 abbrev pub overloaded : Verdict
-overloaded = Refused (record { 0 = 29 })
+overloaded = Refused (exit_code Unavailable)
 
 -- 301, 302, 303, 307 or 308, with one Location
 abbrev pub is_moved : Head → Bool

@@ -1,8 +1,8 @@
 // The empty line that ends a head.
 ghost use Rattle.std.specs.Prelude.{◌≡◌, ◌↔◌, ◌≤◌, ℕ, IsTrue, IsFalse};
-ghost use Rattle.range_http.specs.declared.head.Head.{Head};
+ghost use Rattle.http_heads.specs.declared.head.Head.{Head};
 ghost use Rattle.range_http.specs.EmptyLine.{ends_in_empty_line, HasEmptyLine};
-ghost use Rattle.range_http.specs.Heads.{IsHead};
+ghost use Rattle.http_heads.specs.Heads.{IsHead};
 
 fn ends_in_empty_line(bytes: &[u8]) -> bool
     ensures { result ≡ ends_in_empty_line bytes.now }
@@ -12,7 +12,7 @@ fn ends_in_empty_line(bytes: &[u8]) -> bool
 
 /// Whether an empty line ends in the bytes from this place on. Each head ends in one, so bytes that begin with no head
 /// up to the place, and have no empty line behind it, begin with no head. Who reads a stream in small pieces asks this
-/// first, and [`read_head`](crate::read_head) only where it says so, at 65,536 bytes and at the end of the stream: that
+/// first, and [`read_head`](http_heads::read_head) only where it says so, at 65,536 bytes and at the end of the stream: that
 /// reads each byte again at each call.
 pub fn has_empty_line(bytes: &[u8], from: usize) -> bool
     ensures line { IsTrue result ↔ HasEmptyLine bytes.now from }

@@ -4,9 +4,9 @@ ghost use Rattle.std.specs.List.{list_all};
 ghost use Rattle.range_http.specs.Fields.{values_of};
 ghost use Rattle.range_http.specs.Framing.{is_word, is_number_text, length_framing, framing_of};
 
-use crate::Head;
 use crate::range::read_number;
 use http_header::{HeaderValue, ValueIter};
+use http_heads::Head;
 
 /// How long the content of a reply is.
 #[derive(Clone, Copy, Debug, PartialEq, Eq)]

@@ -2,8 +2,8 @@
 ghost use Rattle.std.specs.Prelude.{◌≡◌};
 ghost use Rattle.range_http.specs.Persistence.{keeps_alive, persists};
 
-use crate::Head;
 use crate::framing::all_words;
+use http_heads::Head;
 
 // Whether no option of the connection is named but `keep-alive`.
 fn keeps_alive(head: &Head) -> bool

@@ -2,7 +2,7 @@
 ghost use Rattle.std.specs.Prelude.{◌≡◌, ◌↔◌, ◌<◌, ◌==◌, length, position, option_map, IfSome};
 ghost use Rattle.range_http.specs.Range.{number_of, parts_at, starred, span_of, is_range, unitless_range_of, range_of, IsContentRange};
 
-use dl_words::numeral_value;
+use dl_kinds::numeral_value;
 
 /// Numbers from here on are refused.
 pub const NUMBER_LIMIT: u64 = 1 << 63;

@@ -1,12 +1,14 @@
 // What the head of a reply means.
 ghost use Rattle.std.specs.Prelude.{◌≡◌, ◌+◌, ◌-◌};
+ghost use Rattle.dl_kinds.specs.ExitStatuses.{exit_code};
 ghost use Rattle.range_http.specs.Table.{HasOneVerdict};
-ghost use Rattle.range_http.specs.Verdict.{told_range, is_empty_range, is_empty, is_encoded, told_length, is_told, sized, ranged_verdict, whole_verdict, content_verdict, verdict_of};
+ghost use Rattle.range_http.specs.Verdict.{told_range, is_empty_range, is_empty, is_encoded, told_length, is_told, unexpected, sized, ranged_verdict, whole_verdict, content_verdict, verdict_of};
+ghost use Rattle.range_http.specs.declared.verdict.Verdict.TheVariants.{Refused};
 
-use crate::fields::sole_value;
 use crate::framing::{all_words, framing_of};
-use crate::{Asked, ContentRange, Framing, Head, read_range};
-use dl_kinds::Code;
+use crate::{Asked, ContentRange, Framing, read_range};
+use dl_kinds::{Code, ExitStatus};
+use http_heads::{Head, sole_field};
 
 /// What a reply is for what was asked.
 #[derive(Clone, Copy, Debug, PartialEq, Eq)]
@@ -38,19 +40,26 @@ pub enum Verdict {
     },
 }
 
+/// Refused, with this exit status.
+const fn refused(status: ExitStatus) -> Verdict
+    ensures { result ≡ Refused (exit_code status) }
+{
+    Verdict::Refused {
+        code: Code::of(status),
+    }
+}
+
 /// A reply that is bad or wasn't expected.
-const UNEXPECTED: Verdict = Verdict::Refused { code: Code(22) };
-
-/// Who asks isn't allowed.
-const UNAUTHORIZED: Verdict = Verdict::Refused { code: Code(24) };
-
-/// The server is overloaded.
-const OVERLOADED: Verdict = Verdict::Refused { code: Code(29) };
+const fn unexpected() -> Verdict
+    ensures { result ≡ unexpected }
+{
+    refused(ExitStatus::HttpReply)
+}
 
 fn told_range(head: &Head) -> Option<ContentRange>
     ensures { result ≡ told_range head.now }
 {
-    read_range(sole_value(head, "content-range")?)
+    read_range(sole_field(&head.fields, "content-range")?)
 }
 
 fn is_empty_range(range: Option<ContentRange>) -> bool
@@ -94,7 +103,7 @@ fn sized(known: Option<u64>, told: Option<u64>, verdict: Verdict) -> Verdict
     ensures { result ≡ sized known told verdict }
 {
     match (known, told) {
-        (None, None) => UNEXPECTED,
+        (None, None) => unexpected(),
         (Some(known), Some(told)) if told != known => Verdict::WrongLength { told },
         _ => verdict,
     }
@@ -110,7 +119,7 @@ fn ranged_verdict(asked: &Asked, framing: Framing, range: Option<ContentRange>) 
         },
     ) = range
     else {
-        return UNEXPECTED;
+        return unexpected();
     };
     if first == asked.first && last <= asked.last && is_told(told_length(framing), first, last) {
         let part = Verdict::Part {
@@ -120,7 +129,7 @@ fn ranged_verdict(asked: &Asked, framing: Framing, range: Option<ContentRange>) 
         };
         sized(asked.total, total, part)
     } else {
-        UNEXPECTED
+        unexpected()
     }
 }
 
@@ -135,10 +144,10 @@ fn content_verdict(head: &Head, asked: &Asked) -> Verdict
     ensures { result ≡ content_verdict head.now asked.now }
 {
     if is_encoded(head) {
-        return UNEXPECTED;
+        return unexpected();
     }
     let Some(framing) = framing_of(head) else {
-        return UNEXPECTED;
+        return unexpected();
     };
     if head.status == 206 {
         ranged_verdict(asked, framing, told_range(head))
@@ -152,12 +161,13 @@ fn first_line(head: &Head, asked: &Asked) -> Verdict
 {
     match head.status {
         404 => Verdict::NotFound,
-        401 => UNAUTHORIZED,
-        503 => OVERLOADED,
-        301 | 302 | 303 | 307 | 308 if sole_value(head, "location").is_some() => Verdict::Moved,
+        401 => refused(ExitStatus::Authorization),
+        503 => refused(ExitStatus::Unavailable),
+        301 | 302 | 303 | 307 | 308 if sole_field(&head.fields, "location").is_some() =>
+            Verdict::Moved,
         416 if asked.total.is_none() && is_empty_range(told_range(head)) => Verdict::Empty,
         200 | 206 => content_verdict(head, asked),
-        _ => UNEXPECTED,
+        _ => unexpected(),
     }
 }
 

@@ -3,11 +3,12 @@ use Rattle.std.proofs.Common.{◌≡◌, ℕ, zero, suc, ◌+◌, ◌≤◌, Lis
 use Rattle.std.proofs.Math.Seq.{take-append_seam}
 use Rattle.std.proofs.lemmas.Bool.{cases_lt}
 use Rattle.std.proofs.lemmas.List.{drop-append-le, length-drop}
-use Rattle.range_http.specs.HeadLaws.{HasOneHead, HeadStays, NoHeadStays, HeadIsFinished, FrontIsUnfinished, HeadStoodBefore, HeadComesWhole}
-use Rattle.range_http.specs.Heads.{IsHead, IsUnfinished, IsNoHead}
-use Rattle.range_http.specs.declared.head.Head.{Head}
+use Rattle.http_heads.specs.HeadLaws.{HasOneHead, HeadStays, NoHeadStays, HeadIsFinished, FrontIsUnfinished, HeadStoodBefore, HeadComesWhole}
+use Rattle.http_heads.specs.Heads.{IsHead, IsUnfinished, IsNoHead}
+use Rattle.http_heads.specs.declared.head.Head.{Head}
 use Rattle.reply_reader.specs.HeadLaws.{HasOneFinalHead, FinalHeadIsNotDue, FinalHeadIsThere, DueHeadMayCome, FinalHeadStays, NoFinalHeadStays, FrontIsDue, FinalHeadIsWithin, FinalHeadStoodBefore}
-use Rattle.reply_reader.specs.Heads.{is_interim, HasInterims, interim_limit, HasFewInterims, HasFinalHead, IsHeadDue, IsHeadless}
+use Rattle.reply_reader.specs.Heads.{is_interim, HasInterims, HasFewInterims, HasFinalHead, IsHeadDue, IsHeadless}
+use Rattle.reply_reader.specs.declared.heads.TheConstants.{INTERIM_LIMIT}
 use Rattle.reply_reader.proofs.Interims.{StopsAt, stops_once, stops_soon, interims_within, interims_stay, interims_before, along, back_along}
 
 not_interim : (head : Head) → is_interim head ≡ false → IsTrue (is_interim head) → ⊥
@@ -87,7 +88,7 @@ no_final_head_stays stays none_stays whole bytes more none = ⊎_elim
       few_stay stays whole bytes more before interims,
       subst IsNoHead (sym (drop-append-le before bytes more (few_within whole bytes before interims))) (none_stays (drop before bytes) more no_head),
     ))
-    (λ (before, many). inr (before, interims_stay stays whole (suc interim_limit) bytes more before many))
+    (λ (before, many). inr (before, interims_stay stays whole (suc INTERIM_LIMIT) bytes more before many))
     none
 
 pub final_head_is_within : HeadComesWhole → FinalHeadIsWithin

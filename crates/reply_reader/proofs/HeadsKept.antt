@@ -5,10 +5,11 @@ use Rattle.std.proofs.lemmas.List.Elements.{Contains-append_left, Contains-appen
 use Rattle.std.specs.Prelude.{◌⊎◌, ◌↔◌, Bool, Contains}
 use Rattle.std.proofs.lemmas.List.{drop-append-le, drop-drop, length-drop}
 use Rattle.httparse.specs.Grammar.{ResponseHead, IsResponseHead, lf, print_response}
-use Rattle.range_http.specs.HeadLaws.{HasOneHead, HeadStays, HeadStoodBefore, HeadComesWhole}
-use Rattle.range_http.specs.Heads.{IsHead, IsUnfinished, IsNoHead}
-use Rattle.range_http.specs.declared.head.Head.{Head}
-use Rattle.reply_reader.specs.Heads.{is_interim, interim_limit, line_feed, HasInterims, HasFewInterims, HasFinalHead, IsHeadDue, HasNoFinalHead, IsHeadless, IsBehindInterims, IsAtHead}
+use Rattle.http_heads.specs.HeadLaws.{HasOneHead, HeadStays, HeadStoodBefore, HeadComesWhole}
+use Rattle.http_heads.specs.Heads.{IsHead, IsUnfinished, IsNoHead}
+use Rattle.http_heads.specs.declared.head.Head.{Head}
+use Rattle.reply_reader.specs.Heads.{is_interim, line_feed, HasInterims, HasFewInterims, HasFinalHead, IsHeadDue, HasNoFinalHead, IsHeadless, IsBehindInterims, IsAtHead}
+use Rattle.reply_reader.specs.declared.heads.TheConstants.{INTERIM_LIMIT}
 use Rattle.reply_reader.specs.declared.heads.HeadReader.{HeadReader}
 use Rattle.reply_reader.proofs.Interims.{interims_within, interims_stay, interims_more}
 use Rattle.reply_reader.proofs.FinalHeads.{final_headless, final_head_stood}
@@ -119,7 +120,7 @@ few_of received reader is = record { count = reader.interims; few = is.few; inte
 
 -- an interim head is passed over
 pub passes : (received : List ℕ) (reader later : HeadReader) (head : Head) (size : ℕ) → IsHead reader.bytes.items head size → IsTrue (is_interim head)
-    → reader.interims < interim_limit → later.interims ≡ reader.interims + 1 → later.bytes.items ≡ drop size reader.bytes.items
+    → reader.interims < INTERIM_LIMIT → later.interims ≡ reader.interims + 1 → later.bytes.items ≡ drop size reader.bytes.items
     → IsBehindInterims received reader → IsBehindInterims received later
 passes received reader later head size begins interim few counted dropped is =
     let next : suc reader.interims ≡ later.interims = omega (arith, counted) in
@@ -133,12 +134,12 @@ passes received reader later head size begins interim few counted dropped is =
 
 -- one interim head too many
 pub too_many : (received : List ℕ) (reader : HeadReader) (head : Head) (size : ℕ) → IsHead reader.bytes.items head size → IsTrue (is_interim head)
-    → interim_limit ≤ reader.interims → IsBehindInterims received reader → HasNoFinalHead received
+    → INTERIM_LIMIT ≤ reader.interims → IsBehindInterims received reader → HasNoFinalHead received
 too_many received reader head size begins interim many is =
-    let limit : reader.interims ≡ interim_limit = omega (arith, many, is.few) in
+    let limit : reader.interims ≡ INTERIM_LIMIT = omega (arith, many, is.few) in
     inr (
       is.before + size,
-      interims_more interim_limit received is.before head size (subst (λ (n : ℕ). HasInterims received n is.before) limit is.interims)
+      interims_more INTERIM_LIMIT received is.before head size (subst (λ (n : ℕ). HasInterims received n is.before) limit is.interims)
           (subst (λ (l : List ℕ). IsHead l head size) is.waiting begins) interim,
     )
 

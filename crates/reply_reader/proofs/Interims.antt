@@ -1,10 +1,11 @@
 -- The interim heads at the front of a stream.
 use Rattle.std.proofs.Common.{◌≡◌, ℕ, zero, suc, ◌+◌, ◌≤◌, List, ◌++◌, length, drop, refl, sym, ◌∙◌, ap, subst, arith, IsTrue}
 use Rattle.std.proofs.lemmas.List.{drop-append-le, drop-drop, length-drop}
-use Rattle.range_http.specs.HeadLaws.{HasOneHead, HeadStays, HeadStoodBefore, HeadComesWhole}
-use Rattle.range_http.specs.Heads.{IsHead}
-use Rattle.range_http.specs.declared.head.Head.{Head}
-use Rattle.reply_reader.specs.Heads.{is_interim, HasInterims, interim_limit, HasFewInterims}
+use Rattle.http_heads.specs.HeadLaws.{HasOneHead, HeadStays, HeadStoodBefore, HeadComesWhole}
+use Rattle.http_heads.specs.Heads.{IsHead}
+use Rattle.http_heads.specs.declared.head.Head.{Head}
+use Rattle.reply_reader.specs.Heads.{is_interim, HasInterims, HasFewInterims}
+use Rattle.reply_reader.specs.declared.heads.TheConstants.{INTERIM_LIMIT}
 
 -- no interim head stands at the front
 abbrev pub IsStop : List ℕ → Type 0
@@ -106,7 +107,7 @@ stops_once one bytes before other a b =
     let same : m ≡ n = omega (arith, more, less) in
     interims_once one n bytes before other a.interims.interims (subst (λ (k : ℕ). HasInterims bytes k other) same b.interims.interims)
 
-pub stops_soon : HasOneHead → (bytes : List ℕ) (before other : ℕ) → StopsAt bytes before → HasInterims bytes (suc interim_limit) other → ⊥
+pub stops_soon : HasOneHead → (bytes : List ℕ) (before other : ℕ) → StopsAt bytes before → HasInterims bytes (suc INTERIM_LIMIT) other → ⊥
 stops_soon one bytes before other a many =
-    let less = interims_most one a.interims.count (suc interim_limit) bytes before other a.interims.interims a.stop many in
+    let less = interims_most one a.interims.count (suc INTERIM_LIMIT) bytes before other a.interims.interims a.stop many in
     absurd (omega (arith, less, a.interims.few))

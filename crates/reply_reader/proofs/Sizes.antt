@@ -1,8 +1,8 @@
 -- How many bytes of a reply are read.
 use Rattle.reply_reader.proofs.HeadsKept.{headless_none}
 use Rattle.reply_reader.proofs.FinalHeads.{final_headless}
-use Rattle.range_http.specs.Heads.{IsHead}
-use Rattle.range_http.specs.HeadLaws.{HasOneHead}
+use Rattle.http_heads.specs.Heads.{IsHead}
+use Rattle.http_heads.specs.HeadLaws.{HasOneHead}
 use Rattle.std.proofs.Common.{◌≡◌, ◌⊎◌, ◌==◌, inl, inr, ℕ, zero, suc, ◌+◌, ◌*◌, ◌<◌, ◌≤◌, false, cond, List, [], ◌∷◌, ◌++◌, length, length-append, length-take, length-drop, take, drop, refl, ap, sym, subst, ◌∙◌, arith}
 use Rattle.std.proofs.lemmas.Bool.{cases_Bool, cases_lt, cond-true, cond-false, eq-eqb, ltb-true, ltb-false, le-leb, true≢false}
 use Rattle.std.proofs.lemmas.List.{drop_all}

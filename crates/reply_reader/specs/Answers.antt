@@ -1,11 +1,14 @@
 -- What a reply gives of what was asked for, as far as it has come (RFC 9110 sections 14 and 15, RFC 9112 section 6).
 use Rattle.std.specs.Prelude.{◌≡◌, ◌≢◌, ◌⊎◌, ◌<◌, ◌≤◌, ◌^◌, ℕ, ◌+◌, ◌-◌, Bool, false, ◌||◌, List, [], ◌++◌, length, drop, unwrap_or, codes, if◌then◌else◌}
+use Rattle.dl_kinds.specs.ExitStatuses.{exit_code}
+use Rattle.dl_kinds.specs.declared.exit_status.ExitStatus.TheVariants.{HttpReply}
 use Rattle.range_http.specs.declared.asked.Asked.{Asked}
 use Rattle.range_http.specs.declared.framing.Framing.{Framing}
-use Rattle.range_http.specs.declared.head.Head.{Head}
+use Rattle.http_heads.specs.declared.head.Head.{Head}
 use Rattle.range_http.specs.declared.verdict.Verdict.{Verdict}
 use Rattle.range_http.specs.declared.verdict.Verdict.TheVariants.{Part, Whole, Empty, WrongLength, Moved, NotFound, Refused}
-use Rattle.range_http.specs.Fields.{values_of, sole}
+use Rattle.http_heads.specs.Fields.{sole}
+use Rattle.range_http.specs.Fields.{values_of}
 use Rattle.range_http.specs.Verdict.{verdict_of}
 use Rattle.reply_reader.specs.Heads.{HasFinalHead, IsHeadDue, HasNoFinalHead}
 use Rattle.reply_reader.specs.Slices.{Slice, framing_told, came_of, has_come, goes_wrong, is_over}
@@ -57,7 +60,7 @@ answer_by head asked (Part last total framing) stream ended =
     slice_answer (part_slice asked last framing) last stream ended
 answer_by head asked (Whole total framing) stream ended =
     slice_answer (whole_slice asked framing) asked.last stream ended
-answer_by head asked Empty stream ended = without_bytes (Lost (losses.Refused head.status (record { 0 = 22 })))
+answer_by head asked Empty stream ended = without_bytes (Lost (losses.Refused head.status (exit_code HttpReply)))
 answer_by head asked (WrongLength told) stream ended = without_bytes (Lost (losses.Length told (unwrap_or asked.total 0)))
 answer_by head asked Moved stream ended = without_bytes (Away head.status (unwrap_or (sole (values_of head (codes "location"))) []))
 answer_by head asked NotFound stream ended = without_bytes (Lost losses.NotFound)

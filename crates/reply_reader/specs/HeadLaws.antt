@@ -1,6 +1,6 @@
 -- Laws of the final head of a reply, as far as its stream has come.
 use Rattle.std.specs.Prelude.{◌≡◌, ℕ, ◌≤◌, List, ◌++◌, length}
-use Rattle.range_http.specs.declared.head.Head.{Head}
+use Rattle.http_heads.specs.declared.head.Head.{Head}
 use Rattle.reply_reader.specs.Heads.{IsHeadDue, HasFinalHead, HasNoFinalHead}
 
 -- a stream has one final head at most

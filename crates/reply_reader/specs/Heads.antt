@@ -1,11 +1,13 @@
--- The heads of a reply (RFC 9110 section 15.2, RFC 9112 section 2.1): interim ones, of which 8 are read at most, and then
--- the final one.
-use Rattle.std.specs.Prelude.{◌≡◌, ◌⊎◌, ◌↔◌, ◌≤◌, ℕ, zero, suc, ◌+◌, Bool, false, ◌&&◌, nat_le, nat_lt, List, length, drop, Contains, IsTrue, ⊤}
-use Rattle.range_http.specs.declared.head.Head.{Head}
-use Rattle.range_http.specs.Heads.{IsHead, IsUnfinished, IsNoHead}
+-- The heads of a reply (RFC 9110 section 15.2, RFC 9112 section 2.1): interim ones, of which some are read, and then the
+-- final one.
+use Rattle.std.specs.Prelude.{◌≡◌, ◌⊎◌, ◌↔◌, ◌≤◌, ◌<◌, ℕ, zero, suc, ◌+◌, Bool, false, ◌&&◌, nat_le, nat_lt, List, length, drop, Contains, IsTrue, ⊤}
+use Rattle.http_heads.specs.declared.head.Head.{Head}
+use Rattle.http_heads.specs.declared.limits.TheConstants.{MAX_HEAD_BYTES}
+use Rattle.http_heads.specs.Heads.{IsHead, IsUnfinished, IsNoHead}
 use Rattle.reply_reader.specs.declared.heads.HeadsRead.{HeadsRead}
 use Rattle.reply_reader.specs.declared.heads.HeadsRead.TheVariants.{Whole, More, Bad, NoMemory}
 use Rattle.reply_reader.specs.declared.heads.HeadReader.{HeadReader}
+use Rattle.reply_reader.specs.declared.heads.TheConstants.{INTERIM_LIMIT}
 
 -- 1xx
 abbrev pub is_interim : Head → Bool
@@ -18,14 +20,10 @@ HasInterims bytes (suc more) used =
     (head : Head) × (first rest : ℕ) × IsHead bytes head first × IsTrue (is_interim head)
     × HasInterims (drop first bytes) more rest × (used ≡ first + rest)
 
--- the most interim heads of a reply
-abbrev pub interim_limit : ℕ
-interim_limit = 8
-
 -- interim heads, not too many, stand at the front, and take so many bytes
 pub record HasFewInterims (bytes : List ℕ) (used : ℕ) : Type 0 where
   pub count : ℕ
-  pub few : count ≤ interim_limit
+  pub few : count ≤ INTERIM_LIMIT
   pub interims : HasInterims bytes count used
 
 -- behind them stands the final head; all of it takes so many bytes
@@ -47,7 +45,7 @@ pub record IsHeadDue (bytes : List ℕ) : Type 0 where
 abbrev pub HasNoFinalHead : List ℕ → Type 0
 HasNoFinalHead bytes =
     ((before : ℕ) × HasFewInterims bytes before × IsNoHead (drop before bytes))
-    ⊎ ((before : ℕ) × HasInterims bytes (suc interim_limit) before)
+    ⊎ ((before : ℕ) × HasInterims bytes (suc INTERIM_LIMIT) before)
 
 -- ---- reading
 
@@ -59,7 +57,7 @@ IsHeadless bytes = (head : Head) (used : ℕ) → IsHead bytes head used → ⊥
 pub record IsBehindInterims (bytes : List ℕ) (reader : HeadReader) : Type 0 where
   pub before : ℕ
   pub interims : HasInterims bytes reader.interims before
-  pub few : reader.interims ≤ interim_limit
+  pub few : reader.interims ≤ INTERIM_LIMIT
   pub waiting : reader.bytes.items ≡ drop before bytes
 
 -- LF, which ends a line
@@ -71,7 +69,7 @@ pub record IsAtHead (bytes : List ℕ) (reader : HeadReader) : Type 0 where
   pub behind : IsBehindInterims bytes reader
   pub line : IsTrue reader.line ↔ Contains bytes line_feed
   pub headless : IsHeadless reader.bytes.items
-  pub short : length reader.bytes.items ≤ 65535
+  pub short : length reader.bytes.items < MAX_HEAD_BYTES
 
 -- P of the final head and of how many bytes of the piece are its own, where one is answered
 abbrev pub IfFinal : HeadsRead → (Head → ℕ → Type 0) → Type 0

@@ -1,27 +1,33 @@
--- What a loss is held against a mirror as: the exit statuses are those of the aria2 manual, section EXIT STATUS.
+-- What a loss is held against a mirror as.
 use Rattle.std.specs.Prelude.{◌≡◌, ◌==◌, ◌||◌, ℕ, Bool, true, Option, Some, None, IsTrue}
+use Rattle.dl_kinds.specs.ExitStatuses.{code_of_status, exit_code}
+use Rattle.dl_kinds.specs.declared.exit_status.ExitStatus.{ExitStatus}
+use Rattle.dl_kinds.specs.declared.exit_status.ExitStatus.TheVariants as statuses
 use Rattle.dl_kinds.specs.declared.marks.Mark.{Mark}
 use Rattle.reply_reader.specs.declared.loss.Loss.{Loss}
 use Rattle.reply_reader.specs.declared.loss.Loss.TheVariants.{Link, NotFound, Refused, BadReply, Length, Short, Redirects, NoMemory}
 
 -- a mark with this status, and without a count of faults
-abbrev pub marked : ℕ → Option Mark
-marked status = Some (record { code = record { 0 = status }; count = 0 })
+abbrev pub marked : ExitStatus → Option Mark
+marked status = Some (record { code = exit_code status; count = 0 })
 
 abbrev pub mark_of : Loss → Option Mark
-mark_of (Link count) = Some (record { code = record { 0 = 6 }; count = count })
-mark_of NotFound = marked 3
+mark_of (Link count) = Some (record { code = exit_code statuses.Network; count = count })
+mark_of NotFound = marked statuses.NotFound
 mark_of (Refused status code) = Some (record { code = code; count = 0 })
-mark_of BadReply = marked 22
-mark_of (Length told want) = marked 22
-mark_of (Short got) = marked 6
-mark_of Redirects = marked 23
+mark_of BadReply = marked statuses.HttpReply
+mark_of (Length told want) = marked statuses.HttpReply
+mark_of (Short got) = marked statuses.Network
+mark_of Redirects = marked statuses.Redirects
 mark_of NoMemory = None
 
 -- The exit statuses of a refusal: a reply that isn't expected, one that wants to know who asks, and an overloaded mirror.
 -- What another protocol refuses with is added here.
 abbrev pub is_refusal_status : ℕ → Bool
-is_refusal_status status = (status == 22) || (status == 24) || (status == 29)
+is_refusal_status code =
+    (code == code_of_status statuses.HttpReply)
+    || (code == code_of_status statuses.Authorization)
+    || (code == code_of_status statuses.Unavailable)
 
 -- a refusal has one of them, as a test
 abbrev pub is_known : Loss → Bool

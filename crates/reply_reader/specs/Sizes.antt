@@ -1,18 +1,21 @@
 -- How many bytes of a reply are read.
 use Rattle.std.specs.Prelude.{ℕ, ◌+◌, ◌*◌, ◌≤◌, List, [], length}
-use Rattle.range_http.specs.declared.head.Head.{Head}
-use Rattle.range_http.specs.declared.head.TheConstants.{MAX_HEAD_BYTES}
+use Rattle.body_frames.specs.declared.line.TheConstants.{LINE_LIMIT}
+use Rattle.body_frames.specs.declared.phase.TheConstants.{TRAILER_LIMIT}
+use Rattle.http_heads.specs.declared.head.Head.{Head}
+use Rattle.http_heads.specs.declared.limits.TheConstants.{MAX_HEAD_BYTES}
 use Rattle.reply_reader.specs.Heads.{HasFinalHead, IsAtHead}
 use Rattle.reply_reader.specs.Slices.{Slice, IsSliceDue}
 use Rattle.reply_reader.specs.declared.heads.HeadReader.{HeadReader}
+use Rattle.reply_reader.specs.declared.heads.TheConstants.{INTERIM_LIMIT}
 
--- 8 interim heads and the final one, of 65,536 bytes each
+-- the interim heads and the final one, each as long as a head may be
 abbrev pub heads_most : ℕ
-heads_most = 589824
+heads_most = (INTERIM_LIMIT + 1) * MAX_HEAD_BYTES
 
--- the lines of the last chunk, of 64 trailers, and an empty one: 66 lines of 258 bytes
+-- the lines of the last chunk, of the trailers, and an empty one, each with its CR LF
 abbrev pub lines_most : ℕ
-lines_most = 17028
+lines_most = (TRAILER_LIMIT + 2) * (LINE_LIMIT + 2)
 
 -- the final head ends within so many bytes
 abbrev pub FinalHeadsAreShort : Type 0
@@ -27,7 +30,7 @@ HeadsReadAreNotFinal = (received : List ℕ) (reader : HeadReader) (head : Head)
 abbrev pub NothingIsNoHead : Type 0
 NothingIsNoHead = (head : Head) (used : ℕ) → HasFinalHead [] head used → ⊥
 
--- where a head is read, 8 interim heads came at most before what the reader holds
+-- where a head is read, no more interim heads came than may before what the reader holds
 abbrev pub HeadsReadAreShort : Type 0
 HeadsReadAreShort = (received : List ℕ) (reader : HeadReader) → IsAtHead received reader
     → length received + MAX_HEAD_BYTES ≤ heads_most + length reader.bytes.items

@@ -1,15 +1,14 @@
 // The heads of a reply, as they come.
 ghost use Rattle.std.specs.Prelude.{◌≡◌, ◌⊎◌, ◌↔◌, ◌<◌, ◌≤◌, ◌+◌, ◌++◌, [], List, ℕ, true, false, Ok, length, take, drop, Contains, IsTrue, IsFalse, OnOk};
-ghost use Rattle.range_http.specs.declared.head.TheConstants.{MAX_HEAD_BYTES};
-ghost use Rattle.range_http.specs.Heads.{IfWhole, IsHead, IsUnfinished};
-ghost use Rattle.range_http.specs.declared.head.HeadRead.TheVariants.{More as Unfinished, Bad as NoHead};
+ghost use Rattle.http_heads.specs.declared.limits.TheConstants.{MAX_HEAD_BYTES};
+ghost use Rattle.http_heads.specs.Heads.{IfWhole, IsHead, IsUnfinished};
+ghost use Rattle.http_heads.specs.declared.head.HeadRead.TheVariants.{More as Unfinished, Bad as NoHead};
 ghost use Rattle.reply_reader.specs.Heads.{is_interim, line_feed, IsHeadDue, HasFinalHead, HasNoFinalHead, IsHeadless, IsBehindInterims, IsAtHead, IfFinal};
 ghost use Rattle.reply_reader.specs.declared.heads.HeadsRead.TheVariants.{More, Bad};
 
 use dl_kinds::NoMemory;
-use range_http::{
-    Head, HeadRead, MAX_HEAD_BYTES, has_empty_line, heads_are_one_and_stay, read_head,
-};
+use http_heads::{Head, HeadRead, MAX_HEAD_BYTES, heads_are_one_and_stay, read_head};
+use range_http::has_empty_line;
 use std::alloc::Global;
 
 /// Reads the heads of a reply as they come: interim ones, and the final one.
@@ -37,7 +36,7 @@ pub enum HeadsRead {
 }
 
 /// The most interim heads of a reply.
-const INTERIM_LIMIT: u8 = 8;
+pub const INTERIM_LIMIT: u8 = 8;
 
 // Whether a head tells that another one follows.
 fn is_interim(head: &Head) -> bool

@@ -1,12 +1,16 @@
 // Laws of the final head of a reply, and of what a reply gives of what was asked for.
+ghost use Rattle.std.specs.Prelude.{◌≡◌};
 ghost use Rattle.reply_reader.specs.HeadLaws.{HasOneFinalHead, FinalHeadIsNotDue, FinalHeadIsThere, DueHeadMayCome, FinalHeadStays, NoFinalHeadStays, FrontIsDue, FinalHeadIsWithin, FinalHeadStoodBefore};
 ghost use Rattle.reply_reader.specs.Answers.{AnswersOnce, AnswersStay, AnswersGrow, AnswersFit};
 ghost use Rattle.reply_reader.specs.Fills.{AnswersFill};
 ghost use Rattle.reply_reader.specs.Sizes.{FinalHeadsAreShort, HeadsReadAreNotFinal, HeadsReadAreShort, NothingIsNoHead, DueSlicesAreShort};
 ghost use Rattle.reply_reader.specs.Slices.{SliceGoesOn};
+ghost use Rattle.reply_reader.specs.declared.heads.TheConstants.{INTERIM_LIMIT};
+ghost use Rattle.reply_reader.specs.declared.slices.TheConstants.{MAX_PIECE_BYTES};
 
 use body_frames::pieces_join;
-use range_http::{heads_are_one_and_stay, numbers_and_ranges_are_read};
+use http_heads::heads_are_one_and_stay;
+use range_http::numbers_and_ranges_are_read;
 
 /// Laws of the final head of a reply, as far as its stream has come: a stream tells one thing, and what it tells stays.
 pub fn final_heads_are_one_and_stay()
@@ -54,3 +58,9 @@ pub fn replies_are_read_short()
 {
     heads_are_one_and_stay();
 }
+
+/// How many interim heads a reply may have, and how long a piece of its stream may be. It does nothing when it runs.
+pub fn limits_are_told()
+    ensures interims { INTERIM_LIMIT ≡ 8 }
+    ensures pieces { MAX_PIECE_BYTES ≡ 65536 }
+{}

@@ -7,10 +7,10 @@ mod laws;
 mod loss;
 mod slices;
 
-pub use heads::{HeadReader, HeadsRead};
+pub use heads::{HeadReader, HeadsRead, INTERIM_LIMIT};
 pub use laws::{
-    answers_fill_what_is_asked, final_heads_are_one_and_stay, replies_are_read_short,
-    streams_have_one_answer,
+    answers_fill_what_is_asked, final_heads_are_one_and_stay, limits_are_told,
+    replies_are_read_short, streams_have_one_answer,
 };
 pub use loss::Loss;
-pub use slices::{SliceRead, SliceReader, SliceState};
+pub use slices::{MAX_PIECE_BYTES, SliceRead, SliceReader, SliceState};

@@ -2,7 +2,7 @@
 ghost use Rattle.std.specs.Prelude.{◌≡◌};
 ghost use Rattle.reply_reader.specs.Losses.{mark_of, marked};
 
-use dl_kinds::{Code, Mark};
+use dl_kinds::{Code, ExitStatus, Mark};
 
 /// Why what was asked for didn't come.
 #[derive(Clone, Copy, Debug, PartialEq, Eq)]
@@ -26,11 +26,11 @@ pub enum Loss {
 }
 
 /// The mark of a status, without a count of faults.
-fn marked(status: u8) -> Option<Mark>
+fn marked(status: ExitStatus) -> Option<Mark>
     ensures { result ≡ marked status }
 {
     Some(Mark {
-        code: Code(status),
+        code: Code::of(status),
         count: 0,
     })
 }
@@ -42,14 +42,14 @@ impl Loss {
     {
         match *self {
             Loss::Link { count } => Some(Mark {
-                code: Code(6),
+                code: Code::of(ExitStatus::Network),
                 count,
             }),
-            Loss::NotFound => marked(3),
+            Loss::NotFound => marked(ExitStatus::NotFound),
             Loss::Refused { code, .. } => Some(Mark { code, count: 0 }),
-            Loss::BadReply | Loss::Length { .. } => marked(22),
-            Loss::Short { .. } => marked(6),
-            Loss::Redirects => marked(23),
+            Loss::BadReply | Loss::Length { .. } => marked(ExitStatus::HttpReply),
+            Loss::Short { .. } => marked(ExitStatus::Network),
+            Loss::Redirects => marked(ExitStatus::Redirects),
             Loss::NoMemory => None,
         }
     }

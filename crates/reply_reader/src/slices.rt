@@ -3,10 +3,14 @@ ghost use Rattle.std.specs.Prelude.{◌≡◌, ◌≤◌, ◌<◌, ◌+◌, ◌+
 ghost use Rattle.body_frames.specs.Bodies.{content_of, GainAlike};
 ghost use Rattle.body_frames.specs.Reading.{IsFed, ForEachStream};
 ghost use Rattle.reply_reader.specs.Slices.{framing_told, came_of, has_come, content_state, slice_state, IsSliceDue, IsSliceWrong, IsSliceOver, IsAtSlice, ForEachSlice};
+ghost use Rattle.reply_reader.specs.declared.slices.TheConstants.{MAX_PIECE_BYTES};
 ghost use Rattle.reply_reader.specs.declared.slices.SliceState.TheVariants.{More, Come, Wrong, Over};
 
 use body_frames::{Body, Fed, pieces_join};
 use range_http::Framing;
+
+/// The most bytes of one piece of a stream.
+pub const MAX_PIECE_BYTES: usize = 65_536;
 
 /// Reads the bytes of a content from a place on, so many of them, as they come.
 #[derive(Debug, Drop)]
@@ -51,7 +55,7 @@ fn new_body(framing: Framing) -> Body
 
 /// Feeds these bytes to the body, for whose content there is room, and says how it stands with the content then.
 fn feed(body: &mut Body, bytes: &[u8], out: &mut Vec<u8>) -> SliceState
-    requires few { length bytes.now ≤ 65536 }
+    requires few { length bytes.now ≤ MAX_PIECE_BYTES }
     requires room { vec_len out.old + length bytes.now ≤ vec_capacity out.old }
     ensures fed { ForEachStream body.old
         (λ framing stream. IsFed framing (stream ++ bytes.now) body.new) }
@@ -97,10 +101,10 @@ impl SliceReader {
         dropped: &mut Vec<u8>,
     ) -> SliceRead
         requires some { 0 < length piece.now }
-        requires few { length piece.now ≤ 65536 }
+        requires few { length piece.now ≤ MAX_PIECE_BYTES }
         requires some_room { 0 < room }
         requires room { vec_len out.old + room ≤ vec_capacity out.old }
-        requires dropped_room { 65536 ≤ vec_capacity dropped.old }
+        requires dropped_room { MAX_PIECE_BYTES ≤ vec_capacity dropped.old }
         ensures used { result.used ≤ length piece.now }
         ensures progress { result.state ≡ More → 0 < result.used }
 
@@ -140,10 +144,10 @@ impl SliceReader {
     // Takes bytes before the slice.
     fn pass(&mut self, piece: &[u8], dropped: &mut Vec<u8>) -> SliceRead
         requires some { 0 < length piece.now }
-        requires few { length piece.now ≤ 65536 }
+        requires few { length piece.now ≤ MAX_PIECE_BYTES }
         requires due { 0 < self.old.left }
         requires before { 0 < self.old.skip }
-        requires room { 65536 ≤ vec_capacity dropped.old }
+        requires room { MAX_PIECE_BYTES ≤ vec_capacity dropped.old }
         ensures used { result.used ≤ length piece.now }
         ensures progress { 0 < result.used }
         ensures at { ForEachSlice self.old (λ slice stream.
@@ -167,7 +171,7 @@ impl SliceReader {
     // Takes bytes from the slice on.
     fn gain(&mut self, piece: &[u8], room: usize, out: &mut Vec<u8>) -> SliceRead
         requires some { 0 < length piece.now }
-        requires few { length piece.now ≤ 65536 }
+        requires few { length piece.now ≤ MAX_PIECE_BYTES }
         requires due { 0 < self.old.left }
         requires behind { self.old.skip ≡ 0 }
         requires some_room { 0 < room }

@@ -6,11 +6,11 @@ use Rattle.std.specs.declared.cmp.Ordering.{Ordering}
 use Rattle.std.specs.declared.cmp.Ordering.TheVariants.{Less, Equal, Greater}
 use Rattle.rpc_console.specs.declared.asking.Keys.{Keys}
 use Rattle.rpc_envelope.specs.Turns.{IsPlain}
-use Rattle.run_replies.specs.declared.kinds.Reply.{Reply}
-use Rattle.run_replies.specs.declared.kinds.Reply.TheVariants as reply
-use Rattle.run_replies.specs.declared.views.FileView.{FileView}
-use Rattle.run_replies.specs.declared.views.StatusView.{StatusView}
-use Rattle.run_replies.specs.declared.views.UriView.{UriView}
+use Rattle.run_report.specs.declared.kinds.Reply.{Reply}
+use Rattle.run_report.specs.declared.kinds.Reply.TheVariants as reply
+use Rattle.run_report.specs.declared.views.FileView.{FileView}
+use Rattle.run_report.specs.declared.views.StatusView.{StatusView}
+use Rattle.run_report.specs.declared.views.UriView.{UriView}
 use Rattle.serde_json.specs.Data.{Data, Members, no_members, member, put, string}
 use Rattle.serde_json.specs.View.{items_of}
 use Rattle.serde_json.specs.Written.{has_float, items_have_float, members_have_float}

@@ -1,7 +1,7 @@
 -- Laws of what comes of calls.
 use Rattle.rpc_console.specs.declared.asking.Keys.{Keys}
 use Rattle.rpc_envelope.specs.Turns.{IsPlain}
-use Rattle.run_replies.specs.declared.kinds.Reply.{Reply}
+use Rattle.run_report.specs.declared.kinds.Reply.{Reply}
 use Rattle.reply_values.specs.Outcomes.{methods_outcome, reply_outcome}
 
 -- no value has a float

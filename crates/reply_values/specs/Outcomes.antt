@@ -7,8 +7,8 @@ use Rattle.rpc_console.specs.declared.asking.Keys.{Keys}
 use Rattle.rpc_envelope.specs.Turns.{OutcomeData, given, failed}
 use Rattle.rpc_envelope.specs.declared.fault.RpcFault.{RpcFault}
 use Rattle.rpc_envelope.specs.declared.fault.RpcFault.TheVariants.{GidAmbiguous, GidInUse, GidUnknown, JournalFull, TooManyDownloads, WrongStatus}
-use Rattle.run_replies.specs.declared.kinds.Reply.{Reply}
-use Rattle.run_replies.specs.declared.kinds.Reply.TheVariants as reply
+use Rattle.run_report.specs.declared.kinds.Reply.{Reply}
+use Rattle.run_report.specs.declared.kinds.Reply.TheVariants as reply
 use Rattle.serde_json.specs.Data.{Data, array, no_items, number, object, string, unsigned, no_members}
 use Rattle.reply_values.specs.Members.{NamedData, gid_data, members_in_order, put_all}
 use Rattle.reply_values.specs.Views.{files_data, stat_data, status_data, statuses_data, uris_data}

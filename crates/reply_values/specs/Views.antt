@@ -3,12 +3,12 @@
 use Rattle.std.specs.Prelude.{ℕ, List, [], ◌∷◌, ◌++◌, codes, map, option_map}
 use Rattle.rpc_console.specs.declared.asking.Keys.{Keys}
 use Rattle.rpc_envelope.specs.Faults.{status_word}
-use Rattle.run_replies.specs.declared.views.FileView.{FileView}
-use Rattle.run_replies.specs.declared.views.StatView.{StatView}
-use Rattle.run_replies.specs.declared.views.StatusView.{StatusView}
-use Rattle.run_replies.specs.declared.views.UriStatus.{UriStatus}
-use Rattle.run_replies.specs.declared.views.UriStatus.TheVariants.{Used, Waiting}
-use Rattle.run_replies.specs.declared.views.UriView.{UriView}
+use Rattle.run_report.specs.declared.views.FileView.{FileView}
+use Rattle.run_report.specs.declared.views.StatView.{StatView}
+use Rattle.run_report.specs.declared.views.StatusView.{StatusView}
+use Rattle.run_report.specs.declared.views.UriStatus.{UriStatus}
+use Rattle.run_report.specs.declared.views.UriStatus.TheVariants.{Used, Waiting}
+use Rattle.run_report.specs.declared.views.UriView.{UriView}
 use Rattle.serde_json.specs.Data.{Data, Members, string, array, object}
 use Rattle.serde_json.specs.View.{items_of}
 use Rattle.reply_values.specs.Members.{NamedData, decimal_data, truth_data, gid_data, members_in_order, named_if, pick}

@@ -8,12 +8,12 @@ use Rattle.rpc_console.specs.declared.asking.Keys.TheVariants.{All, These}
 use Rattle.rpc_envelope.specs.Answers.{part_data}
 use Rattle.rpc_envelope.specs.Turns.{failed}
 use Rattle.rpc_envelope.specs.declared.fault.RpcFault.TheVariants.{WrongStatus}
-use Rattle.run_replies.specs.declared.kinds.Reply.{Reply}
-use Rattle.run_replies.specs.declared.kinds.Reply.TheVariants as reply
-use Rattle.run_replies.specs.declared.views.FileView.{FileView}
-use Rattle.run_replies.specs.declared.views.StatView.{StatView}
-use Rattle.run_replies.specs.declared.views.StatusView.{StatusView}
-use Rattle.run_replies.specs.declared.views.UriStatus.TheVariants.{Used}
+use Rattle.run_report.specs.declared.kinds.Reply.{Reply}
+use Rattle.run_report.specs.declared.kinds.Reply.TheVariants as reply
+use Rattle.run_report.specs.declared.views.FileView.{FileView}
+use Rattle.run_report.specs.declared.views.StatView.{StatView}
+use Rattle.run_report.specs.declared.views.StatusView.{StatusView}
+use Rattle.run_report.specs.declared.views.UriStatus.TheVariants.{Used}
 use Rattle.serde_json.specs.Written.{compact_text}
 use Rattle.reply_values.specs.Outcomes.{reply_outcome}
 

@@ -6,7 +6,7 @@ ghost use Rattle.reply_values.specs.Views.{uri_word, uri_data, uris_data, file_d
 use crate::members::{put_number, put_text};
 use crate::texts::truth_value;
 use dl_kinds::NoMemory;
-use run_replies::{FileView, FileViews, UriStatus, UriView, UriViews};
+use run_report::{FileView, FileViews, UriStatus, UriView, UriViews};
 use serde_json::{Map, Value, put};
 use std::alloc::Global;
 

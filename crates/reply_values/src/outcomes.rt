@@ -3,7 +3,7 @@ ghost use Rattle.std.specs.Prelude.{◌≡◌, IfOk, IsErr, map};
 ghost use Rattle.dl_queue.specs.declared.kinds.QueueErr.TheVariants as refusal;
 ghost use Rattle.rpc_envelope.specs.Outcomes.{outcome_view};
 ghost use Rattle.rpc_envelope.specs.Turns.{IsPlain, failed};
-ghost use Rattle.run_replies.specs.declared.kinds.Reply.TheVariants as reply_cases;
+ghost use Rattle.run_report.specs.declared.kinds.Reply.TheVariants as reply_cases;
 ghost use Rattle.serde_json.specs.Data.{no_members};
 ghost use Rattle.serde_json.specs.View.{view, members_view};
 ghost use Rattle.reply_values.specs.Members.{put_all};
@@ -20,7 +20,7 @@ use dl_kinds::NoMemory;
 use dl_queue::QueueErr;
 use rpc_console::{Keys, method_names};
 use rpc_envelope::{Outcome, RpcFault};
-use run_replies::{Pairs, Reply};
+use run_report::{Pairs, Reply};
 use serde_json::{Map, Value, put};
 use std::alloc::Global;
 

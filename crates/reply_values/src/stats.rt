@@ -5,7 +5,7 @@ ghost use Rattle.reply_values.specs.Views.{stat_data};
 
 use crate::members::put_number;
 use dl_kinds::NoMemory;
-use run_replies::StatView;
+use run_report::StatView;
 use serde_json::{Map, Value};
 use std::alloc::Global;
 

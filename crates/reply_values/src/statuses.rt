@@ -11,7 +11,7 @@ use crate::members::{keep_chosen, put_number, put_number_if, put_text, put_text_
 use crate::texts::gid_value;
 use dl_kinds::{NoMemory, Status};
 use rpc_console::Keys;
-use run_replies::{StatusView, StatusViews};
+use run_report::{StatusView, StatusViews};
 use serde_json::{Map, Value, put};
 use std::alloc::Global;
 

@@ -12,7 +12,7 @@ use Rattle.link_source.specs.Requests.{Asks, AsksOnce, request_of}
 use Rattle.link_source.specs.Exchanges.{Exchange}
 use Rattle.link_source.specs.declared.exchanges.TheConstants.{MOST_RECEIVED}
 use Rattle.range_http.specs.declared.asked.Asked.{Asked}
-use Rattle.range_http.specs.declared.head.Head.{Head}
+use Rattle.http_heads.specs.declared.head.Head.{Head}
 use Rattle.range_http.specs.declared.verdict.Verdict.{Verdict}
 use Rattle.range_http.specs.declared.verdict.Verdict.TheVariants.{Part, Whole, Empty, WrongLength, Moved, NotFound, Refused}
 use Rattle.range_http.specs.Request.{request_text}
@@ -33,7 +33,8 @@ use Rattle.request_chain.specs.Plans.{NextAsk, Ask, Over, Lost as Gone, plan_of,
 use Rattle.request_chain.specs.Probes as probes
 use Rattle.request_chain.specs.Probes.{Probe, ProbeReplies, ProbedBy, Search, next_search, probe_asked, probe_by, search_at, told_by}
 use Rattle.request_chain.specs.Received.{IsReadNoFurther, ReceivesLittle}
-use Rattle.request_chain.specs.Redirects.{moved_to, redirect_limit}
+use Rattle.request_chain.specs.Redirects.{moved_to}
+use Rattle.request_chain.specs.declared.course.TheConstants.{REDIRECT_LIMIT}
 use Rattle.request_chain.proofs.MovedLemmas.{moved_test}
 use Rattle.span_map.specs.Jobs.{IsJobPart}
 use Rattle.span_map.specs.declared.jobs.JobPart.{JobPart}
@@ -180,7 +181,7 @@ module _ (one : HasOneFinalHead) (stays : FinalHeadStays) where
 abbrev Bound : NextAsk → ℕ → Type 0
 Bound (Over ending) came = Unit {0}
 Bound (Ask part parts url count status) came =
-    All IsJobPart (part ∷ parts) × All (λ (p : JobPart). p.total < 2 ^ 64) (part ∷ parts) × (count ≤ redirect_limit) × (came ≤ heads_most * count)
+    All IsJobPart (part ∷ parts) × All (λ (p : JobPart). p.total < 2 ^ 64) (part ∷ parts) × (count ≤ REDIRECT_LIMIT) × (came ≤ heads_most * count)
 
 plan-bound : (parts : List JobPart) → All IsJobPart parts → All (λ (p : JobPart). p.total < 2 ^ 64) parts → Bound (plan_of parts) 0
 plan-bound [] are small = record {}
@@ -215,21 +216,21 @@ module _ (one : HasOneFinalHead) (stays : FinalHeadStays) (once : AsksOnce) (fil
     given-from : (last : ℕ) → answer.turn ≡ Given last → (asked_of part).first ≤ last
     given-from last is = ((fill (asked_of part) stream.received stream.ended answer (omega (arith, is-part.some)) replies.1).given last is).0
 
-    at-bound : (next : Option (List ℕ)) (told came' : ℕ) → count < redirect_limit → came' ≤ heads_most * (count + 1) → Bound (plan_at part parts (count + 1) told next) came'
+    at-bound : (next : Option (List ℕ)) (told came' : ℕ) → count < REDIRECT_LIMIT → came' ≤ heads_most * (count + 1) → Bound (plan_at part parts (count + 1) told next) came'
     at-bound None told came' few less = record {}
     at-bound (Some next) told came' few less = (bound.0, bound.1, omega (arith, few), less)
 
-    away-bound : (often : Bool) (told : ℕ) (location : List ℕ) (came' : ℕ) → nat_le redirect_limit count ≡ often → came' ≤ heads_most * (count + 1)
+    away-bound : (often : Bool) (told : ℕ) (location : List ℕ) (came' : ℕ) → nat_le REDIRECT_LIMIT count ≡ often → came' ≤ heads_most * (count + 1)
         → Bound (cond often (Over (Gone losses.Redirects)) (plan_at part parts (count + 1) told (moved_to url location))) came'
     away-bound true told location came' is less = record {}
-    away-bound false told location came' is less = at-bound (moved_to url location) told came' (leb-false redirect_limit count is) less
+    away-bound false told location came' is less = at-bound (moved_to url location) told came' (leb-false REDIRECT_LIMIT count is) less
 
     next-bound : (turn : Turn) → answer.turn ≡ turn → Bound (next_plan part parts url count turn) (redirected turn (came + length stream.received))
     next-bound Due is = record {}
     next-bound (Given last) is = behind-bound last (given-from last is)
     next-bound (Away told location) is =
         let few = away-most one stays url (asked_of part) stream answer told location little replies is in
-        away-bound (nat_le redirect_limit count) told location (came + length stream.received) refl (omega (arith, few, bound.3))
+        away-bound (nat_le REDIRECT_LIMIT count) told location (came + length stream.received) refl (omega (arith, few, bound.3))
     next-bound (Lost loss) is = record {}
 
     most : came + length stream.received ≤ request_most (asked_of part)
@@ -302,19 +303,19 @@ module _ (one : HasOneFinalHead) (stays : FinalHeadStays) (once : AsksOnce) wher
   -- behind this, where so much came before
   abbrev Within : Search → ℕ → Type 0
   Within (probes.Found probe) came = came ≤ request_most probe_asked
-  Within (probes.At url count status) came = (count ≤ redirect_limit) × (came ≤ heads_most * count)
+  Within (probes.At url count status) came = (count ≤ REDIRECT_LIMIT) × (came ≤ heads_most * count)
 
-  at-within : (next : Option (List ℕ)) (count status came : ℕ) → count < redirect_limit → came ≤ heads_most * (count + 1) → Within (search_at next (count + 1) status) came
+  at-within : (next : Option (List ℕ)) (count status came : ℕ) → count < REDIRECT_LIMIT → came ≤ heads_most * (count + 1) → Within (search_at next (count + 1) status) came
   at-within None count status came few less = omega (arith, few, less)
   at-within (Some next) count status came few less = (omega (arith, few), less)
 
-  away-within : (often : Bool) (url : List ℕ) (count status came : ℕ) (location : List ℕ) → nat_le redirect_limit count ≡ often → count ≤ redirect_limit
+  away-within : (often : Bool) (url : List ℕ) (count status came : ℕ) (location : List ℕ) → nat_le REDIRECT_LIMIT count ≡ often → count ≤ REDIRECT_LIMIT
       → came ≤ heads_most * (count + 1)
       → Within (cond often (probes.Found (probes.Lost losses.Redirects)) (search_at (moved_to url location) (count + 1) status)) came
   away-within true url count status came location is few less = omega (arith, few, less)
-  away-within false url count status came location is few less = at-within (moved_to url location) count status came (leb-false redirect_limit count is) less
+  away-within false url count status came location is few less = at-within (moved_to url location) count status came (leb-false REDIRECT_LIMIT count is) less
 
-  next-within : (url : List ℕ) (count came : ℕ) (stream : Exchange) (told : Probe) → count ≤ redirect_limit → came ≤ heads_most * count → ReceivesLittle stream
+  next-within : (url : List ℕ) (count came : ℕ) (stream : Exchange) (told : Probe) → count ≤ REDIRECT_LIMIT → came ≤ heads_most * count → ReceivesLittle stream
       → ProbeReplies url stream told → (probe : Probe) → told ≡ probe → Within (next_search url count probe) (came + length stream.received)
   next-within url count came stream told few less little replies probes.Due is =
       let most = probe-most url stream told little replies in omega (arith, most, few, less)
@@ -322,7 +323,7 @@ module _ (one : HasOneFinalHead) (stays : FinalHeadStays) (once : AsksOnce) wher
       let most = probe-most url stream told little replies in omega (arith, most, few, less)
   next-within url count came stream told few less little replies (probes.Away status location) is =
       let most = probe-away-most url stream told status location little replies is in
-      away-within (nat_le redirect_limit count) url count status (came + length stream.received) location refl few (omega (arith, most, less))
+      away-within (nat_le REDIRECT_LIMIT count) url count status (came + length stream.received) location refl few (omega (arith, most, less))
   next-within url count came stream told few less little replies (probes.Lost loss) is =
       let most = probe-most url stream told little replies in omega (arith, most, few, less)
 

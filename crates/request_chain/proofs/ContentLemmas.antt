@@ -7,7 +7,7 @@ use Rattle.body_frames.specs.Bodies.{body_of, chunks, content_of, GainAlike}
 use Rattle.range_http.specs.declared.asked.Asked.{Asked}
 use Rattle.range_http.specs.declared.framing.Framing.{Framing as Told}
 use Rattle.range_http.specs.declared.framing.Framing.TheVariants.{Length, Chunked, ToEnd}
-use Rattle.range_http.specs.declared.head.Head.{Head}
+use Rattle.http_heads.specs.declared.head.Head.{Head}
 use Rattle.range_http.specs.declared.verdict.Verdict.{Verdict}
 use Rattle.range_http.specs.Persistence.{persists}
 use Rattle.range_http.specs.Verdict.{verdict_of}

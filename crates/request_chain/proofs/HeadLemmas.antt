@@ -3,10 +3,11 @@ use Rattle.std.proofs.Common.{◌≡◌, ℕ, ◌+◌, ◌-◌, ◌^◌, min, �
 use Rattle.std.specs.Prelude.{Option, Some, codes, unwrap_or, nat_le}
 use Rattle.std.proofs.lemmas.List.{drop_all, take-append-drop, length-take}
 use Rattle.link_source.specs.Exchanges.{Exchange}
-use Rattle.range_http.specs.declared.head.Head.{Head}
+use Rattle.http_heads.specs.declared.head.Head.{Head}
 use Rattle.range_http.specs.declared.verdict.Verdict.{Verdict}
 use Rattle.range_http.specs.declared.verdict.Verdict.TheVariants.{Moved}
-use Rattle.range_http.specs.Fields.{values_of, sole}
+use Rattle.http_heads.specs.Fields.{sole}
+use Rattle.range_http.specs.Fields.{values_of}
 use Rattle.range_http.specs.Verdict.{verdict_of}
 use Rattle.span_map.specs.declared.jobs.JobPart.{JobPart}
 use Rattle.reply_reader.specs.Answers.{Turn, Away, Lost, without_bytes, answer_by, slice_answer}
@@ -20,7 +21,8 @@ use Rattle.request_chain.specs.Chains.{TellsLoss}
 use Rattle.request_chain.specs.Contents.{IsBegun, IsOwn}
 use Rattle.request_chain.specs.Courses.{plan_now, CarriesOn}
 use Rattle.request_chain.specs.Plans.{plan_of, plan_at, asked_of, next_plan}
-use Rattle.request_chain.specs.Redirects.{moved_to, redirect_limit}
+use Rattle.request_chain.specs.Redirects.{moved_to}
+use Rattle.request_chain.specs.declared.course.TheConstants.{REDIRECT_LIMIT}
 use Rattle.request_chain.specs.Stages.{IsReadingHead, IsReadingContent}
 use Rattle.request_chain.specs.Turns.{HeadIsRead, HasMoved}
 use Rattle.request_chain.specs.declared.content.Content.{Content}
@@ -143,7 +145,7 @@ module _ (parts : List JobPart) (used : List Exchange) (course : Course) (waitin
       (place.0, place.1, answer_leads parts used course bytes (Away head.status place.0) (head_answer stays head read (Away head.status place.0) by))
 
 -- where it goes on to, that may be moved again
-pub moved_on : (part : JobPart) (others : List JobPart) (url : List ℕ) (count status : ℕ) (text : List ℕ) (to : Option (List ℕ)) → nat_le redirect_limit count ≡ false
+pub moved_on : (part : JobPart) (others : List JobPart) (url : List ℕ) (count status : ℕ) (text : List ℕ) (to : Option (List ℕ)) → nat_le REDIRECT_LIMIT count ≡ false
     → moved_to url text ≡ to → next_plan part others url count (Away status text) ≡ plan_at part others (count + 1) status to
 moved_on part others url count status text to few is =
     let P : Option (List ℕ) → Type 0 = λ t. next_plan part others url count (Away status text) ≡ plan_at part others (count + 1) status t in

@@ -5,10 +5,11 @@ use Rattle.std.specs.List.{list_any}
 use Rattle.std.specs.Prelude.{is_some, codes, ◌||◌}
 use Rattle.link_source.specs.Exchanges.{Exchange}
 use Rattle.range_http.specs.declared.asked.Asked.{Asked}
-use Rattle.range_http.specs.declared.head.Head.{Head}
+use Rattle.http_heads.specs.declared.head.Head.{Head}
 use Rattle.range_http.specs.declared.verdict.Verdict.{Verdict}
 use Rattle.range_http.specs.declared.verdict.Verdict.TheVariants.{Moved}
-use Rattle.range_http.specs.Fields.{values_of, sole}
+use Rattle.http_heads.specs.Fields.{sole}
+use Rattle.range_http.specs.Fields.{values_of}
 use Rattle.range_http.specs.Verdict.{is_moved, verdict_of}
 use Rattle.reply_reader.specs.Answers.{Turn, Due, Given, Away, Lost, Answer, answer_by, slice_answer}
 use Rattle.reply_reader.specs.Sizes.{FinalHeadsAreShort, HeadsReadAreNotFinal, HeadsReadAreShort, DueSlicesAreShort}

@@ -5,11 +5,12 @@ use Rattle.std.specs.Prelude.{◌||◌, if◌then◌else◌, ◌==◌, Option, S
 use Rattle.std.specs.List.{list_any}
 use Rattle.range_http.specs.declared.asked.Asked.{Asked}
 use Rattle.range_http.specs.declared.framing.Framing.{Framing}
-use Rattle.range_http.specs.declared.head.Head.{Head}
+use Rattle.http_heads.specs.declared.head.Head.{Head}
 use Rattle.range_http.specs.declared.range.ContentRange.{ContentRange}
 use Rattle.range_http.specs.declared.verdict.Verdict.{Verdict}
 use Rattle.range_http.specs.declared.verdict.Verdict.TheVariants.{Part, Whole, Empty, WrongLength, Moved, NotFound, Refused}
-use Rattle.range_http.specs.Fields.{values_of, sole}
+use Rattle.http_heads.specs.Fields.{sole}
+use Rattle.range_http.specs.Fields.{values_of}
 use Rattle.range_http.specs.Framing.{framing_of}
 use Rattle.range_http.specs.Verdict.{told_range, told_length, is_asked_part, sized, part_verdict, ranged_verdict, whole_verdict, framed_verdict, content_verdict, verdict_of, is_moved, is_empty, is_encoded, unexpected, unauthorized, overloaded}
 

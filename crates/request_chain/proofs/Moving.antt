@@ -5,8 +5,9 @@ use Rattle.std.specs.Str.{is_utf8}
 use Rattle.std.proofs.lemmas.Bool.{cases_Bool}
 use Rattle.std.proofs.lemmas.Str.{IsUtf8-from_is_utf8, is_utf8-from_IsUtf8}
 use Rattle.url.specs.Parser.{parse_url}
-use Rattle.range_http.specs.declared.head.Head.{Head}
-use Rattle.range_http.specs.Fields.{values_of, sole, IsLocation}
+use Rattle.http_heads.specs.declared.head.Head.{Head}
+use Rattle.http_heads.specs.Fields.{sole}
+use Rattle.range_http.specs.Fields.{values_of, IsLocation}
 use Rattle.request_chain.specs.Redirects.{joined_to, moved_to}
 
 sole_is : (texts : List (List ℕ)) (text : List ℕ) → sole texts ≡ Some text → texts ≡ text ∷ []

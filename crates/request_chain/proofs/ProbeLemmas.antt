@@ -4,7 +4,7 @@ use Rattle.std.specs.Prelude.{◌⊎◌}
 use Rattle.dl_kinds.specs.declared.outside.IoErr.{IoErr}
 use Rattle.dl_kinds.specs.declared.outside.IoErr.TheVariants.{Fault, NoMemory as NoRoom}
 use Rattle.link_source.specs.Exchanges.{Exchange, with_received}
-use Rattle.range_http.specs.declared.head.Head.{Head}
+use Rattle.http_heads.specs.declared.head.Head.{Head}
 use Rattle.reply_reader.specs.Heads.{HasInterims, IsAtHead, IsHeadDue, HasNoFinalHead, HasFinalHead}
 use Rattle.reply_reader.specs.declared.heads.HeadReader.{HeadReader}
 use Rattle.reply_reader.specs.declared.loss.Loss.{Loss}

@@ -3,10 +3,11 @@ use Rattle.std.proofs.Common.{◌≡◌, ℕ, ◌+◌, ◌≤◌, true, false, L
 use Rattle.std.proofs.lemmas.Bool.{le-leb}
 use Rattle.std.specs.Prelude.{◌⊎◌, Option, Some, None, Result, Ok, Err, MatchResult, unwrap_or, codes, nat_le}
 use Rattle.link_source.specs.Exchanges.{Exchange}
-use Rattle.range_http.specs.declared.head.Head.{Head}
+use Rattle.http_heads.specs.declared.head.Head.{Head}
 use Rattle.range_http.specs.declared.verdict.Verdict.{Verdict}
 use Rattle.range_http.specs.declared.verdict.Verdict.TheVariants.{Moved}
-use Rattle.range_http.specs.Fields.{values_of, sole}
+use Rattle.http_heads.specs.Fields.{sole}
+use Rattle.range_http.specs.Fields.{values_of}
 use Rattle.range_http.specs.Verdict.{verdict_of}
 use Rattle.reply_reader.specs.declared.loss.Loss.{Loss}
 use Rattle.reply_reader.specs.declared.loss.Loss.TheVariants as losses
@@ -15,7 +16,8 @@ use Rattle.request_chain.specs.Chains.{Gains}
 use Rattle.request_chain.specs.Contents.{IsOwn}
 use Rattle.request_chain.specs.Plans.{unusable}
 use Rattle.request_chain.specs.Probes.{Probe, Due, Away, Lost, probe_asked, probe_by, Search, At, Found, search_at, next_search, ProbedBy, Probed, TellsProbeLoss}
-use Rattle.request_chain.specs.Redirects.{moved_to, redirect_limit}
+use Rattle.request_chain.specs.Redirects.{moved_to}
+use Rattle.request_chain.specs.declared.course.TheConstants.{REDIRECT_LIMIT}
 use Rattle.request_chain.specs.Searches.{AsksForHead, HasHead, HasHeadAnd, NewestTells, HeadLost, SearchLeads}
 use Rattle.request_chain.specs.Sending.{IsUnopened}
 use Rattle.request_chain.proofs.GainLemmas.{gains_one}
@@ -128,24 +130,24 @@ module _ (url hop : List ℕ) (count status : ℕ) (before now new used : List E
   pub moved_often : (text : List ℕ) (by : ℕ) → 20 ≤ count → NewestTells hop now new (Away by text)
       → (x : List Exchange) × Gains before new x × Probed url x (Lost losses.Redirects)
   moved_often text by often tells =
-      let is : nat_le redirect_limit count ≡ true = le-leb 20 count often in
+      let is : nat_le REDIRECT_LIMIT count ≡ true = le-leb 20 count often in
       let next : next_search hop count (Away by text) ≡ Found (Lost losses.Redirects) = rw is refl in
       found (Away by text) (Lost losses.Redirects) tells next
 
   -- where it may be moved again
-  next_is : (text : List ℕ) (to : Option (List ℕ)) (by : ℕ) → nat_le redirect_limit count ≡ false → moved_to hop text ≡ to
+  next_is : (text : List ℕ) (to : Option (List ℕ)) (by : ℕ) → nat_le REDIRECT_LIMIT count ≡ false → moved_to hop text ≡ to
       → next_search hop count (Away by text) ≡ search_at to (count + 1) by
   next_is text to by few is =
       let P : Option (List ℕ) → Type 0 = λ t. next_search hop count (Away by text) ≡ search_at t (count + 1) by in
       subst P is (rw few refl)
 
-  pub moved_on : (text to : List ℕ) (by : ℕ) → nat_le redirect_limit count ≡ false → moved_to hop text ≡ Some to → NewestTells hop now new (Away by text)
+  pub moved_on : (text to : List ℕ) (by : ℕ) → nat_le REDIRECT_LIMIT count ≡ false → moved_to hop text ≡ Some to → NewestTells hop now new (Away by text)
       → (x : List Exchange) × Gains before new x × SearchLeads (At url 0 0) x (At to (count + 1) by)
   moved_on text to by few is tells =
       let on = search_on (Away by text) (At to (count + 1) by) tells (next_is text (Some to) by few is) in
       (used ++ tells.0 ∷ [], on.0, on.1)
 
-  pub moved_nowhere : (faults : ℕ) (text : List ℕ) (by : ℕ) (loss : Loss) → nat_le redirect_limit count ≡ false → NewestTells hop now new (Away by text)
+  pub moved_nowhere : (faults : ℕ) (text : List ℕ) (by : ℕ) (loss : Loss) → nat_le REDIRECT_LIMIT count ≡ false → NewestTells hop now new (Away by text)
       → ((loss ≡ losses.NoMemory) ⊎ ((loss ≡ unusable by) × (moved_to hop text ≡ None)))
       → (x : List Exchange) × Gains before new x × TellsProbeLoss url x faults loss
   moved_nowhere faults text by loss few tells lost =

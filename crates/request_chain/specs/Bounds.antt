@@ -12,14 +12,14 @@ use Rattle.request_chain.specs.Chains.{Gains, received_by}
 use Rattle.request_chain.specs.Exchanges.{IsSentInVain, Replies}
 use Rattle.request_chain.specs.Plans.{NextAsk, Ask, Over, plan_of, asked_of, next_plan}
 use Rattle.request_chain.specs.Probes.{Probe, Probed, probe_asked}
-use Rattle.request_chain.specs.Redirects.{redirect_limit}
+use Rattle.request_chain.specs.declared.course.TheConstants.{REDIRECT_LIMIT}
 use Rattle.span_map.specs.Jobs.{IsJobPart}
 use Rattle.span_map.specs.declared.jobs.JobPart.{JobPart}
 
 -- 12,468,868 bytes, and 261 for each byte up to the last one that is asked for: the longest heads of each reply, and
 -- behind those of the last reply content, its lines and one buffer
 abbrev pub request_most : Asked → ℕ
-request_most asked = (redirect_limit + 1) * heads_most + lines_most + MOST_RECEIVED + 261 * (asked.last + 1)
+request_most asked = (REDIRECT_LIMIT + 1) * heads_most + lines_most + MOST_RECEIVED + 261 * (asked.last + 1)
 
 -- so many bytes came by the redirects before
 abbrev pub redirected : Turn → ℕ → ℕ

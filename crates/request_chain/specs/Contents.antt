@@ -2,7 +2,7 @@
 use Rattle.std.specs.Prelude.{◌≡◌, ◌+◌, ◌-◌, min, true, ◌<◌, ◌≤◌, ◌^◌, ℕ, Bool, false, List, [], ◌++◌, length, drop, ⊤, Option, Some, None, if◌then◌else◌}
 use Rattle.body_frames.specs.Bodies.{Framing}
 use Rattle.range_http.specs.declared.asked.Asked.{Asked}
-use Rattle.range_http.specs.declared.head.Head.{Head}
+use Rattle.http_heads.specs.declared.head.Head.{Head}
 use Rattle.range_http.specs.declared.framing.Framing.{Framing as ToldFraming}
 use Rattle.range_http.specs.declared.framing.Framing.TheVariants.{Length as ToldLength, Chunked as ToldChunked, ToEnd as ToldToEnd}
 use Rattle.range_http.specs.Persistence.{persists}

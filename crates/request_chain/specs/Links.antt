@@ -1,6 +1,6 @@
 -- What a chain tells of its link.
 use Rattle.std.specs.Prelude.{◌≡◌, ℕ}
-use Rattle.dl_words.specs.Counts.{Rose}
+use Rattle.dl_kinds.specs.Counts.{Rose}
 use Rattle.reply_reader.specs.declared.loss.Loss.{Loss}
 use Rattle.reply_reader.specs.declared.loss.Loss.TheVariants.{Link}
 

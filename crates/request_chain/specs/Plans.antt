@@ -1,12 +1,15 @@
 -- What is asked next, where parts of resources are to come one after the other (RFC 9110 sections 14 and 15.4).
 use Rattle.std.specs.Prelude.{◌≡◌, ◌⊎◌, ℕ, ◌+◌, ◌-◌, nat_lt, nat_le, List, [], ◌∷◌, Option, Some, None, if◌then◌else◌}
+use Rattle.dl_kinds.specs.ExitStatuses.{exit_code}
+use Rattle.dl_kinds.specs.declared.exit_status.ExitStatus.TheVariants.{HttpReply}
 use Rattle.link_source.specs.Endpoint.{IsUsable}
 use Rattle.range_http.specs.declared.asked.Asked.{Asked}
 use Rattle.span_map.specs.declared.jobs.JobPart.{JobPart}
 use Rattle.reply_reader.specs.Answers.{Turn, Due, Given, Away, Lost as LostTurn}
 use Rattle.reply_reader.specs.declared.loss.Loss.{Loss}
 use Rattle.reply_reader.specs.declared.loss.Loss.TheVariants.{Refused, Redirects}
-use Rattle.request_chain.specs.Redirects.{moved_to, redirect_limit}
+use Rattle.request_chain.specs.Redirects.{moved_to}
+use Rattle.request_chain.specs.declared.course.TheConstants.{REDIRECT_LIMIT}
 
 -- All came; more is due; or it is lost.
 pub data FetchEnding : Type 0 where
@@ -40,7 +43,7 @@ plan_behind part parts last =
 
 -- lost for a URL that is no `http` URL, by a reply of this status
 abbrev pub unusable : ℕ → Loss
-unusable status = Refused status (record { 0 = 22 })
+unusable status = Refused status (exit_code HttpReply)
 
 -- the part is asked for where it was moved to
 abbrev pub plan_at : JobPart → List JobPart → ℕ → ℕ → Option (List ℕ) → NextAsk
@@ -52,7 +55,7 @@ abbrev pub next_plan : JobPart → List JobPart → List ℕ → ℕ → Turn �
 next_plan part parts url count Due = Over Open
 next_plan part parts url count (Given last) = plan_behind part parts last
 next_plan part parts url count (Away status location) =
-    if nat_le redirect_limit count then Over (Lost Redirects) else plan_at part parts (count + 1) status (moved_to url location)
+    if nat_le REDIRECT_LIMIT count then Over (Lost Redirects) else plan_at part parts (count + 1) status (moved_to url location)
 next_plan part parts url count (LostTurn loss) = Over (Lost loss)
 
 -- how it stands where no request was sent by the plan

@@ -1,19 +1,23 @@
 -- How long a resource is, by asking for its first byte (RFC 9110 sections 14.4, 15.3.7 and 15.5.17).
 use Rattle.std.specs.Prelude.{◌≡◌, ◌⊎◌, ℕ, ◌+◌, Bool, true, List, [], ◌∷◌, Option, Some, None, unwrap_or, codes, nat_le, if◌then◌else◌}
+use Rattle.dl_kinds.specs.ExitStatuses.{exit_code}
+use Rattle.dl_kinds.specs.declared.exit_status.ExitStatus.TheVariants.{HttpReply}
 use Rattle.link_source.specs.Endpoint.{IsUsable}
 use Rattle.link_source.specs.Exchanges.{Exchange}
 use Rattle.range_http.specs.declared.asked.Asked.{Asked}
-use Rattle.range_http.specs.declared.head.Head.{Head}
+use Rattle.http_heads.specs.declared.head.Head.{Head}
 use Rattle.range_http.specs.declared.verdict.Verdict.{Verdict}
 use Rattle.range_http.specs.declared.verdict.Verdict.TheVariants.{Part, Whole, Empty, WrongLength, Moved, NotFound, Refused}
-use Rattle.range_http.specs.Fields.{values_of, sole}
+use Rattle.http_heads.specs.Fields.{sole}
+use Rattle.range_http.specs.Fields.{values_of}
 use Rattle.range_http.specs.Verdict.{verdict_of}
 use Rattle.reply_reader.specs.Heads.{HasFinalHead, IsHeadDue, HasNoFinalHead}
 use Rattle.reply_reader.specs.declared.loss.Loss.{Loss}
 use Rattle.reply_reader.specs.declared.loss.Loss.TheVariants as losses
 use Rattle.request_chain.specs.Exchanges.{IsExchange}
 use Rattle.request_chain.specs.Plans.{unusable}
-use Rattle.request_chain.specs.Redirects.{moved_to, redirect_limit}
+use Rattle.request_chain.specs.Redirects.{moved_to}
+use Rattle.request_chain.specs.declared.course.TheConstants.{REDIRECT_LIMIT}
 
 -- the first byte is asked for, of a resource of any length
 abbrev pub probe_asked : Asked
@@ -28,7 +32,7 @@ pub data Probe : Type 0 where
 
 -- the length, where it is told
 abbrev pub told_by : ℕ → Option ℕ → Probe
-told_by status None = Lost (losses.Refused status (record { 0 = 22 }))
+told_by status None = Lost (losses.Refused status (exit_code HttpReply))
 told_by status (Some total) = Told total
 
 -- what a head of this verdict tells
@@ -67,7 +71,7 @@ abbrev pub next_search : List ℕ → ℕ → Probe → Search
 next_search url count Due = Found Due
 next_search url count (Told total) = Found (Told total)
 next_search url count (Away status location) =
-    if nat_le redirect_limit count then Found (Lost losses.Redirects) else search_at (moved_to url location) (count + 1) status
+    if nat_le REDIRECT_LIMIT count then Found (Lost losses.Redirects) else search_at (moved_to url location) (count + 1) status
 next_search url count (Lost loss) = Found (Lost loss)
 
 -- what these streams tell, the oldest first

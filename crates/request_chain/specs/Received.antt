@@ -3,7 +3,7 @@ use Rattle.std.specs.Prelude.{◌≡◌, ◌⊎◌, ℕ, ◌+◌, ◌*◌, ◌<�
 use Rattle.link_source.specs.Exchanges.{Exchange}
 use Rattle.link_source.specs.declared.exchanges.TheConstants.{MOST_RECEIVED}
 use Rattle.range_http.specs.declared.asked.Asked.{Asked}
-use Rattle.range_http.specs.declared.head.Head.{Head}
+use Rattle.http_heads.specs.declared.head.Head.{Head}
 use Rattle.range_http.specs.Verdict.{is_moved}
 use Rattle.reply_reader.specs.Answers.{Answer, Answers, Due}
 use Rattle.reply_reader.specs.Heads.{HasFinalHead}

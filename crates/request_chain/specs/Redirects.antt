@@ -19,7 +19,3 @@ joined_to (Err e) location = None
 -- or can't be joined
 abbrev pub moved_to : List ℕ → List ℕ → Option (List ℕ)
 moved_to url location = if is_utf8 location then joined_to (parse_url None url) location else None
-
--- how often the resource of one request may be moved
-abbrev pub redirect_limit : ℕ
-redirect_limit = 20

@@ -1,7 +1,7 @@
 -- A probe, as its streams come.
 use Rattle.std.specs.Prelude.{◌≡◌, ◌≤◌, ℕ, ◌+◌, true, false, List, ◌∷◌, ◌++◌, length, ◌⊎◌, Result, MatchResult}
 use Rattle.link_source.specs.Exchanges.{Exchange}
-use Rattle.range_http.specs.declared.head.Head.{Head}
+use Rattle.http_heads.specs.declared.head.Head.{Head}
 use Rattle.reply_reader.specs.Heads.{HasFinalHead, IsAtHead}
 use Rattle.reply_reader.specs.Sizes.{heads_most}
 use Rattle.reply_reader.specs.declared.heads.HeadReader.{HeadReader}

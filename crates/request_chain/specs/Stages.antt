@@ -1,7 +1,7 @@
 -- How far the newest stream of a chain was read.
 use Rattle.std.specs.Prelude.{◌≡◌, ℕ, ◌+◌, ◌<◌, ◌≤◌, ◌^◌, Bool, false, if◌then◌else◌, List, [], ◌∷◌, ◌++◌, length, ⊤}
 use Rattle.link_source.specs.Exchanges.{Exchange}
-use Rattle.range_http.specs.declared.head.TheConstants.{MAX_HEAD_BYTES}
+use Rattle.http_heads.specs.declared.limits.TheConstants.{MAX_HEAD_BYTES}
 use Rattle.span_map.specs.declared.jobs.JobPart.{JobPart}
 use Rattle.reply_reader.specs.Answers.{Due}
 use Rattle.reply_reader.specs.Heads.{IsHeadDue, HasNoFinalHead, IsAtHead}

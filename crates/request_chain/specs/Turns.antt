@@ -3,7 +3,7 @@ use Rattle.std.specs.Prelude.{◌≡◌, ◌≢◌, ℕ, ◌+◌, ◌*◌, false
 use Rattle.link_source.specs.Endpoint.{IsUsable}
 use Rattle.link_source.specs.Link.{LinkState}
 use Rattle.link_source.specs.Exchanges.{Exchange}
-use Rattle.range_http.specs.declared.head.Head.{Head}
+use Rattle.http_heads.specs.declared.head.Head.{Head}
 use Rattle.range_http.specs.declared.verdict.Verdict.TheVariants.{Moved}
 use Rattle.range_http.specs.Verdict.{verdict_of}
 use Rattle.span_map.specs.declared.jobs.JobPart.{JobPart}

@@ -7,11 +7,13 @@ ghost use Rattle.reply_reader.specs.Answers.{Due, Lost, without_bytes, answer_by
 ghost use Rattle.reply_reader.specs.Losses.{IsKnown};
 ghost use Rattle.reply_reader.specs.Slices.{framing_told};
 ghost use Rattle.reply_reader.specs.declared.slices.SliceState.TheVariants.{More};
+ghost use Rattle.reply_reader.specs.declared.slices.TheConstants.{MAX_PIECE_BYTES};
 ghost use Rattle.request_chain.specs.Contents.{IsAtStart, IsBegun, IsReadTo, ends_behind, turn_by, IsOwn};
 
 use crate::inbox::Inbox;
-use dl_kinds::Code;
-use range_http::{Asked, Framing, Head, Verdict, classify, numbers_and_ranges_are_read, persists};
+use dl_kinds::{Code, ExitStatus};
+use http_heads::Head;
+use range_http::{Asked, Framing, Verdict, classify, numbers_and_ranges_are_read, persists};
 use reply_reader::{Loss, SliceReader, SliceState, final_heads_are_one_and_stay};
 
 /// The content of a reply, whose bytes up to a place are wanted.
@@ -81,7 +83,7 @@ impl Content {
         requires some { 0 < length inbox.old }
         requires some_room { 0 < room }
         requires room { vec_len out.old + room ≤ vec_capacity out.old }
-        requires dropped_room { 65536 ≤ vec_capacity dropped.old }
+        requires dropped_room { MAX_PIECE_BYTES ≤ vec_capacity dropped.old }
         ensures reads { (asked : Asked) (received got : List ℕ)
             → IsReadTo asked received inbox.old got self.old Due
             → (added : List ℕ) × (out.new.items ≡ out.old.items ++ added)
@@ -129,7 +131,7 @@ pub(crate) fn begin(head: &Head, asked: &Asked) -> Result<Option<Content>, Loss>
         Verdict::Moved => Ok(None),
         Verdict::Empty => Err(Loss::Refused {
             status: head.status,
-            code: Code(22),
+            code: Code::of(ExitStatus::HttpReply),
         }),
         Verdict::WrongLength { told } => Err(Loss::Length {
             told,

@@ -30,7 +30,7 @@ pub(crate) struct Course {
 }
 
 /// How often the resource of one request may be moved.
-pub(crate) const REDIRECT_LIMIT: u32 = 20;
+pub const REDIRECT_LIMIT: u32 = 20;
 
 // Where the part at a place begins, and its length. It doesn't matter where there is none.
 fn bounds(parts: &JobParts, place: usize) -> (u64, u64)
@@ -46,7 +46,7 @@ fn bounds(parts: &JobParts, place: usize) -> (u64, u64)
 impl Course {
     ghost use Rattle.request_chain.specs.Courses.{plan_now, IsAsking, IfAsking};
     ghost use Rattle.request_chain.specs.Plans.{Ask, Over, Done, plan_of, plan_behind, asked_of};
-    ghost use Rattle.request_chain.specs.Redirects.{redirect_limit};
+    ghost use Rattle.request_chain.specs.declared.course.TheConstants.{REDIRECT_LIMIT};
 
     pub fn new(parts: JobParts) -> Self
         requires { All IsJobPart parts }
@@ -127,15 +127,15 @@ impl Course {
     /// Whether it was moved as often as it may be.
     pub fn is_moved_often(&self) -> bool
         ensures value { IfAsking (plan_now self.now)
-            (λ part others url count status. result ≡ nat_le redirect_limit count) }
-        ensures few { IsFalse result → self.now.redirects < redirect_limit }
+            (λ part others url count status. result ≡ nat_le REDIRECT_LIMIT count) }
+        ensures few { IsFalse result → self.now.redirects < REDIRECT_LIMIT }
     {
         self.redirects >= REDIRECT_LIMIT
     }
 
     /// It was moved again.
     pub fn follow(&mut self, moved: Moved)
-        requires { self.old.redirects < redirect_limit }
+        requires { self.old.redirects < REDIRECT_LIMIT }
         ensures { IfAsking (plan_now self.old) (λ part others url count status.
             plan_now self.new ≡ Ask part others moved.url (count + 1) moved.status) }
     {

@@ -1,6 +1,6 @@
 // One request, on a connection of its own.
 ghost use Rattle.std.specs.Prelude.{◌≡◌, ◌⊎◌, ◌≤◌, ℕ, List, [], Ok, Some, true, false, IsTrue, IsFalse, IfOk, IfErr, OnOk};
-ghost use Rattle.dl_words.specs.Counts.{Rose};
+ghost use Rattle.dl_kinds.specs.Counts.{Rose};
 ghost use Rattle.reply_reader.specs.Losses.{IsKnown};
 ghost use Rattle.reply_reader.specs.declared.loss.Loss.TheVariants.{Link, NoMemory};
 ghost use Rattle.link_source.specs.Endpoint.{IsUsable};
@@ -13,7 +13,7 @@ ghost use Rattle.request_chain.specs.Rests.{IsOpenTo};
 ghost use Rattle.request_chain.specs.Sending.{loss_by, IsOpened, IsUnopened};
 
 use crate::room::Peer;
-use dl_kinds::{Code, IoErr};
+use dl_kinds::{Code, ExitStatus, IoErr};
 use link_source::{EndErr, Endpoint, Links};
 use range_http::{Asked, request};
 use reply_reader::{Loss, replies_are_read_short};
@@ -43,7 +43,7 @@ fn endpoint(alloc: Global, url: &str, status: u16) -> Result<Endpoint, Loss>
         Ok(endpoint) => Ok(endpoint),
         Err(EndErr::NotUrl | EndErr::Scheme) => Err(Loss::Refused {
             status,
-            code: Code(22),
+            code: Code::of(ExitStatus::HttpReply),
         }),
         Err(EndErr::NoMemory) => Err(Loss::NoMemory),
     }

@@ -13,9 +13,6 @@ use reply_reader::{HeadReader, HeadsRead};
 use std::alloc::Global;
 use std::marker::Model;
 
-/// The most bytes that wait, and that are asked of a link at once.
-const ROOM: usize = MOST_RECEIVED;
-
 /// The bytes that came and weren't read yet, in their order. They wait where the link put them, since more is received
 /// only once all of them are read. While heads are read a byte goes through a buffer of the heads.
 #[derive(Debug, Drop)]
@@ -31,7 +28,7 @@ impl Model for Inbox {
 
     ghost view = { λ i. slice_range i.block.items i.start i.end };
 
-    ghost invariant = { λ i. (i.start ≤ i.end) × (i.end ≤ 65536) × (vec_len i.block ≡ 65536) };
+    ghost invariant = { λ i. (i.start ≤ i.end) × (i.end ≤ MOST_RECEIVED) × (vec_len i.block ≡ MOST_RECEIVED) };
 }
 
 // Receives some bytes into the front of a block.
@@ -62,7 +59,7 @@ impl Inbox {
         ensures { IfOk result (λ inbox. inbox ≡ []) }
     {
         Ok(Inbox {
-            block: vec![in alloc; 0; ROOM]?,
+            block: vec![in alloc; 0; MOST_RECEIVED]?,
             start: 0,
             end: 0,
         })
@@ -96,7 +93,7 @@ impl Inbox {
     {
         self.start = 0;
         self.end = 0;
-        let count = receive(link, &mut self.block, ROOM.min(most as usize))?;
+        let count = receive(link, &mut self.block, MOST_RECEIVED.min(most as usize))?;
         self.end = count;
         Ok(count as u32)
     }
@@ -104,7 +101,7 @@ impl Inbox {
     /// All that waits.
     pub fn waiting(&self) -> &[u8]
         ensures all { result.now ≡ self.now }
-        ensures few { length result.now ≤ 65536 }
+        ensures few { length result.now ≤ MOST_RECEIVED }
     {
         &self.block[self.start..self.end]
     }

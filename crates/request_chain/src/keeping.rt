@@ -2,7 +2,7 @@
 ghost use Rattle.std.specs.Prelude.{◌≡◌, ◌≤◌, List, ℕ, true, IsTrue, length};
 ghost use Rattle.link_source.specs.Exchanges.{Exchange};
 ghost use Rattle.range_http.specs.declared.framing.Framing.TheVariants.{Length};
-ghost use Rattle.range_http.specs.declared.head.Head.{Head};
+ghost use Rattle.http_heads.specs.declared.head.Head.{Head};
 ghost use Rattle.request_chain.specs.Answered.{KeepsAnswers};
 ghost use Rattle.request_chain.specs.Contents.{EndsAt};
 ghost use Rattle.request_chain.specs.Probes.{probe_asked};
@@ -11,8 +11,9 @@ ghost use Rattle.request_chain.specs.Searches.{HasHead, HasHeadAnd};
 
 use crate::inbox::Inbox;
 use crate::room::ChainRoom;
+use http_heads::Head;
 use link_source::Links;
-use range_http::{Asked, Framing, Head, Verdict, classify, persists};
+use range_http::{Asked, Framing, Verdict, classify, persists};
 use reply_reader::final_heads_are_one_and_stay;
 
 fn is_byte(framing: Framing) -> bool

@@ -1,6 +1,8 @@
 // What streams tell of the parts that were asked for.
+ghost use Rattle.std.specs.Prelude.{◌≡◌};
 ghost use Rattle.request_chain.specs.Bounds.{ProbesReceiveLittle, RequestsReceiveLittle};
 ghost use Rattle.request_chain.specs.Fetched.{FetchedIsOne};
+ghost use Rattle.request_chain.specs.declared.course.TheConstants.{REDIRECT_LIMIT};
 
 use link_source::requests_are_read_once;
 use reply_reader::{
@@ -26,3 +28,8 @@ pub fn requests_receive_little()
     replies_are_read_short();
     requests_are_read_once();
 }
+
+/// How often a resource may have been moved. It does nothing when it runs.
+pub fn limits_are_told()
+    ensures { REDIRECT_LIMIT ≡ 20 }
+{}

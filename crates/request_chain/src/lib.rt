@@ -18,7 +18,8 @@ mod room;
 mod stage;
 
 pub use chain::{Chain, ChainRead};
-pub use laws::{fetched_is_one, requests_receive_little};
+pub use course::REDIRECT_LIMIT;
+pub use laws::{fetched_is_one, limits_are_told, requests_receive_little};
 pub use probing::probe;
 pub use reply_reader::Loss;
 pub use room::ChainRoom;

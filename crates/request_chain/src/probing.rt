@@ -1,9 +1,10 @@
 // How long a resource is.
 ghost use Rattle.std.specs.Prelude.{◌≡◌, ◌≢◌, ◌⊎◌, ◌≤◌, ◌<◌, ◌+◌, ◌-◌, [], List, ℕ, true, false, Ok, Some, None, IsTrue, OnOk, IfOk, IfErr, IfSome, MatchResult, codes, length};
-ghost use Rattle.dl_words.specs.Counts.{Rose};
+ghost use Rattle.dl_kinds.specs.Counts.{Rose};
 ghost use Rattle.link_source.specs.Endpoint.{IsUsable};
 ghost use Rattle.link_source.specs.Exchanges.{Exchange};
-ghost use Rattle.range_http.specs.Fields.{values_of, sole};
+ghost use Rattle.http_heads.specs.Fields.{sole};
+ghost use Rattle.range_http.specs.Fields.{values_of};
 ghost use Rattle.range_http.specs.Verdict.{verdict_of};
 ghost use Rattle.range_http.specs.declared.verdict.Verdict.TheVariants.{Moved as HasMoved};
 ghost use Rattle.reply_reader.specs.Losses.{IsKnown};
@@ -27,16 +28,18 @@ use crate::keeping::let_go;
 use crate::redirect::target;
 use crate::room::ChainRoom;
 use crate::stage::check_head;
-use dl_kinds::{Code, Text};
+use dl_kinds::{Code, ExitStatus, Text};
+use http_heads::{Head, MAX_HEAD_BYTES};
 use link_source::Links;
-use range_http::{Asked, Head, Verdict, classify};
+use range_http::{Asked, Verdict, classify};
 use reply_reader::{
-    HeadReader, HeadsRead, Loss, final_heads_are_one_and_stay, replies_are_read_short,
+    HeadReader, HeadsRead, INTERIM_LIMIT, Loss, final_heads_are_one_and_stay,
+    replies_are_read_short,
 };
 use std::alloc::Global;
 
-/// The most bytes of the heads of a reply, and one more.
-const MAX_HEADS: u32 = 9 * 65_536;
+/// The most bytes of the heads of a reply, interim ones and the final one.
+const MAX_HEADS: u32 = (INTERIM_LIMIT as u32 + 1) * MAX_HEAD_BYTES as u32;
 
 // What a head tells: a length, or that the resource was moved.
 fn told_length(head: &Head) -> Result<Option<u64>, Loss>
@@ -64,7 +67,7 @@ fn told_length(head: &Head) -> Result<Option<u64>, Loss>
         Verdict::Part { total: None, .. } | Verdict::Whole { total: None, .. } => Err(
             Loss::Refused {
                 status: head.status,
-                code: Code(22),
+                code: Code::of(ExitStatus::HttpReply),
             },
         ),
         Verdict::Empty => Ok(Some(0)),
@@ -149,7 +152,7 @@ fn receive_head<L: Links>(alloc: Global, link: &mut L, inbox: &mut Inbox) -> Res
             HeadsRead::NoMemory => return Err(Loss::NoMemory),
         }
     }
-    // So many bytes hold a ninth interim head.
+    // So many bytes hold an interim head too many.
     Err(Loss::BadReply)
 }
 
@@ -199,7 +202,7 @@ fn next_hop(alloc: Global, url: &str, head: &Head) -> Result<Moved, Loss>
         }),
         Ok(None) => Err(Loss::Refused {
             status: head.status,
-            code: Code(22),
+            code: Code::of(ExitStatus::HttpReply),
         }),
         Err(_) => Err(Loss::NoMemory),
     }

@@ -18,8 +18,8 @@ use crate::course::Moved;
 use crate::redirect::target;
 use crate::room::ChainRoom;
 use crate::stage::Stage;
-use dl_kinds::Code;
-use range_http::Head;
+use dl_kinds::{Code, ExitStatus};
+use http_heads::Head;
 use reply_reader::{
     HeadReader, HeadsRead, Loss, SliceState, final_heads_are_one_and_stay, streams_have_one_answer,
 };
@@ -56,7 +56,7 @@ impl Chain {
             }
             Ok(None) => Err(Loss::Refused {
                 status: head.status,
-                code: Code(22),
+                code: Code::of(ExitStatus::HttpReply),
             }),
             Err(_) => Err(Loss::NoMemory),
         }

@@ -1,11 +1,13 @@
 // Where a moved resource is.
 ghost use Rattle.std.specs.Prelude.{◌≡◌, List, ℕ, None, Some, IfOk, codes};
 ghost use Rattle.url.specs.Parser.{parse_url};
-ghost use Rattle.range_http.specs.Fields.{values_of, sole};
+ghost use Rattle.http_heads.specs.Fields.{sole};
+ghost use Rattle.range_http.specs.Fields.{values_of};
 ghost use Rattle.request_chain.specs.Redirects.{location_text, joined_to, moved_to};
 
 use dl_kinds::{NoMemory, Text};
-use range_http::{Head, location};
+use http_heads::Head;
+use range_http::location;
 use std::alloc::Global;
 use url::{ParseError, Url};
 

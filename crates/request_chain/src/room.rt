@@ -1,8 +1,10 @@
 // What a chain reads with.
 ghost use Rattle.std.specs.Prelude.{◌≤◌, vec_capacity};
+ghost use Rattle.reply_reader.specs.declared.slices.TheConstants.{MAX_PIECE_BYTES};
 
 use crate::inbox::Inbox;
 use dl_kinds::{NoMemory, Text};
+use reply_reader::MAX_PIECE_BYTES;
 use std::alloc::Global;
 
 /// Where the link is open.
@@ -23,7 +25,7 @@ pub struct ChainRoom {
     pub(crate) peer: Option<Peer>,
     /// Whether its reply ended just where it was read, so that the connection may take another request.
     pub(crate) rests: bool,
-    ghost roomy: { 65536 ≤ vec_capacity dropped },
+    ghost roomy: { MAX_PIECE_BYTES ≤ vec_capacity dropped },
 }
 
 impl ChainRoom {
@@ -39,7 +41,7 @@ impl ChainRoom {
     {
         Ok(ChainRoom {
             inbox: Inbox::new(alloc)?,
-            dropped: Vec::with_capacity(alloc, 65536)?,
+            dropped: Vec::with_capacity(alloc, MAX_PIECE_BYTES)?,
             peer: None,
             rests: false,
         })

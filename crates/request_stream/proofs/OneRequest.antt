@@ -2,13 +2,13 @@
 use Rattle.std.proofs.Common.{◌≡◌, ◌⊎◌, inl, inr, ℕ, ◌+◌, ◌-◌, ◌<◌, ◌≤◌, Bool, List, ◌++◌, length, take, drop, ap, sym, ◌∙◌, arith, length-append, length-drop}
 use Rattle.std.proofs.lemmas.List.{take-append-le, drop-append-le}
 use Rattle.std.specs.Prelude.{Some, None, slice_range}
-use Rattle.ask_heads.specs.Content.{content_length}
-use Rattle.ask_heads.specs.HeadLaws.{HasOneAskHead, AskHeadStays, NoAskHeadStays, AskHeadComesWhole}
-use Rattle.ask_heads.specs.Heads.{IsAskHead}
-use Rattle.ask_heads.specs.Persistence.{hangs_up}
-use Rattle.ask_heads.specs.declared.content.ContentLength.TheVariants.{Bytes}
-use Rattle.ask_heads.specs.declared.head.AskHead.{AskHead}
-use Rattle.ask_heads.specs.declared.head.TheConstants.{MAX_ASK_BYTES}
+use Rattle.http_heads.specs.Content.{content_length}
+use Rattle.http_heads.specs.AskHeadLaws.{HasOneAskHead, AskHeadStays, NoAskHeadStays, AskHeadComesWhole}
+use Rattle.http_heads.specs.AskHeads.{IsAskHead}
+use Rattle.http_heads.specs.Persistence.{hangs_up}
+use Rattle.http_heads.specs.declared.content.ContentLength.TheVariants.{Bytes}
+use Rattle.http_heads.specs.declared.ask_head.AskHead.{AskHead}
+use Rattle.http_heads.specs.declared.limits.TheConstants.{MAX_HEAD_BYTES}
 use Rattle.request_stream.specs.Next.{IsUnfinishedRequest}
 use Rattle.request_stream.specs.Requests.{Request, served, turned_away, IsAllowed, IsServedAt, IsRefusedHead, NeverHasHead, IsOneRequest, refusal_by_head}
 use Rattle.request_stream.specs.Streams.{HasNoWholeRequest}
@@ -94,7 +94,7 @@ module _ (one : HasOneAskHead) where
   pub unfinished_by_len : (most : ℕ) (bytes : List ℕ) (head : AskHead) (size len : ℕ) → IsAskHead bytes head size
       → IsAllowed most head len → length bytes < size + len → IsUnfinishedRequest most bytes
   unfinished_by_len most bytes head size len begins allowed short =
-      let fit : size ≤ MAX_ASK_BYTES = begins.bytes_fit in
+      let fit : size ≤ MAX_HEAD_BYTES = begins.bytes_fit in
       let few : len ≤ most = allowed.few in
       record {
         none = no_whole_by_len most bytes head size len begins allowed short;

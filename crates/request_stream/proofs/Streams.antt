@@ -1,7 +1,7 @@
 -- Laws of the requests in the bytes of a connection.
 use Rattle.std.proofs.Common.{◌≡◌, ◌⊎◌, inl, inr, ℕ, List, [], ◌∷◌, ◌++◌, drop, Bool, true, false, refl, sym, ap, ◌∙◌, true≢false, subst}
 use Rattle.std.proofs.lemmas.List.{drop-append-le}
-use Rattle.ask_heads.specs.HeadLaws.{HasOneAskHead, AskHeadStays, NoAskHeadStays, AskHeadComesWhole}
+use Rattle.http_heads.specs.AskHeadLaws.{HasOneAskHead, AskHeadStays, NoAskHeadStays, AskHeadComesWhole}
 use Rattle.request_stream.specs.Requests.{Request, is_last, IsOneRequest}
 use Rattle.request_stream.specs.Streams.{HasNoWholeRequest, AreRequests, AreFront}
 use Rattle.request_stream.specs.StreamLaws.{HasOneListOfRequests, FrontGoesOn, FrontTakesMore, FrontEnds, FrontEndsWithLast}

@@ -1,6 +1,6 @@
 -- What a look at the front of bytes answers.
 use Rattle.std.specs.Prelude.{ℕ, ◌+◌, ◌<◌, ◌≤◌, Bool, List, length, slice_range, ⊤}
-use Rattle.ask_heads.specs.declared.head.TheConstants.{MAX_ASK_BYTES}
+use Rattle.http_heads.specs.declared.limits.TheConstants.{MAX_HEAD_BYTES}
 use Rattle.request_stream.specs.Requests.{served, turned_away, IsOneRequest}
 use Rattle.request_stream.specs.Streams.{HasNoWholeRequest}
 use Rattle.request_stream.specs.declared.next.NextRequest.{NextRequest}
@@ -15,7 +15,7 @@ pub record IsServedBetween (most : ℕ) (bytes : List ℕ) (from used : ℕ) (la
 -- no whole request, and fewer bytes than a head and a content may take together
 pub record IsUnfinishedRequest (most : ℕ) (bytes : List ℕ) : Type 0 where
   pub none : HasNoWholeRequest most bytes
-  pub few : length bytes < MAX_ASK_BYTES + most
+  pub few : length bytes < MAX_HEAD_BYTES + most
 
 abbrev pub IsNextRequest : ℕ → List ℕ → NextRequest → Type 0
 IsNextRequest most bytes (Served from used last) = IsServedBetween most bytes from used last

@@ -1,11 +1,11 @@
 -- A request to the console, at the front of the bytes that come from a client (RFC 9112 sections 2 to 6).
 use Rattle.std.specs.Prelude.{◌≡◌, ◌⊎◌, ◌≤◌, ℕ, ◌+◌, Bool, true, List, length, slice_range, codes, bytes_eq, nat_lt, if◌then◌else◌, Option, Some, None}
-use Rattle.ask_heads.specs.Content.{content_length}
-use Rattle.ask_heads.specs.Heads.{IsAskHead, IsNoAskHead}
-use Rattle.ask_heads.specs.Persistence.{hangs_up}
-use Rattle.ask_heads.specs.declared.content.ContentLength.{ContentLength}
-use Rattle.ask_heads.specs.declared.content.ContentLength.TheVariants.{Bytes, Beyond, Unclear}
-use Rattle.ask_heads.specs.declared.head.AskHead.{AskHead}
+use Rattle.http_heads.specs.Content.{content_length}
+use Rattle.http_heads.specs.AskHeads.{IsAskHead, IsNoAskHead}
+use Rattle.http_heads.specs.Persistence.{hangs_up}
+use Rattle.http_heads.specs.declared.content.ContentLength.{ContentLength}
+use Rattle.http_heads.specs.declared.content.ContentLength.TheVariants.{Bytes, Beyond, Unclear}
+use Rattle.http_heads.specs.declared.ask_head.AskHead.{AskHead}
 use Rattle.request_stream.specs.declared.refusal.Refusal.{Refusal}
 use Rattle.request_stream.specs.declared.refusal.Refusal.TheVariants.{BadRequest, NotFound, MethodNotAllowed, LengthRequired, ContentTooLarge}
 

@@ -1,7 +1,7 @@
 // Laws of the requests in the bytes of a connection.
 ghost use Rattle.request_stream.specs.StreamLaws.{HasOneRequest, RequestStays, RequestIsWithin, HasOneListOfRequests, FrontGoesOn, FrontTakesMore, FrontEnds, FrontEndsWithLast};
 
-use ask_heads::ask_heads_are_one_and_stay;
+use http_heads::ask_heads_are_one_and_stay;
 
 /// Laws of the requests in the bytes of a connection. Bytes begin with one request at most, which stays whatever follows: so
 /// they have one list of requests, which can be read from the front as the bytes come.

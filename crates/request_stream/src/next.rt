@@ -1,10 +1,10 @@
 // The request at the front of the bytes.
 ghost use Rattle.std.specs.Prelude.{◌≤◌, length};
-ghost use Rattle.ask_heads.specs.Heads.{IsAskHead};
+ghost use Rattle.http_heads.specs.AskHeads.{IsAskHead};
 ghost use Rattle.request_stream.specs.Next.{IsNextRequest};
 
 use crate::refusal::{Refusal, allowed};
-use ask_heads::{AskHead, AskRead, ask_heads_are_one_and_stay, hangs_up, read_ask_head};
+use http_heads::{AskHead, AskRead, ask_heads_are_one_and_stay, hangs_up, read_ask_head};
 use std::alloc::Global;
 
 /// What stands at the front of bytes.

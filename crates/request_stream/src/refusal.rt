@@ -1,9 +1,9 @@
 // Why a request is turned away.
 ghost use Rattle.std.specs.Prelude.{◌≡◌, ◌≤◌, Some, MatchResult};
-ghost use Rattle.ask_heads.specs.Content.{content_length};
+ghost use Rattle.http_heads.specs.Content.{content_length};
 ghost use Rattle.request_stream.specs.Requests.{refusal_by_head, refusal_by_length, IsAllowed};
 
-use ask_heads::{AskHead, ContentLength, content_length};
+use http_heads::{AskHead, ContentLength, content_length};
 
 /// Why a request is turned away. The connection is closed behind the response.
 #[derive(Clone, Copy, Debug, PartialEq, Eq)]

@@ -1,7 +1,7 @@
 -- Causes of errors that are handed on.
 use Rattle.std.proofs.Common.{◌≡◌, ◌∙◌, ℕ, Some, subst, refl, arith}
 use Rattle.std.specs.Prelude.{Result, Ok, Err, IsErrAnd, IfErr}
-use Rattle.dl_words.specs.Counts.{Rose}
+use Rattle.dl_kinds.specs.Counts.{Rose}
 use Rattle.dl_kinds.specs.Causes.{HasCause}
 use Rattle.dl_kinds.specs.declared.outside.IoErr.{IoErr}
 use Rattle.dl_kinds.specs.declared.outside.IoErr.TheVariants.{Fault, NoMemory as OutOfMemory}

@@ -1,6 +1,6 @@
 -- What a download is opened with, and what an opening does to a disk.
 use Rattle.std.specs.Prelude.{◌≡◌, ◌≢◌, ◌≤◌, ◌<◌, ◌↔◌, ◌⊎◌, ℕ, Bool, true, false, ◌&&◌, List, slice_get, Option, Some, None, Result, OnOk, IfErr, IsErrOf, IsSome, is_some}
-use Rattle.dl_words.specs.Counts.{Rose}
+use Rattle.dl_kinds.specs.Counts.{Rose}
 use Rattle.dl_disk.specs.Calls.{Stays}
 use Rattle.dl_disk.specs.Files.{Files, IsSame}
 use Rattle.dl_disk.specs.Passes.{Passes}

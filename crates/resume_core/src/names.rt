@@ -2,7 +2,7 @@
 ghost use Rattle.std.specs.Prelude.{◌≡◌, ◌++◌, codes, string_bytes, IfOk};
 ghost use Rattle.resume_core.specs.Wants.{payload_name, control_name, temporary_name};
 
-use control_file::Want;
+use control_file::{CONTROL_SUFFIX, TEMPORARY_SUFFIX, Want};
 use dl_kinds::Texts;
 use payload_files::file_name;
 use std::alloc::{AllocError, Global};
@@ -20,7 +20,7 @@ pub(crate) fn control_text(alloc: Global, want: &Want) -> Result<String, AllocEr
     ensures { IfOk result (λ name. string_bytes name ≡ control_name want.now) }
 {
     let mut name = payload_text(alloc, want)?;
-    name.push_str(".aria2")?;
+    name.push_str(CONTROL_SUFFIX)?;
     Ok(name)
 }
 
@@ -29,6 +29,6 @@ pub(crate) fn temporary_text(alloc: Global, want: &Want) -> Result<String, Alloc
     ensures { IfOk result (λ name. string_bytes name ≡ temporary_name want.now) }
 {
     let mut name = payload_text(alloc, want)?;
-    name.push_str(".aria2__temp")?;
+    name.push_str(TEMPORARY_SUFFIX)?;
     Ok(name)
 }

@@ -24,7 +24,7 @@ pub use calls::{bare_asking, keyed_asking, position_asking, status_asking};
 pub use changes::{change_asking, global_change_asking};
 pub use dispatch::{asking_of, call_of};
 pub use errors::RpcErr;
-pub use laws::{askings_are_lawful, methods_have_names};
+pub use laws::{askings_are_lawful, limits_are_told, methods_have_names};
 pub use methods::{BareMethod, KeyMethod, METHODS, Method, WindowMethod};
 pub use names::method_names;
 pub use options::{OptionUse, options_of};

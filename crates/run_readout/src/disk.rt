@@ -1,6 +1,7 @@
 // A disk whose files show how far a run has come.
 use crate::Progress;
 use crate::listed::listed_in;
+use control_file::{CONTROL_SUFFIX, TEMPORARY_SUFFIX};
 use dl_disk::Disk;
 use dl_kinds::IoErr;
 use std::alloc::Global;
@@ -42,7 +43,7 @@ impl<'a, D: Disk + Drop> Drop for WatchedDisk<'a, D> {
 }
 
 fn is_control(name: &str) -> bool {
-    name.ends_with(".aria2") || name.ends_with(".aria2__temp")
+    name.ends_with(CONTROL_SUFFIX) || name.ends_with(TEMPORARY_SUFFIX)
 }
 
 impl<'a, D: Disk> Disk for WatchedDisk<'a, D> {

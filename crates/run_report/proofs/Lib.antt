@@ -2,3 +2,13 @@ pub mod Failing
 pub mod LineFacts
 pub mod OneSummary
 pub mod Taking
+pub mod Recent
+pub mod Shares
+pub mod Rows
+pub mod Mirrors
+pub mod FileLists
+pub mod NewestEnds
+pub mod Telling
+pub mod Fields
+pub mod Changes
+pub mod Naming

@@ -3,13 +3,13 @@ use Rattle.std.specs.Prelude.{ℕ, Option}
 use Rattle.std.specs.Option.{option_map_or}
 use Rattle.machine_core.specs.declared.ends.End.{End}
 use Rattle.machine_core.specs.declared.ends.End.TheVariants as end
-use Rattle.run_report.specs.Statuses.{code_of_status}
+use Rattle.dl_kinds.specs.ExitStatuses.{code_of_status}
 use Rattle.run_report.specs.declared.endings.MetainfoFault.{MetainfoFault}
 use Rattle.run_report.specs.declared.endings.MetainfoFault.TheVariants as fault
 use Rattle.run_report.specs.declared.endings.RunEnding.{RunEnding}
 use Rattle.run_report.specs.declared.endings.RunEnding.TheVariants as ending
-use Rattle.run_report.specs.declared.statuses.ExitStatus.{ExitStatus}
-use Rattle.run_report.specs.declared.statuses.ExitStatus.TheVariants as status
+use Rattle.dl_kinds.specs.declared.exit_status.ExitStatus.{ExitStatus}
+use Rattle.dl_kinds.specs.declared.exit_status.ExitStatus.TheVariants as status
 
 -- that of a dead piece is the one of its last mark
 abbrev pub code_of_end : End → ℕ

@@ -1,48 +1,66 @@
--- The exit statuses (aria2 manual, section EXIT STATUS); 40 and 41 are this program's own.
-use Rattle.std.specs.Prelude.{◌≡◌, ℕ, ◌==◌, Option, Some, List, [], codes, find}
-use Rattle.std.specs.Option.{option_map_or}
-use Rattle.run_report.specs.declared.statuses.ExitStatus.{ExitStatus}
-use Rattle.run_report.specs.declared.statuses.ExitStatus.TheVariants as status
-use Rattle.run_report.specs.declared.statuses.TheConstants.{EXIT_STATUSES}
+-- What is told of a download (aria2 manual, `aria2.tellStatus`).
+use Rattle.std.specs.Prelude.{ℕ, Option, Some, None, List, length, if◌then◌else◌}
+use Rattle.std.specs.Option.{option_map, unwrap_or}
+use Rattle.bit_rows.specs.Row.{row_bytes}
+use Rattle.dl_history.specs.OwnEvents.{OwnEvent}
+use Rattle.dl_history.specs.PayloadParts.{is_opened}
+use Rattle.dl_history.specs.StandingClaims.{standing_claims}
+use Rattle.dl_kinds.specs.Plan.{pieces_of}
+use Rattle.dl_kinds.specs.declared.gid.Gid.{Gid}
+use Rattle.dl_kinds.specs.declared.runs.Moment.{Moment}
+use Rattle.dl_kinds.specs.declared.status.Status.{Status}
+use Rattle.dl_kinds.specs.declared.status.Status.TheVariants.{Removed}
+use Rattle.dl_queue.specs.Places.{status_of}
+use Rattle.hex.specs.Hex.{encode_lower}
+use Rattle.machine_core.specs.FileNames.{folder_in}
+use Rattle.machine_core.specs.Openings.{landed_bytes_in}
+use Rattle.machine_core.specs.OwnParts.{PayloadLengths, own_of}
+use Rattle.machine_core.specs.Replays.{queue_in}
+use Rattle.machine_core.specs.RunLegal.{download_in, known_lengths}
+use Rattle.machine_core.specs.Starts.{RunStart, Download}
+use Rattle.machine_core.specs.declared.events.Event.{Event}
+use Rattle.run_report.specs.Failures.{end_of}
+use Rattle.run_report.specs.Ends.{error_code, error_message}
+use Rattle.run_report.specs.Files.{file_views, verified_row}
+use Rattle.run_report.specs.Speeds.{speed_of}
+use Rattle.run_report.specs.Subjects.{info_hash_text, piece_length_by}
+use Rattle.run_report.specs.declared.views.StatusView.{StatusView}
 
--- the number and the words of each
-abbrev pub row_of_status : ExitStatus → ℕ × List ℕ
-row_of_status status.Done = (0, codes "")
-row_of_status status.Unusable = (1, codes "control file or length is not usable")
-row_of_status status.NotFound = (3, codes "resource not found")
-row_of_status status.Network = (6, codes "network problem")
-row_of_status status.Unfinished = (7, codes "downloads are not finished")
-row_of_status status.PieceLength = (10, codes "piece length differs from the control file")
-row_of_status status.SameFile = (11, codes "file is already being downloaded")
-row_of_status status.SameHash = (12, codes "info hash is already being downloaded")
-row_of_status status.Exists = (13, codes "file already exists")
-row_of_status status.FileIo = (17, codes "file I/O error")
-row_of_status status.FtpCommand = (21, codes "FTP command failed")
-row_of_status status.HttpReply = (22, codes "unexpected HTTP reply")
-row_of_status status.Redirects = (23, codes "too many redirects")
-row_of_status status.Authorization = (24, codes "HTTP authorization failed")
-row_of_status status.BadBencode = (25, codes "bencoded bytes are wrong")
-row_of_status status.BadMetainfo = (26, codes "torrent is not usable")
-row_of_status status.BadWords = (28, codes "command line is wrong")
-row_of_status status.Unavailable = (29, codes "server temporarily unable")
-row_of_status status.Checksum = (32, codes "checksum failed")
-row_of_status status.NoMemory = (40, codes "out of memory")
-row_of_status status.SinkFault = (41, codes "output failed")
+-- the verified pieces, once the download is opened
+abbrev pub bitfield_text : PayloadLengths → List OwnEvent → Option (List ℕ)
+bitfield_text lengths own =
+    if is_opened own then Some (encode_lower (row_bytes (verified_row lengths own))) else None
 
-abbrev pub code_of_status : ExitStatus → ℕ
-code_of_status status = (row_of_status status).0
+-- one that stands in no list isn't told of
+abbrev pub status_in : RunStart → List Event → Gid → Status
+status_in start past gid = unwrap_or (status_of (queue_in start past) gid) Removed
 
-abbrev pub words_of_status : ExitStatus → List ℕ
-words_of_status status = (row_of_status status).1
+-- a download whose payload has this name
+abbrev pub status_view : RunStart → List Event → Moment → List ℕ → Gid → Download → StatusView
+status_view start past now name gid download =
+    let own = own_of start past gid in
+    let lengths = known_lengths start past gid in
+    let reached = status_in start past gid in
+    record {
+      bitfield = bitfield_text lengths own;
+      completed_length = landed_bytes_in lengths.total lengths.piece_len own;
+      connections = length (standing_claims own);
+      dir = folder_in download;
+      download_speed = speed_of start past gid now;
+      error_code = error_code reached (end_of past gid);
+      error_message = error_message reached (end_of past gid);
+      files = file_views download name lengths own;
+      gid = gid;
+      info_hash = info_hash_text download.subject;
+      num_pieces = pieces_of lengths.total lengths.piece_len;
+      piece_length = piece_length_by download download.subject;
+      status = reached;
+      total_length = lengths.total;
+      upload_length = 0;
+      upload_speed = 0;
+    }
 
--- the status with this number
-abbrev pub status_with : ℕ → Option ExitStatus
-status_with code = find (λ status. code_of_status status == code) EXIT_STATUSES
-
--- the words of a number; none of one that no status has
-abbrev pub words_of_code : ℕ → List ℕ
-words_of_code code = option_map_or words_of_status (status_with code) []
-
--- each status is found by its number
-abbrev pub StatusesHaveCodes : Type 0
-StatusesHaveCodes = (status : ExitStatus) → status_with (code_of_status status) ≡ Some status
+-- a download of this gid, if there is one
+abbrev pub status_view_of : RunStart → List Event → Moment → (Gid → List ℕ) → Gid → Option StatusView
+status_view_of start past now names gid =
+    option_map (status_view start past now (names gid) gid) (download_in start past gid)

@@ -2,7 +2,7 @@
 ghost use Rattle.std.specs.Prelude.{◌≡◌};
 ghost use Rattle.run_report.specs.Endings as specs;
 
-use crate::ExitStatus;
+use dl_kinds::ExitStatus;
 use machine_core::End;
 
 /// The number of the exit status that the end of a download names: that of a dead piece is the one of its last mark.

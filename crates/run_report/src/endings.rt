@@ -2,7 +2,8 @@
 ghost use Rattle.std.specs.Prelude.{◌≡◌};
 ghost use Rattle.run_report.specs.Endings.{code_of_ending, status_of_fault};
 
-use crate::{ExitStatus, code_of_end};
+use crate::code_of_end;
+use dl_kinds::ExitStatus;
 use machine_core::End;
 
 /// Why the metainfo file that the words name gives no download.

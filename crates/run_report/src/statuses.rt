@@ -1,122 +1,85 @@
-// The exit statuses.
-ghost use Rattle.std.specs.Prelude.{◌≡◌};
+// What is told of a download.
+ghost use Rattle.std.specs.Prelude.{◌≡◌, IfOk};
+ghost use Rattle.dl_kinds.specs.Plan.{pieces_of};
+ghost use Rattle.run_report.specs.Ends.{AreEnds};
 ghost use Rattle.run_report.specs.Statuses as spec;
-ghost use Rattle.run_report.specs.Statuses.{code_of_status, words_of_status};
+ghost use Rattle.run_report.specs.Sums.{AreSpeeds};
+ghost use Rattle.run_report.specs.Told.{lengths_told, own_told};
 
-/// The exit statuses of the aria2 manual, section EXIT STATUS, that a run may have, and two of this program's own: want of
-/// memory, and a sink that failed.
-#[derive(Clone, Copy, Debug, PartialEq, Eq)]
-pub enum ExitStatus {
-    Done,
-    Unusable,
-    NotFound,
-    Network,
-    Unfinished,
-    PieceLength,
-    SameFile,
-    SameHash,
-    Exists,
-    FileIo,
-    FtpCommand,
-    HttpReply,
-    Redirects,
-    Authorization,
-    BadBencode,
-    BadMetainfo,
-    BadWords,
-    Unavailable,
-    Checksum,
-    NoMemory,
-    SinkFault,
-}
+use crate::StatusView;
+use crate::ends::{Ends, error_message, told_code};
+use crate::speeds::Speeds;
+use crate::told::{Told, hex_text};
+use dl_kinds::{Moment, Status, Text};
+use machine_core::accounts_match_runs;
+use std::alloc::{AllocError, Global};
 
-/// All of them, by their numbers.
-pub const EXIT_STATUSES: [ExitStatus; 21] = [
-    ExitStatus::Done,
-    ExitStatus::Unusable,
-    ExitStatus::NotFound,
-    ExitStatus::Network,
-    ExitStatus::Unfinished,
-    ExitStatus::PieceLength,
-    ExitStatus::SameFile,
-    ExitStatus::SameHash,
-    ExitStatus::Exists,
-    ExitStatus::FileIo,
-    ExitStatus::FtpCommand,
-    ExitStatus::HttpReply,
-    ExitStatus::Redirects,
-    ExitStatus::Authorization,
-    ExitStatus::BadBencode,
-    ExitStatus::BadMetainfo,
-    ExitStatus::BadWords,
-    ExitStatus::Unavailable,
-    ExitStatus::Checksum,
-    ExitStatus::NoMemory,
-    ExitStatus::SinkFault,
-];
-
-impl ExitStatus {
-    /// The number with which the program exits, and short words for people.
-    const fn row(self) -> (u8, &'static str)
-        ensures code { result.0 ≡ code_of_status self }
-        ensures words { result.1.now ≡ words_of_status self }
+impl<'a> Told<'a> {
+    // The verified pieces, once it is opened.
+    fn bitfield(&self, alloc: Global) -> Result<Option<Text>, AllocError>
+        ensures { IfOk result (λ text.
+            text ≡ spec.bitfield_text (lengths_told self.now) (own_told self.now)) }
     {
-        match self {
-            ExitStatus::Done => (0, ""),
-            ExitStatus::Unusable => (1, "control file or length is not usable"),
-            ExitStatus::NotFound => (3, "resource not found"),
-            ExitStatus::Network => (6, "network problem"),
-            ExitStatus::Unfinished => (7, "downloads are not finished"),
-            ExitStatus::PieceLength => (10, "piece length differs from the control file"),
-            ExitStatus::SameFile => (11, "file is already being downloaded"),
-            ExitStatus::SameHash => (12, "info hash is already being downloaded"),
-            ExitStatus::Exists => (13, "file already exists"),
-            ExitStatus::FileIo => (17, "file I/O error"),
-            ExitStatus::FtpCommand => (21, "FTP command failed"),
-            ExitStatus::HttpReply => (22, "unexpected HTTP reply"),
-            ExitStatus::Redirects => (23, "too many redirects"),
-            ExitStatus::Authorization => (24, "HTTP authorization failed"),
-            ExitStatus::BadBencode => (25, "bencoded bytes are wrong"),
-            ExitStatus::BadMetainfo => (26, "torrent is not usable"),
-            ExitStatus::BadWords => (28, "command line is wrong"),
-            ExitStatus::Unavailable => (29, "server temporarily unable"),
-            ExitStatus::Checksum => (32, "checksum failed"),
-            ExitStatus::NoMemory => (40, "out of memory"),
-            ExitStatus::SinkFault => (41, "output failed"),
+        accounts_match_runs();
+        let _ = self.machine.journal();
+        match self.machine.table(self.gid) {
+            Some(table) => Ok(Some(hex_text(alloc, table.verified().bytes())?)),
+            None => Ok(None),
         }
     }
 
-    /// The number with which the program exits.
-    pub const fn code(self) -> u8
-        ensures { result ≡ code_of_status self }
+    fn num_pieces(&self) -> u64
+        ensures { result
+            ≡ pieces_of (lengths_told self.now).total (lengths_told self.now).piece_len }
     {
-        self.row().0
+        match self.machine.lengths(self.gid) {
+            Some(lengths) => lengths.total.div_ceil(lengths.piece_len as u64),
+            None => 0,
+        }
     }
 
-    /// Short words for people, and none where all is done.
-    pub const fn words(self) -> &'static str
-        ensures { result.now ≡ words_of_status self }
+    fn status(&self) -> Status
+        ensures { result ≡ spec.status_in self.now.machine.start self.now.machine.past
+            self.now.download.gid }
     {
-        self.row().1
+        match self.machine.status(self.gid) {
+            Some(status) => status,
+            None => Status::Removed,
+        }
     }
 
-    /// The status with this number.
-    pub fn with_code(code: u8) -> Option<ExitStatus>
-        ensures { result ≡ spec.status_with code }
+    /// What is told of it at a moment.
+    pub(crate) fn status_view(
+        &self,
+        alloc: Global,
+        ends: &Ends,
+        speeds: &Speeds,
+        now: Moment,
+    ) -> Result<StatusView, AllocError>
+        requires ends { AreEnds ends.now self.now.machine.past }
+        requires speeds { AreSpeeds speeds.now self.now.machine.start self.now.machine.past now }
+        ensures { IfOk result (λ view. view ≡ spec.status_view self.now.machine.start
+            self.now.machine.past now self.now.name self.now.download.gid self.now.download) }
     {
-        EXIT_STATUSES
-            .iter()
-            .copied()
-            .find(|status| status.code() == code)
-    }
-}
-
-/// Short words for people on a number with which the program exits; none of 0, and of one that no status has.
-pub fn words_of_code(code: u8) -> &'static str
-    ensures { result.now ≡ spec.words_of_code code }
-{
-    match ExitStatus::with_code(code) {
-        Some(status) => status.words(),
-        None => "",
+        let status = self.status();
+        let code = ends.error_code(self.machine, self.gid, status);
+        Ok(StatusView {
+            bitfield: self.bitfield(alloc)?,
+            completed_length: self.machine.landed_bytes(self.gid),
+            connections: self.machine.standing(self.gid) as u64,
+            dir: Text::of(alloc, self.folder())?,
+            download_speed: speeds.speed(self.machine, self.gid, now),
+            error_code: told_code(code),
+            error_message: error_message(alloc, code)?,
+            files: self.file_views(alloc)?,
+            gid: self.gid,
+            info_hash: self.info_hash(alloc)?,
+            num_pieces: self.num_pieces(),
+            piece_length: self.piece_length(),
+            status,
+            total_length: self.total_length(),
+            upload_length: 0,
+            upload_speed: 0,
+        })
     }
 }

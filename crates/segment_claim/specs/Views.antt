@@ -4,7 +4,7 @@ use Rattle.std.specs.List.{list_any}
 use Rattle.dl_kinds.specs.declared.claims.Claim.{Claim}
 use Rattle.dl_kinds.specs.declared.claims.ClaimView.{ClaimView}
 use Rattle.dl_kinds.specs.declared.runs.Run.{Run}
-use Rattle.dl_words.specs.Lists.{part_at}
+use Rattle.dl_kinds.specs.Lists.{part_at}
 use Rattle.piece_table.specs.Changes.{is_in}
 use Rattle.slow_steal.specs.Theft.{later_half}
 use Rattle.segment_claim.specs.Free.{IsMirrorFor, is_open_at, piece_at}

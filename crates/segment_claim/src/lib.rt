@@ -14,7 +14,6 @@ mod views;
 pub use claims::Claims;
 pub use dl_kinds::Claim;
 pub use free::Found;
-pub use laws::steals_are_of_claims;
+pub use laws::{limits_are_told, steals_are_of_claims};
 pub use limits::{Limits, MAX_SPLIT};
-pub use std::alloc::AllocError as NoMemory;
 pub use views::Views;

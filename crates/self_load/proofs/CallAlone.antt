@@ -32,12 +32,12 @@ use Rattle.machine_core.specs.declared.ends.End.TheVariants.{Complete}
 use Rattle.machine_core.specs.declared.events.Event.{Event}
 use Rattle.machine_core.specs.declared.events.Event.TheVariants as event
 use Rattle.metainfo.specs.declared.meta.Meta.{Meta}
-use Rattle.run_frame.specs.Begins.{IsOwnCall, is_no_memory}
-use Rattle.run_frame.specs.Finishes.{Ran}
-use Rattle.run_frame.specs.Stops.{all_turns}
-use Rattle.run_frame.specs.declared.ended.Ended.{Ended}
-use Rattle.run_frame.proofs.Ran as ran_facts
-use Rattle.run_frame.proofs.Turns as list_facts
+use Rattle.run_lifecycle.specs.Begins.{IsOwnCall, is_no_memory}
+use Rattle.run_lifecycle.specs.Finishes.{Ran}
+use Rattle.run_lifecycle.specs.Stops.{all_turns}
+use Rattle.run_lifecycle.specs.declared.ended.Ended.{Ended}
+use Rattle.run_lifecycle.proofs.Ran as ran_facts
+use Rattle.run_lifecycle.proofs.Turns as list_facts
 use Rattle.run_report.specs.Failures.{ending_by_history}
 use Rattle.run_report.specs.declared.endings.RunEnding.TheVariants.{Done}
 use Rattle.stored_run.proofs.Doing.{own_grows}

@@ -20,17 +20,17 @@ use Rattle.link_source.specs.declared.Links.{Ghosts as LinkSays}
 use Rattle.machine_core.specs.Starts.{Listed}
 use Rattle.machine_core.specs.declared.events.Event.{Event}
 use Rattle.metainfo.specs.Info.{info_of}
-use Rattle.run_frame.specs.declared.ended.Ended.{Ended}
+use Rattle.run_lifecycle.specs.declared.ended.Ended.{Ended}
 use Rattle.run_report.specs.declared.endings.RunEnding.TheVariants.{NoMemory}
 use Rattle.served_runs.specs.Serving.{ServesRightly}
 use Rattle.served_runs.specs.Completes.{CompletesServed, EndsCutShort, HadNoFaults, IsCutShort, IsDone, own_options}
-use Rattle.load_parts.specs.Links.{load_content}
-use Rattle.load_parts.specs.LoadLine.{WordsNameLoad}
-use Rattle.load_parts.specs.Metainfo.{metainfo_by}
-use Rattle.load_parts.specs.Payload.{digests_of}
-use Rattle.load_parts.specs.Said.{MetainfoFilesAreRead, MetainfoFilesSayPayloads, SaysPayload}
-use Rattle.load_parts.specs.Words.{run_words}
-use Rattle.load_parts.proofs.Said.{file_long}
+use Rattle.load_setup.specs.Links.{load_content}
+use Rattle.load_setup.specs.LoadLine.{WordsNameLoad}
+use Rattle.load_setup.specs.Metainfo.{metainfo_by}
+use Rattle.load_setup.specs.Payload.{digests_of}
+use Rattle.load_setup.specs.Said.{MetainfoFilesAreRead, MetainfoFilesSayPayloads, SaysPayload}
+use Rattle.load_setup.specs.Words.{run_words}
+use Rattle.load_setup.proofs.Said.{file_long}
 use Rattle.self_load.proofs.Served.{payload_is, serves_rightly}
 
 -- ---- no control file

@@ -2,9 +2,9 @@
 use Rattle.std.proofs.Common.{◌≡◌, ◌∙◌, ℕ, zero, suc, ◌+◌, Some, slice_get, ap, sym, List, [], ◌∷◌, ◌++◌, length, arith, subst}
 use Rattle.dl_clock.specs.declared.memory.MemClock.{MemClock}
 use Rattle.link_source.specs.Link.{LinkState}
-use Rattle.load_parts.specs.Links.{IsLoadLink, load_content}
-use Rattle.load_parts.specs.Sound.{sound_links_state}
-use Rattle.load_parts.specs.declared.sound_links.SoundLinks.{SoundLinks}
+use Rattle.load_setup.specs.Links.{IsLoadLink, load_content}
+use Rattle.load_setup.specs.Sound.{sound_links_state}
+use Rattle.load_setup.specs.declared.sound_links.SoundLinks.{SoundLinks}
 use Rattle.self_load.specs.Inner.{AreLinksFrom}
 
 links_more : (n first number : ℕ) (links : List (SoundLinks × MemClock)) (link : SoundLinks × MemClock)

@@ -21,7 +21,7 @@ use Rattle.option_set.specs.Values.{text_of_word}
 use Rattle.option_set.specs.declared.kinds.Word.TheVariants.{SelectFile}
 use Rattle.span_map.specs.declared.files.FileLen.{FileLen}
 use Rattle.stored_run.proofs.Doing.{own_grows}
-use Rattle.load_parts.specs.Said.{load_file}
+use Rattle.load_setup.specs.Said.{load_file}
 use Rattle.self_load.proofs.Ends.{first_or_later, none_in}
 
 -- ---- pieces

@@ -7,11 +7,11 @@ use Rattle.dl_kinds.specs.declared.outside.Sink.{Ghosts as SinkSays}
 use Rattle.door_source.specs.declared.Doors.{Ghosts as DoorSays}
 use Rattle.door_source.specs.declared.memory.MemDoors.{MemDoors}
 use Rattle.link_source.specs.declared.Links.{Ghosts as LinkSays}
-use Rattle.load_parts.proofs.Groups.{all_right}
-use Rattle.load_parts.specs.Payload.{digests_of, right_pieces}
-use Rattle.load_parts.specs.declared.sink.UnseenSink.{UnseenSink}
-use Rattle.load_parts.specs.declared.sound_disk.SoundDisk.{SoundDisk}
-use Rattle.load_parts.specs.declared.sound_links.SoundLinks.{SoundLinks}
+use Rattle.load_setup.proofs.Groups.{all_right}
+use Rattle.load_setup.specs.Payload.{digests_of, right_pieces}
+use Rattle.load_setup.specs.declared.sink.UnseenSink.{UnseenSink}
+use Rattle.load_setup.specs.declared.sound_disk.SoundDisk.{SoundDisk}
+use Rattle.load_setup.specs.declared.sound_links.SoundLinks.{SoundLinks}
 use Rattle.machine_core.specs.declared.journal.Journal.{Journal}
 use Rattle.run_report.specs.declared.endings.RunEnding.{RunEnding}
 use Rattle.run_report.specs.declared.endings.RunEnding.TheVariants as ending

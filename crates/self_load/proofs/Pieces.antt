@@ -15,7 +15,7 @@ use Rattle.dl_disk.specs.Files.{Files}
 use Rattle.dl_disk.specs.MemDisk.{IsFresh, IsImage, reading}
 use Rattle.dl_disk.specs.declared.memory.MemDisk.{MemDisk}
 use Rattle.dl_kinds.specs.Plan.{piece_end, piece_start}
-use Rattle.dl_words.specs.Lists.{part_at}
+use Rattle.dl_kinds.specs.Lists.{part_at}
 use Rattle.payload_files.specs.Names.{name_of}
 use Rattle.payload_files.specs.Payload.{HasFiles}
 use Rattle.resume_core.specs.Found.{Absent, Found, ListsInFlight, ListsPiece, found, found_in}
@@ -23,10 +23,10 @@ use Rattle.resume_core.specs.Resume.{Agrees, AreSound, HasDigest, IsHashed, Soun
 use Rattle.resume_core.specs.Wants.{control_name, files_in}
 use Rattle.sha1.specs.Sha1.{sha1}
 use Rattle.span_map.specs.declared.files.FileLen.{FileLen}
-use Rattle.load_parts.specs.Disk.{payload_read}
-use Rattle.load_parts.specs.Metainfo.{metainfo_by}
-use Rattle.load_parts.specs.Payload.{is_right_piece, piece_in}
-use Rattle.load_parts.specs.Said.{load_file}
+use Rattle.load_setup.specs.Disk.{payload_read}
+use Rattle.load_setup.specs.Metainfo.{metainfo_by}
+use Rattle.load_setup.specs.Payload.{is_right_piece, piece_in}
+use Rattle.load_setup.specs.Said.{load_file}
 
 -- the want is one of a load: its one file lies in the folder of the run
 pub record IsLoadWant (digests : List (List ℕ)) (want : Want) : Type 0 where

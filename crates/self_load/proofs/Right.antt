@@ -25,10 +25,10 @@ use Rattle.metainfo.specs.declared.meta.Meta.{Meta}
 use Rattle.option_set.specs.Values.{OptionValues, text_of_word}
 use Rattle.option_set.specs.declared.kinds.Word.TheVariants.{Dir, SelectFile}
 use Rattle.resume_core.specs.Resume.{AreSound}
-use Rattle.run_frame.specs.Promises.{HaveDigests, StartsSound}
-use Rattle.load_parts.specs.Disk.{payload_read}
-use Rattle.load_parts.specs.Payload.{is_right_piece}
-use Rattle.load_parts.specs.Said.{SaysPayload}
+use Rattle.run_lifecycle.specs.Promises.{HaveDigests}
+use Rattle.load_setup.specs.Disk.{payload_read}
+use Rattle.load_setup.specs.Payload.{is_right_piece}
+use Rattle.load_setup.specs.Said.{SaysPayload}
 use Rattle.self_load.proofs.Opened.{IsLoadDownload, each_wanted, lengths_are, opened}
 use Rattle.self_load.proofs.Pieces.{IsLoadWant, piece_right}
 
@@ -95,14 +95,8 @@ module _ (parts : DownloadsAreLegal) (stay : DownloadsStay) (alone : LoneAreAlon
 
   module _ (given now : DiskState)
       (sound : (want : Want) → IsLoadWant digests want → AreSound want given.seen given.may_leave)
-      (right : StartsSound start told given → HaveDigests start told now) (lengths : HaveLengths start told now)
+      (right : HaveDigests start told given now) (lengths : HaveLengths start told now)
       (complete : Contains past (event.Ended d.gid Complete)) where
-    starts : StartsSound start told given
-    starts = record {
-      alone = written_alone;
-      sound = λ other want opens. sound want (load_want want (its_want other want opens.has));
-    }
-
     opens : IsOpenedWant start told d.gid (want_of d meta)
     opens = record {
       opened = opened parts stay start d.gid d meta uris is_load refl past legal complete added;
@@ -113,10 +107,13 @@ module _ (parts : DownloadsAreLegal) (stay : DownloadsStay) (alone : LoneAreAlon
     each_right piece low =
         piece_right digests (want_of d meta) (load_want (want_of d meta) opens.has) now.seen
         (lengths (want_of d meta) d.gid (written_alone d.gid (want_of d meta) opens) opens) piece low
-        (right starts d.gid (want_of d meta) (record {
+        (right d.gid (want_of d meta) (record {
           complete = complete;
           opened = opens;
           listed = refl;
+        }) (record {
+          alone = written_alone d.gid (want_of d meta) opens;
+          sound = sound (want_of d meta) (load_want (want_of d meta) opens.has);
         }) piece (record {
           download = d;
           added = added;

@@ -15,19 +15,19 @@ use Rattle.dl_disk.specs.Files.{Files}
 use Rattle.dl_disk.specs.declared.disk.Disk.{Ghosts as DiskSays}
 use Rattle.dl_kinds.specs.declared.gid.Gid.{Gid}
 use Rattle.dl_kinds.specs.declared.outside.Sink.{Ghosts as SinkSays}
-use Rattle.dl_words.specs.Counts.{Rose}
+use Rattle.dl_kinds.specs.Counts.{Rose}
 use Rattle.engine_core.specs.Engines.{past_of, start_of}
 use Rattle.engine_turns.specs.Told.{RunTurn, history_of}
-use Rattle.first_call.specs.Sources.{IsCallOf}
-use Rattle.first_call.specs.declared.refusals.SourceErr.{SourceErr}
-use Rattle.first_call.specs.declared.refusals.SourceErr.TheVariants as error
+use Rattle.command_call.specs.Sources.{IsCallOf}
+use Rattle.command_call.specs.declared.refusals.SourceErr.{SourceErr}
+use Rattle.command_call.specs.declared.refusals.SourceErr.TheVariants as error
 use Rattle.link_source.specs.declared.Links.{Ghosts as LinkSays}
-use Rattle.load_parts.specs.Disk.{payload_read}
-use Rattle.load_parts.specs.LoadLine.{NamesLoad, WordsNameLoad}
-use Rattle.load_parts.specs.Metainfo.{metainfo_by}
-use Rattle.load_parts.specs.Payload.{digests_of, is_right_piece}
-use Rattle.load_parts.specs.Said.{MetainfoFilesSayPayloads, SaysPayload}
-use Rattle.load_parts.specs.Words.{run_words}
+use Rattle.load_setup.specs.Disk.{payload_read}
+use Rattle.load_setup.specs.LoadLine.{NamesLoad, WordsNameLoad}
+use Rattle.load_setup.specs.Metainfo.{metainfo_by}
+use Rattle.load_setup.specs.Payload.{digests_of, is_right_piece}
+use Rattle.load_setup.specs.Said.{MetainfoFilesSayPayloads, SaysPayload}
+use Rattle.load_setup.specs.Words.{run_words}
 use Rattle.machine_core.specs.Replays.{with_settings}
 use Rattle.machine_core.specs.Starts.{Listed, RunStart}
 use Rattle.machine_core.specs.declared.calls.Call.{Call}
@@ -41,14 +41,14 @@ use Rattle.metainfo.specs.declared.meta.Meta.{Meta}
 use Rattle.option_set.specs.Values.{OptionValues, text_of_word}
 use Rattle.option_set.specs.declared.kinds.Word.TheVariants.{Dir, SelectFile}
 use Rattle.option_set.specs.declared.setting.Assigned.{Assigned}
-use Rattle.resume_core.specs.Resume.{Agrees, AreSound}
-use Rattle.run_frame.specs.Begins.{LacksCall, RefusesWords}
-use Rattle.run_frame.specs.Ends.{ending_of_source}
-use Rattle.run_frame.specs.Finishes.{EndsBy, NeverBegan, PrintsRefusal, Ran, Reports}
-use Rattle.run_frame.specs.declared.ended.Ended.{Ended}
-use Rattle.run_frame.proofs.Kept.{seen_same}
-use Rattle.run_frame.proofs.Ran as ran_facts
-use Rattle.run_frame.specs.Promises.{CompletedAreRight, HaveDigests, StartsSound}
+use Rattle.resume_core.specs.Resume.{AreSound}
+use Rattle.run_lifecycle.specs.Begins.{LacksCall, RefusesWords}
+use Rattle.run_lifecycle.specs.Ends.{ending_of_source}
+use Rattle.run_lifecycle.specs.Finishes.{EndsBy, NeverBegan, PrintsRefusal, Ran, Reports}
+use Rattle.run_lifecycle.specs.declared.ended.Ended.{Ended}
+use Rattle.run_lifecycle.proofs.Kept.{run_is, was_read}
+use Rattle.run_lifecycle.proofs.Ran as ran_facts
+use Rattle.run_lifecycle.specs.Promises.{CompletedAreRight, HaveDigests}
 use Rattle.run_report.specs.Failures.{ending_by_history}
 use Rattle.run_report.specs.declared.endings.RunEnding.{RunEnding}
 use Rattle.run_report.specs.declared.endings.RunEnding.TheVariants.{Done, NoMeaning, NoMemory, SinkFault}
@@ -188,25 +188,10 @@ module _ {D O L K : Type 0} {says : DiskSays D} {sinks : SinkSays O} {limited : 
 
     -- ---- the disk
 
-    -- what was sound of the disk that was given is so once the words were read
-    sound_read : (want : Want) → AreSound want (says.state disk).seen (says.state disk).may_leave
-        → AreSound want (says.state ran.begins.read).seen (says.state ran.begins.read).may_leave
-    sound_read want sound image left =
-        let was = sound image ((ran.begins.is_read.stays is.tells).images image left) in
-        (was.0, subst (λ (seen : Files). Agrees want seen image) (sym (seen_same ran is.tells)) was.1)
-
-    -- so what it told complete has its digests
-    kept_right : StartsSound start told (says.state disk) → HaveDigests start told (says.state ended.disk)
-    kept_right starts =
-        is.right start told ran.begins.read ended.disk (record {
-          legal = ran_facts.legal_told ran;
-          keeps = ran_facts.keeps ran is.tells;
-          goes_on = ran_facts.goes_on ran is.tells;
-          sound = record {
-            alone = starts.alone;
-            sound = λ gid want opened. sound_read want (starts.sound gid want opened);
-          };
-        })
+    -- what it told complete has its digests
+    kept_right : HaveDigests start told (says.state disk) (says.state ended.disk)
+    kept_right gid want told_so was =
+        is.right start told ran.begins.read ended.disk (run_is ran is.tells) gid want told_so (was_read ran is.tells want was)
 
     -- ---- memory sufficed
 

@@ -12,7 +12,7 @@ use Rattle.std.proofs.lemmas.List.FromFn.{get_or-map-range_with_len, length-map-
 use Rattle.std.proofs.lemmas.Option.{slice_get-get_or}
 use Rattle.blameless_mirrors.specs.Blameless.{HasChosenPieces}
 use Rattle.dl_kinds.specs.Plan.{piece_end, piece_start, pieces_of}
-use Rattle.dl_words.specs.Lists.{part_at}
+use Rattle.dl_kinds.specs.Lists.{part_at}
 use Rattle.link_source.specs.Endpoint.{endpoint_of}
 use Rattle.link_source.specs.Files.{Bytes, Moved}
 use Rattle.link_source.specs.Load.{load_byte, load_bytes, load_part}
@@ -28,7 +28,7 @@ use Rattle.request_chain.specs.Exchanges.{LeadsTo}
 use Rattle.served_runs.specs.Serving.{ServesRightly, file_bytes}
 use Rattle.engine_turns.specs.NextRows.{mirror_url}
 use Rattle.metainfo.specs.Urls.{seed_url_of}
-use Rattle.request_chain.specs.Redirects.{redirect_limit}
+use Rattle.request_chain.specs.declared.course.TheConstants.{REDIRECT_LIMIT}
 use Rattle.span_map.specs.Layout.{total_of}
 use Rattle.link_source.specs.declared.bad_answers.Bad.{Bad}
 use Rattle.std.proofs.lemmas.List.Elements.{All-cons, All-nil}
@@ -45,9 +45,9 @@ use Rattle.url.specs.Path.{dot_count, parse_path_start, parse_segments, push_seg
 use Rattle.url.specs.Scheme.{default_port, scheme_len, scheme_type}
 use Rattle.percent_encoding.specs.AsciiSet.{should_percent_encode}
 use Rattle.percent_encoding.specs.Percent.{percent_decode, percent_encode}
-use Rattle.load_parts.specs.Links.{bad_answer, load_content, load_mirror, load_mirrors}
-use Rattle.load_parts.specs.Payload.{digests_of, load_piece, piece_digests}
-use Rattle.load_parts.specs.Said.{load_file}
+use Rattle.load_setup.specs.Links.{bad_answer, load_content, load_mirror, load_mirrors}
+use Rattle.load_setup.specs.Payload.{digests_of, load_piece, piece_digests}
+use Rattle.load_setup.specs.Said.{load_file}
 
 -- ---- the payload
 
@@ -257,7 +257,7 @@ module _ (n link : ℕ) where
           small = below_max (length payload) (load_long n 67108864);
           leads = λ file asked.
               let first = only_first file asked.of.some in
-              subst (λ url. Leads content redirect_limit url (file_bytes meta.layout payload file)) (sym
+              subst (λ url. Leads content REDIRECT_LIMIT url (file_bytes meta.layout payload file)) (sym
               (url_at file first))
               (inl (subst (λ (b : List ℕ). StandsAt content last_url (Bytes b))
               (sym (ap (file_bytes meta.layout payload) first ∙ file_bytes_are)) stands));
@@ -265,8 +265,8 @@ module _ (n link : ℕ) where
         among = λ number. number == 2;
         leads = λ file asked number leads.
             let first = only_first file asked.of.some in
-            ap (λ k. k == 2) (through redirect_limit number
-            (subst (λ url. LeadsThrough content redirect_limit url number) (url_at file first) leads));
+            ap (λ k. k == 2) (through REDIRECT_LIMIT number
+            (subst (λ url. LeadsThrough content REDIRECT_LIMIT url number) (url_at file first) leads));
       };
       none_bad = All-cons (λ (b : Bad). (b.mirror == 2) ≡ false) (bad_answer n link) [] (not_last link)
           (All-nil (λ (b : Bad). (b.mirror == 2) ≡ false));

@@ -1,7 +1,8 @@
 -- The run of a load.
 use Rattle.std.specs.Prelude.{◌≡◌, ◌⊎◌, ◌<◌, ◌+◌, ℕ, true, Contains, List, [], ◌∷◌, length}
-use Rattle.aria_top.specs.RunsTogether.{RunsTogether, edges, edges_left, ended_run}
-use Rattle.aria_top.specs.declared.finished.FinishedRun.{FinishedRun}
+use Rattle.shared_run.specs.RunsTogether.{RunsTogether, edges, edges_left, ended_run}
+use Rattle.shared_run.specs.declared.finished.FinishedRun.{FinishedRun}
+use Rattle.console_session.specs.declared.serving.Transcript.{Transcript}
 use Rattle.dl_clock.specs.declared.clock.Clock.{Ghosts as ClockSays}
 use Rattle.dl_clock.specs.declared.memory.MemClock.{MemClock}
 use Rattle.dl_disk.specs.declared.disk.Disk.{Ghosts as DiskSays}
@@ -11,18 +12,19 @@ use Rattle.door_source.specs.declared.Doors.{Ghosts as DoorSays}
 use Rattle.door_source.specs.declared.memory.MemDoors.{MemDoors}
 use Rattle.engine_turns.specs.RunTurns.{is_nearly_full}
 use Rattle.link_source.specs.declared.Links.{Ghosts as LinkSays}
-use Rattle.load_parts.specs.Disk.{IsLoadDisk, payload_read}
-use Rattle.load_parts.specs.Links.{IsLoadLink}
-use Rattle.load_parts.specs.Payload.{digests_of, is_right_piece}
-use Rattle.load_parts.specs.Sound.{sound_reading}
-use Rattle.load_parts.specs.Words.{run_words}
-use Rattle.load_parts.specs.declared.links.TheConstants.{LOAD_LINKS}
-use Rattle.load_parts.specs.declared.payload.TheConstants.{PIECES}
-use Rattle.load_parts.specs.declared.sink.UnseenSink.{UnseenSink}
-use Rattle.load_parts.specs.declared.sound_disk.SoundDisk.{SoundDisk}
-use Rattle.load_parts.specs.declared.sound_links.SoundLinks.{SoundLinks}
+use Rattle.load_setup.specs.Disk.{IsLoadDisk, payload_read}
+use Rattle.load_setup.specs.Links.{IsLoadLink}
+use Rattle.load_setup.specs.Payload.{digests_of, is_right_piece}
+use Rattle.load_setup.specs.Sound.{sound_reading}
+use Rattle.load_setup.specs.Words.{run_words}
+use Rattle.load_setup.specs.declared.links.TheConstants.{LOAD_LINKS}
+use Rattle.load_setup.specs.declared.payload.TheConstants.{PIECES}
+use Rattle.load_setup.specs.declared.sink.UnseenSink.{UnseenSink}
+use Rattle.load_setup.specs.declared.sound_disk.SoundDisk.{SoundDisk}
+use Rattle.load_setup.specs.declared.sound_links.SoundLinks.{SoundLinks}
 use Rattle.machine_core.specs.declared.ends.End.TheVariants.{Complete}
 use Rattle.machine_core.specs.declared.events.Event.TheVariants.{Ended}
+use Rattle.machine_core.specs.declared.journal.Journal.{Journal}
 use Rattle.run_report.specs.declared.endings.RunEnding.TheVariants.{Done, NoMemory, Unfinished}
 use Rattle.self_load.specs.declared.inner.TheConstants.{GIDS}
 
@@ -56,6 +58,10 @@ abbrev pub EndsFull : Left → Type 0
 EndsFull left =
     (left.ending ≡ Unfinished) × (is_nearly_full left.journal.events.items ≡ true)
 
+-- no run had begun, for want of memory: nothing stands in the journal, and no door was served
+abbrev pub HasNoRun : Journal → List Transcript → Type 0
+HasNoRun journal transcripts = (journal.events.items ≡ []) × (transcripts ≡ [])
+
 -- Its run is done just where its journal has its Complete, unless memory was wanting; and then the
 -- payload is whole. Where it isn't done memory was wanting, or it ended by a full journal.
 pub record EndsAsLoad (n : ℕ) (left : Left) : Type 0 where
@@ -80,3 +86,9 @@ module _ (disks : DiskSays SoundDisk) (links : LinkSays SoundLinks)
     pub shown : UnseenSink
     pub does : RunsTogether disks links clocks doors sinks words GIDS disk (edges olds none) sink
         (ended_run left) (edges_left left) left.transcripts.items shown
+
+  -- the journal and the transcripts are those of the load's run; or there was none
+  abbrev pub IsOfInnerRun : ℕ → Journal → List Transcript → Type 0
+  IsOfInnerRun n journal transcripts =
+      ((left : Left) × IsInnerRun n left × (left.journal ≡ journal) × (left.transcripts.items ≡ transcripts))
+      ⊎ HasNoRun journal transcripts

@@ -4,16 +4,16 @@ use Rattle.dl_clock.specs.declared.clock.Clock.{Ghosts as ClockSays}
 use Rattle.dl_clock.specs.declared.memory.MemClock.{MemClock}
 use Rattle.dl_disk.specs.declared.disk.Disk.{Ghosts as DiskSays}
 use Rattle.dl_kinds.specs.declared.outside.Sink.{Ghosts as SinkSays}
-use Rattle.dl_words.specs.Counts.{Rose}
+use Rattle.dl_kinds.specs.Counts.{Rose}
 use Rattle.door_source.specs.declared.Doors.{Ghosts as DoorSays}
 use Rattle.door_source.specs.declared.memory.MemDoors.{MemDoors}
 use Rattle.link_source.specs.declared.Links.{Ghosts as LinkSays}
-use Rattle.load_parts.specs.Line.{failed_line, whole_line}
-use Rattle.load_parts.specs.Payload.{digests_of, right_pieces}
-use Rattle.load_parts.specs.declared.payload.TheConstants.{PIECES}
-use Rattle.load_parts.specs.declared.sink.UnseenSink.{UnseenSink}
-use Rattle.load_parts.specs.declared.sound_disk.SoundDisk.{SoundDisk}
-use Rattle.load_parts.specs.declared.sound_links.SoundLinks.{SoundLinks}
+use Rattle.load_setup.specs.Line.{failed_line, whole_line}
+use Rattle.load_setup.specs.Payload.{digests_of, right_pieces}
+use Rattle.load_setup.specs.declared.payload.TheConstants.{PIECES}
+use Rattle.load_setup.specs.declared.sink.UnseenSink.{UnseenSink}
+use Rattle.load_setup.specs.declared.sound_disk.SoundDisk.{SoundDisk}
+use Rattle.load_setup.specs.declared.sound_links.SoundLinks.{SoundLinks}
 use Rattle.machine_core.specs.declared.journal.Journal.{Journal}
 use Rattle.run_report.specs.Endings.{code_of_ending}
 use Rattle.run_report.specs.declared.endings.RunEnding.{RunEnding}

@@ -1,21 +1,21 @@
 // The run of a load.
 ghost use Rattle.std.specs.Prelude.{◌≡◌, IfOk};
-ghost use Rattle.load_parts.specs.Payload.{digests_of};
+ghost use Rattle.load_setup.specs.Payload.{digests_of};
 ghost use Rattle.self_load.specs.Inner.{AreLoadLinks, EndsAsLoad, IsInnerRun};
 
-use aria_top::{FinishedRun, run};
 use blameless_mirrors::lone_downloads_end_well;
 use dl_clock::{Clock, MemClock};
 use dl_disk::Disk;
 use dl_kinds::{Digests, NoMemory, Sink};
 use door_source::{Doors, MemDoors};
 use link_source::Links;
-use load_parts::{
+use load_setup::{
     LOAD_LINKS, SoundDisk, SoundLinks, UnseenSink, load_disk, load_link, load_words,
     metainfo_files_say_payloads, words_name_load,
 };
 use machine_core::{downloads_are_legal, downloads_stay};
-use run_frame::disks_keep_runs;
+use run_lifecycle::disks_keep_runs;
+use shared_run::{FinishedRun, run_shared};
 use std::alloc::Global;
 use std::sync::Wait;
 use std::sync::atomic::AtomicBool;
@@ -61,7 +61,7 @@ pub(crate) fn run_inner<R: Threads + Wait + Sync>(
     let over = AtomicBool::new(false);
     let mut summary = UnseenSink {};
     let doors = Vec::new(alloc);
-    Ok(run(
+    Ok(run_shared(
         rt,
         alloc,
         &words,

@@ -5,6 +5,6 @@ mod inner;
 mod outcome;
 mod running;
 
-pub use load_parts::load_of;
+pub use load_setup::load_of;
 pub use outcome::Outcome;
 pub use running::{Loaded, run_load};

@@ -1,24 +1,26 @@
 // What comes of a load, and how that is told.
 ghost use Rattle.std.specs.Prelude.{◌≡◌, IfOk, length, string_bytes};
-ghost use Rattle.load_parts.specs.Disk.{payload_read};
-ghost use Rattle.load_parts.specs.Sound.{sound_reading};
-ghost use Rattle.load_parts.specs.declared.payload.TheConstants.{PIECES};
+ghost use Rattle.load_setup.specs.Disk.{payload_read};
+ghost use Rattle.load_setup.specs.Sound.{sound_reading};
+ghost use Rattle.load_setup.specs.declared.payload.TheConstants.{PIECES};
+ghost use Rattle.self_load.specs.Inner.{IsOfInnerRun};
 ghost use Rattle.self_load.specs.Outcomes.{ComesOf, IsCountOf, ending_of_outcome, line_by};
 
 use crate::inner::run_inner;
-use aria_top::FinishedRun;
+use console_session::Transcript;
 use dl_clock::{Clock, MemClock};
 use dl_disk::Disk;
 use dl_kinds::{Digests, NoMemory, Sink};
 use door_source::{Doors, MemDoors};
 use link_source::Links;
-use load_parts::{
+use load_setup::{
     SoundDisk, SoundLinks, UnseenSink, count_right, failed_line, load_digests, payload_on,
     whole_line,
 };
 use machine_core::Journal;
 use run_report::RunEnding;
 use sha1::Sha1;
+use shared_run::FinishedRun;
 use std::alloc::{AllocError, Global};
 use std::sync::Wait;
 use std::thread::Threads;
@@ -32,10 +34,11 @@ pub enum Outcome {
     Failed(RunEnding),
 }
 
-/// What comes of a load, and the journal of its run.
+/// What comes of a load, the journal of its run, and what its console did: it has no door.
 pub(crate) struct Came {
     pub(crate) outcome: Outcome,
     pub(crate) journal: Journal,
+    pub(crate) transcripts: Vec<Transcript>,
 }
 
 // What the disk shows behind a run that was done.
@@ -61,9 +64,12 @@ pub(crate) fn load<R: Threads + Wait + Sync>(
     alloc: Global,
     n: u64,
 ) -> Result<Came, NoMemory>
-    ensures { IfOk result (λ came. ComesOf ⟦<SoundDisk as Disk>⟧ ⟦<SoundLinks as Links>⟧
+    ensures comes { IfOk result (λ came. ComesOf ⟦<SoundDisk as Disk>⟧ ⟦<SoundLinks as Links>⟧
         ⟦<MemClock as Clock>⟧ ⟦<MemDoors as Doors>⟧ ⟦<UnseenSink as Sink>⟧ n came.outcome
         came.journal) }
+    ensures inner { IfOk result (λ came. IsOfInnerRun ⟦<SoundDisk as Disk>⟧ ⟦<SoundLinks as Links>⟧
+        ⟦<MemClock as Clock>⟧ ⟦<MemDoors as Doors>⟧ ⟦<UnseenSink as Sink>⟧ n came.journal
+        came.transcripts.items) }
 {
     let digests = load_digests(alloc, n)?;
     let FinishedRun {
@@ -71,17 +77,22 @@ pub(crate) fn load<R: Threads + Wait + Sync>(
         disk,
         links: _links,
         doors: _doors,
-        transcripts: _transcripts,
+        transcripts,
         journal,
     } = run_inner(rt, alloc, n, &digests)?;
     match ending {
         RunEnding::Done => {
             let outcome = counted(rt, alloc, &digests, &disk)?;
-            Ok(Came { outcome, journal })
+            Ok(Came {
+                outcome,
+                journal,
+                transcripts,
+            })
         }
         _ => Ok(Came {
             outcome: Outcome::Failed(ending),
             journal,
+            transcripts,
         }),
     }
 }

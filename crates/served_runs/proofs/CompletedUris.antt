@@ -32,7 +32,7 @@ use Rattle.engine_turns.specs.Told.{RunTurn, history_of}
 use Rattle.engine_turns.specs.TurnLaws.{TurnsAppend}
 use Rattle.engine_turns.specs.declared.operations.Operation.{Operation}
 use Rattle.engine_turns.specs.declared.operations.Operation.TheVariants as operation
-use Rattle.first_call.specs.Sources.{IsNamedCall}
+use Rattle.command_call.specs.Sources.{IsNamedCall}
 use Rattle.link_source.specs.declared.Links.{Ghosts as LinkSays}
 use Rattle.machine_core.specs.DownloadWants.{HasWant, files_of_subject}
 use Rattle.machine_core.specs.FileNames.{IsPayloadName, IsUnlistedName, folder_in}
@@ -54,11 +54,11 @@ use Rattle.resume_core.specs.Lens.{first_len, lens_of}
 use Rattle.resume_core.specs.Refusals.{in_the_way, open_refusal, refused_over}
 use Rattle.resume_core.specs.Wants.{control_name, files_in}
 use Rattle.resume_core.specs.declared.refusing.OpenErr.TheVariants.{Exists}
-use Rattle.run_frame.proofs.Ran as ran_facts
-use Rattle.run_frame.specs.Finishes.{Ran}
-use Rattle.run_frame.specs.FrameLaws.{RunsEndAsShown, RunsShowDisk}
-use Rattle.run_frame.specs.Stops.{all_turns}
-use Rattle.run_frame.specs.declared.ended.Ended.{Ended}
+use Rattle.run_lifecycle.proofs.Ran as ran_facts
+use Rattle.run_lifecycle.specs.Finishes.{Ran}
+use Rattle.run_lifecycle.specs.FrameLaws.{RunsEndAsShown, RunsShowDisk}
+use Rattle.run_lifecycle.specs.Stops.{all_turns}
+use Rattle.run_lifecycle.specs.declared.ended.Ended.{Ended}
 use Rattle.run_report.specs.declared.endings.RunEnding.TheVariants.{NoMemory}
 use Rattle.served_runs.specs.ServingLaws.{IsToldRight, TellsSize}
 use Rattle.served_runs.specs.ServedRuns.{RunsAreFaithful, RunsTellRight}

@@ -9,7 +9,7 @@ use Rattle.dl_disk.specs.declared.disk.Disk.{Ghosts as DiskSays}
 use Rattle.dl_kinds.specs.declared.outside.Sink.{Ghosts as SinkSays}
 use Rattle.dl_queue.specs.Lists.{QueueLists}
 use Rattle.dl_queue.specs.Places.{is_ready}
-use Rattle.dl_words.specs.Counts.{Rose}
+use Rattle.dl_kinds.specs.Counts.{Rose}
 use Rattle.engine_core.specs.Engines.{past_of, start_of}
 use Rattle.engine_turns.specs.Told.{RunTurn, history_of}
 use Rattle.machine_core.specs.Reads.{is_at_rest}
@@ -19,10 +19,10 @@ use Rattle.machine_core.specs.Starts.{RunStart}
 use Rattle.machine_core.specs.declared.ends.End.{End}
 use Rattle.machine_core.specs.declared.events.Event.{Event}
 use Rattle.machine_core.specs.declared.events.Event.TheVariants.{Called}
-use Rattle.run_frame.proofs.Ran.{history_is, journal_is, may_come, start_is}
-use Rattle.run_frame.proofs.Turns.{reversed_cut}
-use Rattle.run_frame.specs.Finishes.{EndsBy, Ran}
-use Rattle.run_frame.specs.declared.ended.Ended.{Ended}
+use Rattle.run_lifecycle.proofs.Ran.{history_is, journal_is, may_come, start_is}
+use Rattle.run_lifecycle.proofs.Turns.{reversed_cut}
+use Rattle.run_lifecycle.specs.Finishes.{EndsBy, Ran}
+use Rattle.run_lifecycle.specs.declared.ended.Ended.{Ended}
 use Rattle.run_report.specs.Failures.{ending_by, ending_by_history, has_unfinished, last_failure}
 use Rattle.run_report.specs.declared.endings.RunEnding.TheVariants.{NoMemory, SinkFault, Unfinished}
 use Rattle.served_runs.specs.Ends.{FinishedAreDone, HasNoCall, IsFinishedOnce, start_of_run, told_of}

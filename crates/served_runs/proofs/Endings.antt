@@ -9,7 +9,7 @@ use Rattle.blameless_mirrors.proofs.Marks.{behind, first_or}
 use Rattle.dl_disk.specs.declared.disk.Disk.{Ghosts as DiskSays}
 use Rattle.dl_kinds.specs.declared.gid.Gid.{Gid}
 use Rattle.dl_kinds.specs.declared.outside.Sink.{Ghosts as SinkSays}
-use Rattle.dl_words.specs.Counts.{Rose}
+use Rattle.dl_kinds.specs.Counts.{Rose}
 use Rattle.engine_core.specs.Engines.{past_of, start_of}
 use Rattle.engine_turns.specs.Told.{RunTurn, history_of}
 use Rattle.machine_core.specs.Replays.{queue_in}
@@ -18,11 +18,11 @@ use Rattle.machine_core.specs.declared.ends.End.TheVariants.{Complete, Disk}
 use Rattle.machine_core.specs.declared.events.Event.{Event}
 use Rattle.machine_core.specs.declared.events.Event.TheVariants.{Ended as EventEnded}
 use Rattle.resume_core.specs.Wants.{control_name}
-use Rattle.run_frame.proofs.Ran.{history_is, journal_is}
-use Rattle.run_frame.specs.DiskCauses.{DiskCauses}
-use Rattle.run_frame.specs.Finishes.{EndsBy, Ran}
-use Rattle.run_frame.specs.FrameLaws.{RunsShowDisk}
-use Rattle.run_frame.specs.declared.ended.Ended.{Ended}
+use Rattle.run_lifecycle.proofs.Ran.{history_is, journal_is}
+use Rattle.run_lifecycle.specs.DiskCauses.{DiskCauses}
+use Rattle.run_lifecycle.specs.Finishes.{EndsBy, Ran}
+use Rattle.run_lifecycle.specs.FrameLaws.{RunsShowDisk}
+use Rattle.run_lifecycle.specs.declared.ended.Ended.{Ended}
 use Rattle.run_report.specs.Failures.{ending_by, ending_by_history, failure_by, failure_in, has_unfinished}
 use Rattle.run_report.specs.declared.endings.RunEnding.TheVariants.{NoMemory, SinkFault}
 use Rattle.served_runs.specs.Ends.{BroughtRunsEndWell, EndsUnfailed, OnlyCompletes, start_of_run, told_of}

@@ -25,8 +25,8 @@ use Rattle.machine_core.specs.declared.events.Event.TheVariants.{Claimed, Landed
 use Rattle.mirror_payloads.specs.Faithful.{IsFaithful, IsFaithfulTurn, run_bytes}
 use Rattle.option_set.specs.Values.{OptionValues}
 use Rattle.span_map.specs.declared.jobs.Job.{Job}
-use Rattle.run_frame.proofs.Claims.{claims_one, standing_came}
-use Rattle.run_frame.proofs.Rows.{turn_brings}
+use Rattle.run_lifecycle.proofs.Claims.{claims_one, standing_came}
+use Rattle.run_lifecycle.proofs.Rows.{turn_brings}
 use Rattle.served_runs.specs.ServingLaws.{IsChosenJob, IsToldRight, ServedClaimsAreFaithful, UsesClaim}
 use Rattle.served_runs.specs.Serving.{ServesPayload}
 use Rattle.served_runs.proofs.Chosen.{job_chosen}

@@ -6,8 +6,8 @@ use Rattle.command_line.specs.declared.source.Source.TheVariants as source
 use Rattle.control_file.specs.declared.want.Want.{Want}
 use Rattle.dl_disk.specs.Files.{Files}
 use Rattle.dl_kinds.specs.declared.gid.Gid.{Gid}
-use Rattle.first_call.specs.Files.{Says}
-use Rattle.first_call.specs.Sources.{IsCallOf}
+use Rattle.command_call.specs.Files.{Says}
+use Rattle.command_call.specs.Sources.{IsCallOf}
 use Rattle.machine_core.specs.DownloadWants.{HasWant, digests_of_subject, files_of_subject}
 use Rattle.machine_core.specs.FileNames.{IsPayloadName, folder_in}
 use Rattle.machine_core.specs.OwnParts.{PayloadLengths, lengths_by, own_of}

@@ -18,9 +18,9 @@ use Rattle.machine_core.specs.RunLegal.{DownloadsStay, IsLegal, LengthsStay, dow
 use Rattle.machine_core.specs.Starts.{Download, RunStart, Subject, Listed, Unlisted}
 use Rattle.machine_core.specs.declared.events.Event.{Event}
 use Rattle.machine_core.specs.declared.events.Event.TheVariants.{Called, Opened, Sized, Claimed, Landed, Settled, Cleared, Lost, Checked, Saved, Ended, Left, Stopped}
-use Rattle.run_frame.proofs.Claims.{first_or_later, later_there, standing_came}
-use Rattle.run_frame.proofs.Rows.{turn_brings}
-use Rattle.run_frame.proofs.Turns.{none_there}
+use Rattle.run_lifecycle.proofs.Claims.{first_or_later, later_there, standing_came}
+use Rattle.run_lifecycle.proofs.Rows.{turn_brings}
+use Rattle.run_lifecycle.proofs.Turns.{none_there}
 use Rattle.served_runs.specs.ServingLaws.{ComesOfServing, IsToldRight, ServedLengthsAreRight, TellsSize}
 use Rattle.served_runs.proofs.ServedHistories.{CameAt, granted_at, listed_known, may_at, there_on}
 use Rattle.served_runs.proofs.Owned.{length_turn}

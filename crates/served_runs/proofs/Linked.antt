@@ -11,10 +11,10 @@ use Rattle.engine_turns.specs.declared.operations.Operation.TheVariants as opera
 use Rattle.link_source.specs.declared.Links.{Ghosts as LinkSays}
 use Rattle.machine_core.specs.declared.events.Event.{Event}
 use Rattle.machine_core.specs.declared.events.Event.TheVariants.{Lost, Sized}
-use Rattle.run_frame.specs.Begins.{start_of_line}
-use Rattle.run_frame.specs.LinkCauses.{ComesOfClaimEnd}
-use Rattle.run_frame.specs.LinkLaws.{LengthsComeOfWorkers, LossesComeOfWorkers, WorkersShowLengths, WorkersShowLosses}
-use Rattle.run_frame.specs.declared.ended.Ended.{Ended}
+use Rattle.run_lifecycle.specs.Begins.{start_of_line}
+use Rattle.run_lifecycle.specs.LinkCauses.{ComesOfClaimEnd}
+use Rattle.run_lifecycle.specs.LinkLaws.{LengthsComeOfWorkers, LossesComeOfWorkers, WorkersShowLengths, WorkersShowLosses}
+use Rattle.run_lifecycle.specs.declared.ended.Ended.{Ended}
 use Rattle.served_runs.specs.LinksCauses.{LostAtPlace, ShowsLinks, SizedAtPlace}
 use Rattle.served_runs.specs.Over.{IsOfWorker, IsRunOver, IsWork, RanOverLinks}
 use Rattle.served_runs.proofs.Workers.{among_all, its_work}

@@ -9,14 +9,13 @@ use Rattle.blameless_mirrors.proofs.Marks.{first_or}
 use Rattle.served_runs.specs.Ends.{EndsUnfailed, FinishedAreDone, HasNoCall, IsFinishedOnce, OnlyCompletes}
 use Rattle.served_runs.proofs.Done.{no_call_reversed}
 use Rattle.served_runs.proofs.Endings.{in_reverse}
-use Rattle.served_runs.proofs.ToldRuns.{all_reversed}
 use Rattle.command_line.specs.declared.line.CommandLine.{CommandLine}
 use Rattle.conn_worker.specs.declared.ends.WorkEnd.TheVariants as end
 use Rattle.dl_disk.specs.declared.disk.Disk.{Ghosts as DiskSays}
 use Rattle.dl_kinds.specs.declared.gid.Gid.{Gid}
 use Rattle.dl_kinds.specs.declared.outside.Sink.{Ghosts as SinkSays}
 use Rattle.dl_kinds.specs.declared.runs.Moment.{Moment}
-use Rattle.dl_words.specs.Counts.{Rose}
+use Rattle.dl_kinds.specs.Counts.{Rose}
 use Rattle.engine_core.specs.Engines.{past_of, start_of}
 use Rattle.engine_turns.specs.Told.{RunTurn, history_of}
 use Rattle.engine_turns.specs.TurnLaws.{TurnsAppend}
@@ -31,19 +30,20 @@ use Rattle.machine_core.specs.declared.ends.End.{End}
 use Rattle.machine_core.specs.declared.ends.End.TheVariants.{Complete}
 use Rattle.machine_core.specs.declared.events.Event.{Event}
 use Rattle.machine_core.specs.declared.events.Event.TheVariants as event
-use Rattle.run_frame.specs.Begins.{IsOwnCall, is_no_memory}
-use Rattle.run_frame.specs.Endings.{ShowsEnding}
-use Rattle.run_frame.specs.Finishes.{EndsBy}
-use Rattle.run_frame.specs.FrameLaws.{RunsEndAsShown}
-use Rattle.run_frame.specs.Stops.{all_turns}
-use Rattle.run_frame.specs.declared.ended.Ended.{Ended}
-use Rattle.run_frame.proofs.Ran as ran_facts
-use Rattle.run_frame.proofs.Turns as list_facts
+use Rattle.run_lifecycle.specs.Begins.{IsOwnCall, is_no_memory}
+use Rattle.run_lifecycle.specs.Endings.{ShowsEnding}
+use Rattle.run_lifecycle.specs.Finishes.{EndsBy}
+use Rattle.run_lifecycle.specs.FrameLaws.{RunsEndAsShown}
+use Rattle.run_lifecycle.specs.Stops.{all_turns}
+use Rattle.run_lifecycle.specs.declared.ended.Ended.{Ended}
+use Rattle.run_lifecycle.proofs.Ran as ran_facts
+use Rattle.run_lifecycle.proofs.Turns.{all_reversed}
+use Rattle.run_lifecycle.proofs.Turns as list_facts
 use Rattle.run_report.specs.Failures.{ending_by, ending_by_history, has_unfinished, last_failure}
 use Rattle.run_report.specs.declared.endings.RunEnding.{RunEnding}
 use Rattle.run_report.specs.declared.endings.RunEnding.TheVariants.{Done, NoMemory, SinkFault, Unfinished}
 use Rattle.turn_desk.specs.Turns.{events_of}
-use Rattle.run_frame.specs.Finishes.{Ran}
+use Rattle.run_lifecycle.specs.Finishes.{Ran}
 use Rattle.served_runs.specs.Completes.{EndsCutShort, IsDone, WasCutShort}
 use Rattle.served_runs.specs.LinksCauses.{LinksCauses}
 use Rattle.served_runs.specs.Over.{IsWork, RanOverLinks, WorkedOver}

@@ -29,7 +29,7 @@ use Rattle.memory_serving_laws.specs.Serving.{used_among}
 use Rattle.mirror_payloads.specs.Faithful.{run_bytes}
 use Rattle.option_set.specs.Values.{OptionValues}
 use Rattle.span_map.specs.declared.jobs.Job.{Job}
-use Rattle.run_frame.proofs.Turns.{cut_at}
+use Rattle.run_lifecycle.proofs.Turns.{cut_at}
 use Rattle.served_runs.specs.Answering.{HasAnswered, WorksOver}
 use Rattle.served_runs.specs.ServingLaws.{ComesOfServing, IsChosenJob}
 use Rattle.served_runs.specs.Serving.{HasNoBad, ServesAmong, ServesPayload, ServesRightly, ServesUnused}

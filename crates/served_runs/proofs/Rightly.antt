@@ -10,7 +10,7 @@ use Rattle.conn_worker.specs.declared.hands.ProbeEnd.{ProbeEnd}
 use Rattle.dl_kinds.specs.Plan.{block_end, block_start, blocks_of}
 use Rattle.dl_kinds.specs.declared.marks.Mark.{Mark}
 use Rattle.dl_kinds.specs.declared.runs.Run.{Run}
-use Rattle.dl_words.specs.Lists.{part_at}
+use Rattle.dl_kinds.specs.Lists.{part_at}
 use Rattle.engine_turns.specs.NextRows.{mirror_url}
 use Rattle.engine_turns.specs.Told.{RunTurn}
 use Rattle.fetch_session.specs.Blocks.{cut}
@@ -35,7 +35,7 @@ use Rattle.request_chain.specs.Plans.{FetchEnding, Done, Open}
 use Rattle.request_chain.specs.Plans as plans
 use Rattle.request_chain.specs.Probes.{Probe, Probed, TellsProbeLoss}
 use Rattle.request_chain.specs.Probes as probes
-use Rattle.request_chain.specs.Redirects.{redirect_limit}
+use Rattle.request_chain.specs.declared.course.TheConstants.{REDIRECT_LIMIT}
 use Rattle.span_map.specs.Jobs.{run_end, run_start}
 use Rattle.span_map.specs.declared.jobs.Job.{Job}
 use Rattle.span_map.specs.declared.jobs.JobPart.{JobPart}
@@ -66,12 +66,12 @@ serves_alike laws old new (Listed meta uris) options mirror payload same is = re
   total = is.total;
   laid = is.laid;
   small = is.small;
-  leads = λ file some. laws.leads old new redirect_limit _ _ same (is.leads file some);
+  leads = λ file some. laws.leads old new REDIRECT_LIMIT _ _ same (is.leads file some);
 }
 serves_alike laws old new (Unlisted uris) options mirror payload same is = record {
   small = is.small;
-  leads = laws.leads old new redirect_limit _ _ same is.leads;
-  told = laws.lengths old new redirect_limit _ _ same is.told;
+  leads = laws.leads old new REDIRECT_LIMIT _ _ same is.leads;
+  told = laws.lengths old new REDIRECT_LIMIT _ _ same is.told;
 }
 
 among_alike : ServingLaws → (old new : Content) (among : ℕ → Bool) (subject : Subject) (options : OptionValues) (mirror : ℕ)

@@ -33,11 +33,11 @@ use Rattle.machine_core.specs.declared.events.Event.{Event}
 use Rattle.machine_core.specs.declared.events.Event.TheVariants.{Claimed, Landed}
 use Rattle.machine_core.specs.declared.offers.Offer.{Offer}
 use Rattle.machine_core.specs.declared.offers.Offer.TheVariants as offer
-use Rattle.run_frame.specs.LinkCauses.{IsGrantOf}
-use Rattle.run_frame.proofs.Claims.{claims_one, first_or_later, later_there, standing_came}
-use Rattle.run_frame.proofs.Grants.{asks_on, granted_in}
-use Rattle.run_frame.proofs.Others.{legal_before}
-use Rattle.run_frame.proofs.Turns.{all_at, cut_at, none_there}
+use Rattle.run_lifecycle.specs.LinkCauses.{IsGrantOf}
+use Rattle.run_lifecycle.proofs.Claims.{claims_one, first_or_later, later_there, standing_came}
+use Rattle.run_lifecycle.proofs.Grants.{asks_on, granted_in}
+use Rattle.run_lifecycle.proofs.Others.{legal_before}
+use Rattle.run_lifecycle.proofs.Turns.{all_at, cut_at, none_there}
 
 -- ---- what stays
 

@@ -23,11 +23,11 @@ use Rattle.machine_core.specs.declared.calls.Call.{Call}
 use Rattle.machine_core.specs.declared.events.Event.{Event}
 use Rattle.machine_core.specs.declared.events.Event.TheVariants.{Claimed}
 use Rattle.option_set.specs.Values.{OptionValues}
-use Rattle.run_frame.specs.Begins.{IsOwnCall}
-use Rattle.run_frame.specs.Finishes.{Ran}
-use Rattle.run_frame.specs.declared.ended.Ended.{Ended}
-use Rattle.run_frame.proofs.Ran as ran_facts
-use Rattle.run_frame.proofs.Turns.{cut_at, none_there, reversed_cut}
+use Rattle.run_lifecycle.specs.Begins.{IsOwnCall}
+use Rattle.run_lifecycle.specs.Finishes.{Ran}
+use Rattle.run_lifecycle.specs.declared.ended.Ended.{Ended}
+use Rattle.run_lifecycle.proofs.Ran as ran_facts
+use Rattle.run_lifecycle.proofs.Turns.{cut_at, none_there, reversed_cut}
 use Rattle.served_runs.specs.Answering.{WorksOver}
 use Rattle.served_runs.specs.ServingLaws.{ComesOfServing, IsToldRight, ServedClaimsAreFaithful, ServedLengthsAreRight, TellsSize, UsesClaim}
 use Rattle.served_runs.specs.ServedRuns.{ComesOfLink, RunsAreFaithful, RunsTellRight}

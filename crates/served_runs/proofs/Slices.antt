@@ -8,7 +8,7 @@ use Rattle.std.specs.List.{All, concat, slice_get}
 use Rattle.std.specs.Option.{IsSomeAnd, option_map_or}
 use Rattle.dl_kinds.specs.Plan.{block_end, block_start}
 use Rattle.dl_kinds.specs.declared.runs.Run.{Run}
-use Rattle.dl_words.specs.Lists.{part_at}
+use Rattle.dl_kinds.specs.Lists.{part_at}
 use Rattle.engine_turns.specs.NextRows.{IsJobOf, mirror_url}
 use Rattle.link_source.specs.Mirrors.{Content}
 use Rattle.machine_core.specs.OwnParts.{PayloadLengths}
@@ -18,7 +18,7 @@ use Rattle.memory_serving_laws.specs.Serving.{GivesAll, LeadsAmong, ServesPart, 
 use Rattle.metainfo.specs.Jobs.{len_of_file, mirror_part}
 use Rattle.metainfo.specs.Urls.{seed_url_of}
 use Rattle.mirror_payloads.specs.Faithful.{run_bytes}
-use Rattle.request_chain.specs.Redirects.{redirect_limit}
+use Rattle.request_chain.specs.declared.course.TheConstants.{REDIRECT_LIMIT}
 use Rattle.span_map.specs.Jobs.{run_end, run_start}
 use Rattle.span_map.specs.Layout.{total_of}
 use Rattle.span_map.specs.Slices.{Fills, IsPart, PartsHoldSlices, part_bytes, slice_of}
@@ -93,7 +93,7 @@ part_within files part is = within_by (slice_get files part.file) (part.at + par
 module _ (content : Content) (files : List FileLen) (base payload : List ℕ) (total : total_of files ≡ length payload)
     (small : length payload < 2 ^ 63) (IsAsked : ℕ → Type 0)
     (leads : (file : ℕ) → IsAsked file
-    → Leads content redirect_limit (seed_url_of files base file) (file_bytes files payload file)) where
+    → Leads content REDIRECT_LIMIT (seed_url_of files base file) (file_bytes files payload file)) where
   file_long : (n : ℕ) → length (file_bytes files payload n) ≡ len_of_file files n
   file_long n =
       let within = file_within files n in

@@ -20,10 +20,10 @@ use Rattle.machine_core.specs.declared.events.Event.TheVariants.{Lost, Settled}
 use Rattle.mirror_payloads.specs.Faithful.{IsFaithful, IsFaithfulTurn}
 use Rattle.option_set.specs.Values.{OptionValues}
 use Rattle.piece_table.specs.declared.giver.Giver.TheVariants.{One}
-use Rattle.run_frame.proofs.Ran as ran_facts
-use Rattle.run_frame.proofs.Turns.{all_at, reversed_cut}
-use Rattle.run_frame.specs.Stops.{all_turns, ends_short}
-use Rattle.run_frame.specs.declared.ended.Ended.{Ended}
+use Rattle.run_lifecycle.proofs.Ran as ran_facts
+use Rattle.run_lifecycle.proofs.Turns.{all_at, reversed_cut}
+use Rattle.run_lifecycle.specs.Stops.{all_turns, ends_short}
+use Rattle.run_lifecycle.specs.declared.ended.Ended.{Ended}
 use Rattle.run_report.specs.declared.endings.RunEnding.TheVariants.{NoMemory}
 use Rattle.served_runs.specs.ServingLaws.{IsToldRight, UsesClaim}
 use Rattle.served_runs.specs.ServedRuns.{ComesOfLink, RunsAreFaithful}
@@ -109,6 +109,7 @@ module _ {D O L K : Type 0} {says : DiskSays D} {sinks : SinkSays O} {limited : 
     means = it.ran.begins.means;
     told = reverse (turns it);
     history = ran_facts.history_is it.ran;
+    ties = ran_facts.ties it.ran;
     lost = λ gid mirror payload is. lost it gid mirror payload (brings it faithful tells gid mirror payload is);
     settled = λ disk_tells gid mirror payload meta want alone of is piece there.
         findings (start it) (reverse (turns it)) ended.disk gid mirror meta want payload

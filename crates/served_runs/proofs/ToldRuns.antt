@@ -9,29 +9,14 @@ use Rattle.dl_kinds.specs.declared.outside.Sink.{Ghosts as SinkSays}
 use Rattle.engine_core.specs.TurnReads.{FitsDisk}
 use Rattle.engine_turns.specs.RunTurns.{MayComeAfter}
 use Rattle.engine_turns.specs.Told.{AllTurns, RunTurn}
-use Rattle.run_frame.proofs.Ran.{fits, goes_on, last_time, legal_told, mark, mark_time, marked, may_come}
-use Rattle.run_frame.proofs.Turns.{mark_on, reversed_cut}
-use Rattle.run_frame.specs.Finishes.{Ran}
-use Rattle.run_frame.specs.Stops.{all_turns}
-use Rattle.run_frame.specs.declared.ended.Ended.{Ended}
+use Rattle.run_lifecycle.proofs.Ran.{fits, goes_on, last_time, legal_told, mark, mark_time, marked, may_come}
+use Rattle.run_lifecycle.proofs.Turns.{all_reversed, mark_on, reversed_cut}
+use Rattle.run_lifecycle.specs.Finishes.{Ran}
+use Rattle.run_lifecycle.specs.Stops.{all_turns}
+use Rattle.run_lifecycle.specs.declared.ended.Ended.{Ended}
 use Rattle.turn_desk.specs.Turns.{last_mark}
 use Rattle.turn_desk.specs.declared.turn.Stamp.{Stamp}
 use Rattle.served_runs.specs.Ends.{start_of_run, told_of}
-
-all_newest : (P : List RunTurn → RunTurn → Type 0) (told : List RunTurn)
-    → ((newer : List RunTurn) (t : RunTurn) (before : List RunTurn) → told ≡ newer ++ t ∷ before → P before t) → AllTurns P told
-all_newest P [] each = tt
-all_newest P (t ∷ before) each =
-    (each [] t before refl, all_newest P before (λ newer u older cut. each (t ∷ newer) u older (λ i. t ∷ cut i)))
-
--- what holds of each turn with those before it, as a desk lists them
-pub all_reversed : (P : List RunTurn → RunTurn → Type 0) (turns : List RunTurn)
-    → ((earlier : List RunTurn) (t : RunTurn) (later : List RunTurn) → turns ≡ earlier ++ t ∷ later → P (reverse earlier) t)
-    → AllTurns P (reverse turns)
-all_reversed P turns each = all_newest P (reverse turns) (λ newer t before cut.
-    let back : turns ≡ reverse before ++ t ∷ reverse newer =
-    sym (reverse-reverse turns) ∙ (ap reverse cut ∙ reversed_cut newer t before) in
-    subst (λ (l : List RunTurn). P l t) (reverse-reverse before) (each (reverse before) t (reverse newer) back))
 
 -- a mark behind turns is that behind the newest
 newest_mark : (m : Stamp) (u : RunTurn) (older : List RunTurn) → last_mark m (reverse (u ∷ older)) ≡ u.after

@@ -32,7 +32,7 @@ use Rattle.machine_core.specs.declared.events.Event.TheVariants.{Called, Claimed
 use Rattle.machine_core.specs.declared.offers.Offer.{Offer}
 use Rattle.machine_core.specs.declared.offers.Offer.TheVariants as offer
 use Rattle.verify_piece.specs.Seals.{PieceBytes}
-use Rattle.run_frame.specs.Begins.{is_no_memory}
+use Rattle.run_lifecycle.specs.Begins.{is_no_memory}
 use Rattle.served_runs.specs.Ends.{HasNoCall}
 use Rattle.served_runs.specs.Over.{IsWork}
 

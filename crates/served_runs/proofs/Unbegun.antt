@@ -11,17 +11,17 @@ use Rattle.dl_disk.specs.Files.{Files}
 use Rattle.dl_disk.specs.declared.disk.Disk.{Ghosts as DiskSays}
 use Rattle.dl_kinds.specs.declared.claims.TheConstants.{MAX_MIRRORS}
 use Rattle.dl_kinds.specs.declared.outside.Sink.{Ghosts as SinkSays}
-use Rattle.dl_words.specs.Counts.{Rose}
-use Rattle.first_call.specs.Sources.{RefusesSource}
-use Rattle.first_call.specs.declared.refusals.SourceErr.{SourceErr}
-use Rattle.first_call.specs.declared.refusals.SourceErr.TheVariants.{Fault, Meta as MetaError, Mirrors, Missing, NoMemory as Starved, TooLarge}
+use Rattle.dl_kinds.specs.Counts.{Rose}
+use Rattle.command_call.specs.Sources.{RefusesSource}
+use Rattle.command_call.specs.declared.refusals.SourceErr.{SourceErr}
+use Rattle.command_call.specs.declared.refusals.SourceErr.TheVariants.{Fault, Meta as MetaError, Mirrors, Missing, NoMemory as Starved, TooLarge}
 use Rattle.metainfo.specs.Info.{Info, info_of}
 use Rattle.metainfo.specs.Rules.{metainfo_of}
 use Rattle.metainfo.specs.declared.meta.Meta.{Meta}
-use Rattle.run_frame.specs.Begins.{LacksCall, RefusesWords}
-use Rattle.run_frame.specs.Ends.{ending_of_source}
-use Rattle.run_frame.specs.Finishes.{NeverBegan, PrintsRefusal}
-use Rattle.run_frame.specs.declared.ended.Ended.{Ended}
+use Rattle.run_lifecycle.specs.Begins.{LacksCall, RefusesWords}
+use Rattle.run_lifecycle.specs.Ends.{ending_of_source}
+use Rattle.run_lifecycle.specs.Finishes.{NeverBegan, PrintsRefusal}
+use Rattle.run_lifecycle.specs.declared.ended.Ended.{Ended}
 use Rattle.run_report.specs.declared.endings.RunEnding.{RunEnding}
 use Rattle.run_report.specs.declared.endings.RunEnding.TheVariants.{NoMeaning, NoMemory}
 use Rattle.served_runs.specs.Completes.{HadNoFault, NamesPayload}

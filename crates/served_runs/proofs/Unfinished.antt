@@ -23,8 +23,8 @@ use Rattle.engine_turns.specs.declared.operations.Operation.TheVariants as opera
 use Rattle.engine_turns.specs.declared.operations.Said.{Said}
 use Rattle.engine_turns.specs.declared.operations.Said.TheVariants.{Finished}
 use Rattle.option_set.specs.declared.setting.Assigned.{Assigned}
-use Rattle.first_call.specs.declared.refusals.SourceErr.{SourceErr}
-use Rattle.first_call.specs.declared.refusals.SourceErr.TheVariants.{Fault, Meta as MetaError, Mirrors, Missing, NoMemory as Starved, TooLarge}
+use Rattle.command_call.specs.declared.refusals.SourceErr.{SourceErr}
+use Rattle.command_call.specs.declared.refusals.SourceErr.TheVariants.{Fault, Meta as MetaError, Mirrors, Missing, NoMemory as Starved, TooLarge}
 use Rattle.link_source.specs.declared.Links.{Ghosts as LinkSays}
 use Rattle.machine_core.specs.Reads.{is_at_rest}
 use Rattle.machine_core.specs.Replays.{Replay, after_call, keyed_gid, queue_in, replay_of, with_call_of, with_download}
@@ -35,13 +35,15 @@ use Rattle.machine_core.specs.declared.calls.Call.TheVariants as call
 use Rattle.machine_core.specs.declared.events.Event.{Event}
 use Rattle.machine_core.specs.declared.events.Event.TheVariants.{Called, Left, Stopped}
 use Rattle.turn_desk.specs.Turns.{events_of}
-use Rattle.run_frame.proofs.Ran as ran_facts
-use Rattle.run_frame.proofs.Turns.{BroughtBy, CutAt, brought_by, cut_at, events_on}
-use Rattle.run_frame.specs.Begins.{IsOwnCall, LacksCall, RefusesWords, start_of_line}
-use Rattle.run_frame.specs.Ends.{ending_of_source}
-use Rattle.run_frame.specs.Finishes.{NeverBegan, PrintsRefusal, Ran}
-use Rattle.run_frame.specs.Stops.{all_turns}
-use Rattle.run_frame.specs.declared.ended.Ended.{Ended}
+use Rattle.run_lifecycle.proofs.Ran as ran_facts
+use Rattle.run_lifecycle.proofs.Whole.{stands_in_front}
+use Rattle.run_lifecycle.proofs.Turns.{BroughtBy, CutAt, brought_by, cut_at, events_on}
+use Rattle.run_lifecycle.specs.Begins.{IsOwnCall, LacksCall, RefusesWords, start_of_line}
+use Rattle.run_lifecycle.specs.Ends.{ending_of_source}
+use Rattle.run_lifecycle.specs.Finishes.{NeverBegan, PrintsRefusal, Ran}
+use Rattle.run_lifecycle.specs.Histories.{StandsFirst}
+use Rattle.run_lifecycle.specs.Stops.{all_turns}
+use Rattle.run_lifecycle.specs.declared.ended.Ended.{Ended}
 use Rattle.run_report.specs.declared.endings.RunEnding.{RunEnding}
 use Rattle.run_report.specs.declared.endings.RunEnding.TheVariants.{NoMeaning, NoMemory, Unfinished}
 use Rattle.served_runs.specs.Completes.{WasCutShort}
@@ -239,7 +241,7 @@ module _ {D O L K : Type 0} {says : DiskSays D} {sinks : SinkSays O} (limited : 
     abbrev Why : Type 0
     Why = WasShutDown ended.journal.events.items
         ⊎ WasCutShort limited links olds ended news
-        ⊎ IsLeftPaused (start_of_line gids doors ran.begins.line.globals) ended.journal.events.items
+        ⊎ IsLeftPaused (start_of_line gids doors ran.begins.line.globals) ran.begins.line ended.journal.events.items
 
     pub unshort : (it.ran.begun.is_short || it.ran.short) ≡ false
     unshort = by (ran.begun.is_short || ran.short) refl
@@ -305,6 +307,10 @@ module _ {D O L K : Type 0} {says : DiskSays D} {sinks : SinkSays O} (limited : 
         cut = items_cut;
         none = eqb-true (doors_left start past) 0 (and_first (doors_left start past == 0) (is_at_rest (queue_in start past)) is);
         paused = and_second (doors_left start past == 0) (is_at_rest (queue_in start past)) is;
+        call = ran.begins.call;
+        named = ran.begins.named;
+        first = subst (StandsFirst ran.begins.call) (sym (append front))
+            (stands_in_front ran (λ starved. memory_never ended.ending starved unfinished) cut.front);
       }))
 
       -- another worker stopped the run

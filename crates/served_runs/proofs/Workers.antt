@@ -19,12 +19,12 @@ use Rattle.engine_turns.specs.declared.operations.Operation.TheVariants as opera
 use Rattle.engine_turns.specs.declared.operations.Said.TheVariants as said
 use Rattle.link_source.specs.declared.Links.{Ghosts as LinkSays}
 use Rattle.machine_core.specs.declared.journal.TheConstants.{TURN_EVENTS}
-use Rattle.run_frame.proofs.Ran as ran_facts
-use Rattle.run_frame.proofs.Turns as list_facts
-use Rattle.run_frame.specs.Finishes.{EndsBy, Ran}
-use Rattle.run_frame.specs.LinkCauses.{WorkedAmong}
-use Rattle.run_frame.specs.Stops.{all_turns, ends_short}
-use Rattle.run_frame.specs.declared.ended.Ended.{Ended}
+use Rattle.run_lifecycle.proofs.Ran as ran_facts
+use Rattle.run_lifecycle.proofs.Turns as list_facts
+use Rattle.run_lifecycle.specs.Finishes.{EndsBy, Ran}
+use Rattle.run_lifecycle.specs.LinkCauses.{WorkedAmong}
+use Rattle.run_lifecycle.specs.Stops.{all_turns, ends_short}
+use Rattle.run_lifecycle.specs.declared.ended.Ended.{Ended}
 use Rattle.run_report.specs.declared.endings.RunEnding.{RunEnding}
 use Rattle.run_report.specs.declared.endings.RunEnding.TheVariants.{NoMemory}
 use Rattle.served_runs.specs.Completes.{IsCutShort, WasCutShort}
@@ -32,6 +32,12 @@ use Rattle.served_runs.specs.Over.{IsOfWorker, IsWork, WorkedOver}
 use Rattle.served_runs.proofs.Finishing.{events_behind, full_so}
 use Rattle.served_runs.proofs.WorkEnds.{CameFinished, came_ends, came_finished, full_by, worked_well, worked_work}
 use Rattle.served_runs.proofs.TurnLists.{behind, first_or_later, here, none_there}
+
+in_reversed : (turns : List RunTurn) (t : RunTurn) → Contains turns t → Contains (reverse turns) t
+in_reversed turns t there =
+    let c = list_facts.cut_at turns t there in
+    subst (λ (ts : List RunTurn). Contains ts t) (sym (ap reverse c.cut ∙ list_facts.reversed_cut c.front t c.back))
+    (Contains-append_right (reverse c.back) (t ∷ reverse c.front) t (here t (reverse c.front)))
 
 -- ---- how work comes out
 
@@ -138,6 +144,9 @@ module _ {D O L K : Type 0} {says : DiskSays D} {sinks : SinkSays O} (limited : 
       its = at.own.its;
       why = why;
       few = at.few;
+      told = ran_facts.told ran;
+      history = ran_facts.history_is ran;
+      among = λ t there. in_reversed (all_turns says ran.stops) t ((among_all place at).among t there);
     }
 
     abbrev IsCut : Result WorkEnd Spent → Type 0

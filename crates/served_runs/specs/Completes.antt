@@ -1,5 +1,5 @@
 -- What a run comes to over links that lead to all that is to come of what a metainfo file lists.
-use Rattle.std.specs.Prelude.{◌≡◌, ◌⊎◌, ◌≤◌, ◌<◌, ◌+◌, ◌-◌, ◌^◌, ◌++◌, ℕ, Bool, true, false, IsTrue, codes, Contains, None, Ok, Err, Result, List, Some, length, slice_get}
+use Rattle.std.specs.Prelude.{◌≡◌, ◌⊎◌, ◌≤◌, ◌<◌, ◌+◌, ◌-◌, ◌^◌, ◌++◌, ℕ, Bool, true, false, IsTrue, codes, Contains, None, Ok, Err, Result, List, Some, length, reverse, slice_get}
 use Rattle.blameless_mirrors.specs.Blameless.{HasChosenPieces}
 use Rattle.command_line.specs.Lines.{IsLine, has_console}
 use Rattle.command_line.specs.declared.line.CommandLine.{CommandLine}
@@ -14,7 +14,8 @@ use Rattle.dl_kinds.specs.declared.claims.TheConstants.{MAX_MIRRORS}
 use Rattle.dl_kinds.specs.declared.gid.Gid.{Gid}
 use Rattle.dl_kinds.specs.declared.outside.Sink.{Ghosts as SinkSays}
 use Rattle.engine_turns.specs.RunTurns.{is_nearly_full}
-use Rattle.first_call.specs.Files.{Says}
+use Rattle.engine_turns.specs.Told.{RunTurn, history_of}
+use Rattle.command_call.specs.Files.{Says}
 use Rattle.link_source.specs.declared.Links.{Ghosts as LinkSays}
 use Rattle.machine_core.specs.Replays.{with_settings}
 use Rattle.machine_core.specs.Starts.{Listed}
@@ -24,7 +25,7 @@ use Rattle.machine_core.specs.declared.events.Event.TheVariants as event
 use Rattle.metainfo.specs.Info.{info_of}
 use Rattle.metainfo.specs.declared.meta.Meta.{Meta}
 use Rattle.option_set.specs.Values.{OptionValues}
-use Rattle.run_frame.specs.declared.ended.Ended.{Ended}
+use Rattle.run_lifecycle.specs.declared.ended.Ended.{Ended}
 use Rattle.run_report.specs.declared.endings.RunEnding.TheVariants.{Done, NoMemory, Unfinished}
 use Rattle.served_runs.specs.Served.{AllServe}
 
@@ -78,7 +79,7 @@ IsCutShort limited events (Ok JournalFull) = is_nearly_full events ≡ true
 IsCutShort limited events (Err spent) = IsTrue limited
 IsCutShort limited events other = ⊥
 
--- the work over a link did
+-- The work over a link did, by turns of this run, of which its journal is the history.
 pub record WasCutShort {D L K : Type 0} (limited : Bool) (links : LinkSays L) (olds : List (L × K)) (ended : Ended D)
     (news : List (L × K)) : Type 0 where
   pub place : ℕ
@@ -92,6 +93,9 @@ pub record WasCutShort {D L K : Type 0} (limited : Bool) (links : LinkSays L) (o
   pub its : Worked links place from old.0 to new.0 came
   pub why : IsCutShort limited ended.journal.events.items came
   pub few : IsTrue limited → IsWithinTurns (length its.worked) came
+  pub told : List RunTurn
+  pub history : reverse ended.journal.events.items ≡ history_of told
+  pub among : (t : RunTurn) → Contains its.worked t → Contains told t
 
 -- .. and the run is unfinished
 pub record EndsCutShort {D L K : Type 0} (limited : Bool) (links : LinkSays L) (olds : List (L × K)) (ended : Ended D)

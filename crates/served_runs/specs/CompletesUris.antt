@@ -16,7 +16,7 @@ use Rattle.option_set.specs.Values.{number_value, text_of_word}
 use Rattle.option_set.specs.declared.kinds.Num.TheVariants.{PieceLength}
 use Rattle.option_set.specs.declared.kinds.Word.TheVariants.{Checksum, Dir, Out}
 use Rattle.payload_files.specs.Names.{name_of}
-use Rattle.run_frame.specs.declared.ended.Ended.{Ended}
+use Rattle.run_lifecycle.specs.declared.ended.Ended.{Ended}
 use Rattle.run_report.specs.declared.endings.RunEnding.TheVariants.{NoMemory}
 use Rattle.std.specs.Option.{unwrap_or}
 

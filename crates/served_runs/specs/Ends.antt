@@ -21,10 +21,10 @@ use Rattle.machine_core.specs.declared.events.Event.TheVariants.{Called, Ended a
 use Rattle.metainfo.specs.declared.meta.Meta.{Meta}
 use Rattle.mirror_payloads.specs.Faithful.{IsFaithful}
 use Rattle.resume_core.specs.Wants.{control_name}
-use Rattle.run_frame.specs.Begins.{start_of_line}
-use Rattle.run_frame.specs.Finishes.{Ran}
-use Rattle.run_frame.specs.Stops.{all_turns}
-use Rattle.run_frame.specs.declared.ended.Ended.{Ended}
+use Rattle.run_lifecycle.specs.Begins.{start_of_line}
+use Rattle.run_lifecycle.specs.Finishes.{Ran}
+use Rattle.run_lifecycle.specs.Stops.{all_turns}
+use Rattle.run_lifecycle.specs.declared.ended.Ended.{Ended}
 use Rattle.run_report.specs.declared.endings.RunEnding.{RunEnding}
 use Rattle.run_report.specs.declared.endings.RunEnding.TheVariants.{Done, NoMemory, SinkFault, Unfinished}
 

@@ -8,8 +8,8 @@ use Rattle.link_source.specs.declared.Links.{Ghosts as LinkSays}
 use Rattle.machine_core.specs.Starts.{RunStart}
 use Rattle.machine_core.specs.declared.events.Event.{Event}
 use Rattle.machine_core.specs.declared.events.Event.TheVariants.{Lost, Sized}
-use Rattle.run_frame.specs.Begins.{start_of_line}
-use Rattle.run_frame.specs.LinkCauses.{LostAsTold, SizedAsTold}
+use Rattle.run_lifecycle.specs.Begins.{start_of_line}
+use Rattle.run_lifecycle.specs.LinkCauses.{LostAsTold, SizedAsTold}
 
 module _ {L K : Type 0} (links : LinkSays L) (start : RunStart) (events : List Event) (olds news : List (L × K)) where
   -- the link at the place of the claim's worker told the loss

@@ -9,10 +9,10 @@ use Rattle.dl_kinds.specs.declared.runs.Moment.{Moment}
 use Rattle.engine_turns.specs.Told.{RunTurn}
 use Rattle.engine_turns.specs.declared.operations.Operation.TheVariants.{Stop}
 use Rattle.link_source.specs.declared.Links.{Ghosts as LinkSays}
-use Rattle.run_frame.specs.Finishes.{NeverBegan, Ran}
-use Rattle.run_frame.specs.LinkCauses.{WorkedAmong}
-use Rattle.run_frame.specs.Stops.{ends_short}
-use Rattle.run_frame.specs.declared.ended.Ended.{Ended}
+use Rattle.run_lifecycle.specs.Finishes.{NeverBegan, Ran}
+use Rattle.run_lifecycle.specs.LinkCauses.{WorkedAmong}
+use Rattle.run_lifecycle.specs.Stops.{ends_short}
+use Rattle.run_lifecycle.specs.declared.ended.Ended.{Ended}
 
 module _ {D O L K : Type 0} {says : DiskSays D} {sinks : SinkSays O} (limited : Bool) (links : LinkSays L) {words : List (List ℕ)}
     {gids doors : ℕ} {disk : D} {out : O} {ended : Ended D} {out' : O}

@@ -12,11 +12,11 @@ use Rattle.machine_core.specs.Starts.{Download, Subject}
 use Rattle.machine_core.specs.declared.events.Event.TheVariants.{Claimed}
 use Rattle.mirror_payloads.specs.Faithful.{IsFaithful}
 use Rattle.option_set.specs.Values.{OptionValues}
-use Rattle.run_frame.specs.Begins.{start_of_line}
-use Rattle.run_frame.specs.Finishes.{Ran}
-use Rattle.run_frame.specs.LinkCauses.{WorkedAmong}
-use Rattle.run_frame.specs.Stops.{all_turns}
-use Rattle.run_frame.specs.declared.ended.Ended.{Ended}
+use Rattle.run_lifecycle.specs.Begins.{start_of_line}
+use Rattle.run_lifecycle.specs.Finishes.{Ran}
+use Rattle.run_lifecycle.specs.LinkCauses.{WorkedAmong}
+use Rattle.run_lifecycle.specs.Stops.{all_turns}
+use Rattle.run_lifecycle.specs.declared.ended.Ended.{Ended}
 use Rattle.served_runs.specs.ServingLaws.{IsToldRight, TellsSize, UsesClaim}
 use Rattle.served_runs.specs.Serving.{ServesRightly, ServesUnused}
 

@@ -2,7 +2,7 @@
 use Rattle.std.specs.Prelude.{◌≡◌, ◌<◌, ◌+◌, ◌^◌, ℕ, Bool, false, All, List, length, take}
 use Rattle.blameless_mirrors.specs.Chosen.{IsChosenPiece}
 use Rattle.dl_kinds.specs.Plan.{piece_end, piece_start}
-use Rattle.dl_words.specs.Lists.{part_at}
+use Rattle.dl_kinds.specs.Lists.{part_at}
 use Rattle.engine_turns.specs.NextRows.{mirror_url}
 use Rattle.link_source.specs.Mirrors.{Content}
 use Rattle.machine_core.specs.Starts.{Subject, Listed, Unlisted}
@@ -13,7 +13,7 @@ use Rattle.metainfo.specs.Jobs.{len_of_file}
 use Rattle.metainfo.specs.Urls.{seed_url_of}
 use Rattle.metainfo.specs.declared.meta.Meta.{Meta}
 use Rattle.option_set.specs.Values.{OptionValues}
-use Rattle.request_chain.specs.Redirects.{redirect_limit}
+use Rattle.request_chain.specs.declared.course.TheConstants.{REDIRECT_LIMIT}
 use Rattle.span_map.specs.Layout.{total_of}
 use Rattle.span_map.specs.declared.files.FileLen.{FileLen}
 
@@ -42,13 +42,13 @@ pub record ServesFiles (content : Content) (meta : Meta) (options : OptionValues
   pub laid : total_of meta.layout ≡ meta.plan.total
   pub small : length payload < 2 ^ 63
   pub leads : (file : ℕ) → IsFileOfChosen meta options file
-      → Leads content redirect_limit (seed_url_of meta.layout base file) (file_bytes meta.layout payload file)
+      → Leads content REDIRECT_LIMIT (seed_url_of meta.layout base file) (file_bytes meta.layout payload file)
 
 -- the URL leads to the payload, and to a mirror that tells its length
 pub record ServesWhole (content : Content) (url payload : List ℕ) : Type 0 where
   pub small : length payload < 2 ^ 63
-  pub leads : Leads content redirect_limit url payload
-  pub told : LeadsToSize content redirect_limit url (length payload)
+  pub leads : Leads content REDIRECT_LIMIT url payload
+  pub told : LeadsToSize content REDIRECT_LIMIT url (length payload)
 
 -- what is asked of this mirror for a download with these options is served
 abbrev pub ServesPayload : Content → Subject → OptionValues → ℕ → List ℕ → Type 0

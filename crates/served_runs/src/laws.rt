@@ -4,7 +4,7 @@ ghost use Rattle.served_runs.specs.Ends.{BroughtRunsEndWell, FinishedAreDone, Ru
 use blameless_mirrors::brought_downloads_only_complete;
 use dl_disk::Disk;
 use dl_kinds::Sink;
-use run_frame::runs_show_their_disk;
+use run_lifecycle::runs_show_their_disk;
 
 /// The turns of a run came one after the other, each as its disk tells; and where a mirror brings the payload of its only
 /// download, and neither the mirror's links nor the disk fail, no download ends but by being complete, and the run is done or

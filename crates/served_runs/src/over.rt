@@ -13,7 +13,7 @@ use dl_kinds::Sink;
 use engine_turns::turns_tell_runs;
 use link_source::Links;
 use machine_core::downloads_stay;
-use run_frame::{
+use run_lifecycle::{
     losses_come_of_workers, runs_end_as_shown, runs_show_their_disk, workers_show_their_link,
 };
 

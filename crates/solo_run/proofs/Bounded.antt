@@ -10,12 +10,12 @@ use Rattle.dl_kinds.specs.declared.outside.Sink.{Ghosts as SinkSays}
 use Rattle.link_source.specs.declared.Links.{Ghosts as LinkSays}
 use Rattle.machine_core.specs.RunLegal.{LengthsStay, download_in}
 use Rattle.machine_core.specs.declared.events.Event.{Event}
-use Rattle.run_frame.specs.Begins.{start_of_line}
+use Rattle.run_lifecycle.specs.Begins.{start_of_line}
 use Rattle.solo_run.proofs.FewEvents.{HistoryLaws}
 use Rattle.solo_run.proofs.FewTurns.{TurnLaws, few_turns}
 use Rattle.solo_run.proofs.OneRun.{StopLaws, run_is_bounded}
-use Rattle.run_frame.specs.Finishes.{NeverBegan}
-use Rattle.run_frame.specs.declared.ended.Ended.{Ended}
+use Rattle.run_lifecycle.specs.Finishes.{NeverBegan}
+use Rattle.run_lifecycle.specs.declared.ended.Ended.{Ended}
 use Rattle.solo_run.specs.Pieces.{RanOverOne}
 use Rattle.solo_run.specs.BoundedRuns.{BoundsRun, IsBoundedRun, RunsOverOneAreBounded}
 

@@ -5,7 +5,7 @@ use Rattle.dl_clock.specs.declared.clock.Clock.{Ghosts as ClockSays}
 use Rattle.dl_disk.specs.declared.disk.Disk.{Ghosts as DiskSays}
 use Rattle.dl_kinds.specs.declared.outside.Sink.{Ghosts as SinkSays}
 use Rattle.link_source.specs.declared.Links.{Ghosts as LinkSays}
-use Rattle.run_frame.specs.declared.ended.Ended.{Ended}
+use Rattle.run_lifecycle.specs.declared.ended.Ended.{Ended}
 use Rattle.solo_run.specs.Bounded.{BoundsFirst}
 use Rattle.solo_run.specs.Runs.{RunsOver}
 use Rattle.solo_run.proofs.OneLink.{over_its_one}

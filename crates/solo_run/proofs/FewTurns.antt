@@ -31,7 +31,7 @@ use Rattle.dl_kinds.specs.declared.runs.Moment.{Moment}
 use Rattle.engine_turns.specs.RunTurns.{MayComeAfter}
 use Rattle.engine_turns.specs.TurnLaws.{TurnsAppend}
 use Rattle.engine_turns.specs.Told.{AllTurns, RunTurn, history_after, history_of}
-use Rattle.first_call.specs.Sources.{IsNamedCall}
+use Rattle.command_call.specs.Sources.{IsNamedCall}
 use Rattle.link_source.specs.Exchanges.{Exchange}
 use Rattle.link_source.specs.declared.Links.{Ghosts as LinkSays}
 use Rattle.machine_core.specs.LawfulCalls.{IsLawful}
@@ -45,19 +45,19 @@ use Rattle.option_set.specs.declared.kinds.Num.TheVariants.{MaxConcurrentDownloa
 use Rattle.option_set.specs.declared.setting.Assigned.{Assigned}
 use Rattle.machine_core.specs.Replays.{with_settings}
 use Rattle.request_chain.specs.Chains.{Gains}
-use Rattle.run_frame.proofs.Ran as ran_facts
-use Rattle.run_frame.proofs.Turns.{events_on}
-use Rattle.run_frame.specs.Begins.{IsOwnCall}
-use Rattle.run_frame.specs.Stops.{all_turns}
-use Rattle.run_frame.specs.declared.ended.Ended.{Ended}
+use Rattle.run_lifecycle.proofs.Ran as ran_facts
+use Rattle.run_lifecycle.proofs.Turns.{events_on}
+use Rattle.run_lifecycle.specs.Begins.{IsOwnCall}
+use Rattle.run_lifecycle.specs.Stops.{all_turns}
+use Rattle.run_lifecycle.specs.declared.ended.Ended.{Ended}
 use Rattle.solo_run.specs.Pieces.{RanOverOne}
 use Rattle.stored_run.specs.RunFollows.{RunFollows}
 use Rattle.turn_desk.specs.Turns.{events_of}
-use Rattle.work_turns.specs.Alone.{turns_behind}
-use Rattle.work_turns.specs.Leisure.{IsWorkable, MayBeWorked, SoloTurnsAreFew}
-use Rattle.work_turns.specs.Reads.{IsSoloRun}
-use Rattle.work_turns.specs.TurnBounds.{AreBoundedBy, ComeAfter, EachBehind}
-use Rattle.work_turns.proofs.Solo.{behind_append}
+use Rattle.worker_turns.specs.Alone.{turns_behind}
+use Rattle.worker_turns.specs.Leisure.{IsWorkable, MayBeWorked, SoloTurnsAreFew}
+use Rattle.worker_turns.specs.Reads.{IsSoloRun}
+use Rattle.worker_turns.specs.TurnBounds.{AreBoundedBy, ComeAfter, EachBehind}
+use Rattle.worker_turns.proofs.Solo.{behind_append}
 use Rattle.solo_run.proofs.LeftUnfinished.{left_unfinished}
 use Rattle.solo_run.proofs.OneDownload.{sole_is}
 use Rattle.solo_run.proofs.OwnWants.{wants_own}

@@ -11,10 +11,10 @@ use Rattle.engine_turns.specs.declared.operations.Answer.{Answer}
 use Rattle.link_source.specs.declared.Links.{Ghosts as LinkSays}
 use Rattle.machine_core.specs.declared.events.Event.{Event}
 use Rattle.turn_desk.specs.declared.turn.Given.{Given}
-use Rattle.run_frame.specs.Begins.{is_no_memory}
-use Rattle.run_frame.specs.Finishes.{IsWholeRun, Ran}
-use Rattle.run_frame.specs.Stops.{IsAfter, StopsRun, ends_short}
-use Rattle.run_frame.specs.declared.ended.Ended.{Ended}
+use Rattle.run_lifecycle.specs.Begins.{HasBegun, is_no_memory}
+use Rattle.run_lifecycle.specs.Finishes.{IsWholeRun, Ran}
+use Rattle.run_lifecycle.specs.Stops.{IsAfter, StopsRun, ends_short}
+use Rattle.run_lifecycle.specs.declared.ended.Ended.{Ended}
 use Rattle.conn_worker.specs.Works.{RunSight, Worked}
 use Rattle.solo_run.specs.Runs.{RanOver, RunsOver, WorksThrough}
 
@@ -51,16 +51,21 @@ module _ {D L K : Type 0} {says : DiskSays D} {links : LinkSays L} {clocks : Clo
 
 module _ {D L K O : Type 0} {says : DiskSays D} {links : LinkSays L} {clocks : ClockSays K} {sinks : SinkSays O}
     {words : List (List ℕ)} {gids : ℕ} {disk : D} {edge : L × K} {out : O} {ended : Ended D} {edge' : L × K} {out' : O} where
-  abbrev pub framed : RanOver says links clocks sinks words gids disk edge out ended edge' out'
-      → Ran says sinks words gids 0 disk out ended out'
-  framed ran = record {
+  -- .. with so many doors, where it begins with these
+  abbrev pub framed_at : (doors : ℕ) (ran : RanOver says links clocks sinks words gids disk edge out ended edge' out')
+      → HasBegun says words gids doors disk ran.begun → Ran says sinks words gids doors disk out ended out'
+  framed_at doors ran begins = record {
     begun = ran.begun;
-    begins = ran.begins;
+    begins = begins;
     engine = ran.goes.engine;
     short = ran.goes.work_short;
     stops = stops_run ran.goes.works;
     finishes = ran.goes.finishes;
   }
+
+  abbrev pub framed : RanOver says links clocks sinks words gids disk edge out ended edge' out'
+      → Ran says sinks words gids 0 disk out ended out'
+  framed ran = framed_at 0 ran ran.begins
 
   pub whole : RunsOver says links clocks sinks words gids disk edge out ended edge' out'
       → IsWholeRun says sinks words gids 0 disk out ended out'

@@ -19,16 +19,16 @@ use Rattle.dl_disk.specs.declared.disk.Disk.{Ghosts as DiskSays}
 use Rattle.dl_kinds.specs.declared.outside.Sink.{Ghosts as SinkSays}
 use Rattle.engine_turns.specs.Told.{RunTurn}
 use Rattle.engine_turns.specs.TurnLaws.{TurnsAppend}
-use Rattle.first_call.specs.Sources.{IsNamedCall}
+use Rattle.command_call.specs.Sources.{IsNamedCall}
 use Rattle.link_source.specs.declared.Links.{Ghosts as LinkSays}
 use Rattle.machine_core.specs.RunLegal.{DownloadsStay}
 use Rattle.machine_core.specs.Starts.{Listed, Subject, Unlisted}
 use Rattle.machine_core.specs.declared.calls.Call.{Call}
 use Rattle.machine_core.specs.declared.calls.Call.TheVariants as call
 use Rattle.option_set.specs.declared.setting.Assigned.{Assigned}
-use Rattle.run_frame.specs.Finishes.{Ran}
-use Rattle.run_frame.specs.Stops.{ends_short}
-use Rattle.run_frame.specs.declared.ended.Ended.{Ended}
+use Rattle.run_lifecycle.specs.Finishes.{Ran}
+use Rattle.run_lifecycle.specs.Stops.{ends_short}
+use Rattle.run_lifecycle.specs.declared.ended.Ended.{Ended}
 use Rattle.run_report.specs.declared.endings.RunEnding.TheVariants.{Unfinished}
 use Rattle.solo_run.specs.Pieces.{RanOverOne}
 

@@ -1,6 +1,6 @@
 -- The work of a run over one link was done over the list of that link alone.
 use Rattle.std.proofs.Common.{◌≡◌, ◌≤◌, inl, inr, ℕ, zero, suc, Bool, true, false, List, [], ◌∷◌, Some, length, refl, sym, ap, ◌∙◌, slice_get, slice_index_or, slice_set, subst, take, arith}
-use Rattle.std.specs.Prelude.{◌<◌, ◌||◌, Contains}
+use Rattle.std.specs.Prelude.{◌<◌, ◌||◌, Contains, if◌then◌else◌}
 use Rattle.std.proofs.lemmas.Bool.{false≢true}
 use Rattle.std.proofs.lemmas.List.Elements.{Contains-append_left}
 use Rattle.served_runs.specs.LinksCauses.{ShowsLinks}
@@ -11,19 +11,50 @@ use Rattle.dl_kinds.specs.declared.outside.Sink.{Ghosts as SinkSays}
 use Rattle.engine_turns.specs.Told.{RunTurn}
 use Rattle.link_source.specs.declared.Links.{Ghosts as LinkSays}
 use Rattle.machine_core.specs.declared.events.Event.{Event}
-use Rattle.run_frame.specs.Begins.{is_no_memory, start_of_line}
-use Rattle.run_frame.specs.LinkCauses.{LostAsTold, SizedAsTold}
-use Rattle.run_frame.specs.Stops.{ends_short}
-use Rattle.run_frame.specs.declared.ended.Ended.{Ended}
+use Rattle.run_lifecycle.specs.Begins.{HasBegun, is_no_memory, start_of_line}
+use Rattle.run_lifecycle.specs.Consoles.{is_console_on}
+use Rattle.run_lifecycle.specs.LinkCauses.{LostAsTold, SizedAsTold}
+use Rattle.run_lifecycle.specs.Stops.{ends_short}
+use Rattle.run_lifecycle.specs.declared.beginning.Begun.{Begun}
+use Rattle.run_lifecycle.specs.declared.ended.Ended.{Ended}
 use Rattle.solo_run.specs.Pieces.{IsRunOverOne}
 use Rattle.solo_run.specs.LinkCauses.{ShowsLink}
-use Rattle.solo_run.specs.Runs.{RanOver, RunsOver}
-use Rattle.solo_run.proofs.Framed.{framed, its}
+use Rattle.solo_run.specs.Runs.{RanOver, RunsOver, TurnNoConsoleOn}
+use Rattle.solo_run.proofs.Framed.{framed_at, its}
 
 or_middle : (a b c : Bool) → b ≡ true → (a || (b || c)) ≡ true
 or_middle true b c is = refl
 or_middle false true c is = refl
 or_middle false false c is = absurd cc
+
+-- ---- doors
+
+none_used : (on : Bool) (doors : ℕ) → on ≡ false → (if on then 0 else 0) ≡ (if on then doors else 0)
+none_used true doors off = absurd (false≢true (sym off))
+none_used false doors off = refl
+
+-- without a console it is one how many doors stand
+begins_with : {D : Type 0} {says : DiskSays D} {words : List (List ℕ)} {gids : ℕ} {disk : D} {begun : Begun D}
+    → TurnNoConsoleOn words → (doors : ℕ) → HasBegun says words gids 0 disk begun → HasBegun says words gids doors disk begun
+begins_with {D} {says} {words} {gids} off doors b = record {
+  line = b.line;
+  means = b.means;
+  console_is = b.console_is;
+  read = b.read;
+  is_read = b.is_read;
+  call = b.call;
+  named = b.named;
+  call_is = b.call_is;
+  lawful = b.lawful;
+  start = b.start ∙ ap (λ (n : ℕ). record {
+    run = record { gids = gids; global = b.line.globals; doors = n };
+    disk = b.read;
+  }) (none_used (is_console_on b.line.globals) doors (off b.line b.means));
+  entries = b.entries;
+  mark = b.mark;
+  own = b.own;
+  first = b.first;
+}
 
 -- ---- the first of a list
 
@@ -55,9 +86,10 @@ at_one {A} P x y (suc n) old new old_is new_is holds = absurd cc
 
 module _ {D L K O : Type 0} {says : DiskSays D} {links : LinkSays L} {clocks : ClockSays K} {sinks : SinkSays O}
     {words : List (List ℕ)} {gids : ℕ} {disk : D} {out : O} {ended : Ended D} {out' : O} (pair pair' : L × K) where
-  module _ (ran : RanOver says links clocks sinks words gids disk pair out ended pair' out') where
+  module _ (ran : RanOver says links clocks sinks words gids disk pair out ended pair' out') (doors : ℕ)
+      (begins : HasBegun says words gids doors disk ran.begun) where
     abbrev Over : ℕ → Type 0
-    Over place = WorkedOver true links (framed ran) (pair ∷ []) (pair' ∷ []) place
+    Over place = WorkedOver true links (framed_at doors ran begins) (pair ∷ []) (pair' ∷ []) place
 
     abbrev worked_over : Over 0
     worked_over = record {
@@ -78,17 +110,17 @@ module _ {D L K O : Type 0} {says : DiskSays D} {links : LinkSays L} {clocks : C
       few = λ limited. ran.goes.works.worked.few;
     }
 
-    of_worker : (t : RunTurn) → Contains (framed ran).stops.middle t
-        → IsOfWorker true links (framed ran) (pair ∷ []) (pair' ∷ []) t
+    of_worker : (t : RunTurn) → Contains (framed_at doors ran begins).stops.middle t
+        → IsOfWorker true links (framed_at doors ran begins) (pair ∷ []) (pair' ∷ []) t
     of_worker t there = record { place = 0; at = worked_over; there = there }
 
     only_place : (place : ℕ) → place < 1 → Over place
     only_place zero low = worked_over
     only_place (suc n) low = absurd (omega (arith, low))
 
-    over_one : RanOverLinks says sinks true links words gids 0 disk (pair ∷ []) out ended (pair' ∷ []) out'
+    over_one : RanOverLinks says sinks true links words gids doors disk (pair ∷ []) out ended (pair' ∷ []) out'
     over_one = record {
-      ran = framed ran;
+      ran = framed_at doors ran begins;
       over = record {
         works = λ t there works. of_worker t there;
         stops = λ t there now is. of_worker t there;
@@ -100,7 +132,14 @@ module _ {D L K O : Type 0} {says : DiskSays D} {links : LinkSays L} {clocks : C
   pub over : RunsOver says links clocks sinks words gids disk pair out ended pair' out'
       → IsRunOver says sinks true links words gids 0 disk (pair ∷ []) out ended (pair' ∷ []) out'
   over (inl never) = inl never.0
-  over (inr ran) = inr (over_one ran)
+  over (inr ran) = inr (over_one ran 0 ran.begins)
+
+  -- .. with any number of doors, where the words turn no console on
+  pub over_doors : TurnNoConsoleOn words → (doors : ℕ)
+      → RunsOver says links clocks sinks words gids disk pair out ended pair' out'
+      → IsRunOver says sinks true links words gids doors disk (pair ∷ []) out ended (pair' ∷ []) out'
+  over_doors off doors (inl never) = inl never.0
+  over_doors off doors (inr ran) = inr (over_one ran doors (begins_with off doors ran.begins))
 
   -- .. by the turns of its worker, in order
   pub over_its_one : RunsOver says links clocks sinks words gids disk pair out ended pair' out'
@@ -108,14 +147,14 @@ module _ {D L K O : Type 0} {says : DiskSays D} {links : LinkSays L} {clocks : C
   unfolding over_one
   over_its_one (inl never) = inl never.0
   over_its_one (inr ran) = inr (record {
-    over = over_one ran;
+    over = over_one ran 0 ran.begins;
     from = ran.begun.desk;
     to = ran.goes.works.mid;
     came = ran.goes.works.came;
     its = its ran.goes.works;
     order = refl;
     few = ran.goes.works.worked.few;
-    short = (worked_over ran).short;
+    short = (worked_over ran 0 ran.begins).short;
   })
 
 -- what links show that are one link, it shows

@@ -2,7 +2,6 @@
 use Rattle.std.proofs.Common.{◌≡◌, ◌⊎◌, ℕ, Bool, true, false, cond, List, [], ◌∷◌, ◌++◌, append_assoc, Option, Some, None, refl, sym, ap, ◌∙◌, subst, inl, inr, arith}
 use Rattle.std.specs.Prelude.{Ok, Result, reverse}
 use Rattle.std.proofs.lemmas.List.{append-nil, reverse-append}
-use Rattle.served_runs.proofs.ToldRuns.{all_reversed}
 use Rattle.command_line.specs.declared.source.Source.{Source}
 use Rattle.conn_worker.specs.Hands.{fresh, link_at}
 use Rattle.conn_worker.specs.Works.{ComesOut, HasNoRoom, StopsUnlessFinished}
@@ -15,7 +14,7 @@ use Rattle.dl_kinds.specs.declared.runs.Moment.{Moment}
 use Rattle.engine_turns.specs.RunTurns.{MayComeAfter}
 use Rattle.engine_turns.specs.Told.{AllTurns, RunTurn, history_of}
 use Rattle.engine_turns.specs.declared.operations.Operation.TheVariants as operation
-use Rattle.first_call.specs.Sources.{IsNamedCall}
+use Rattle.command_call.specs.Sources.{IsNamedCall}
 use Rattle.link_source.specs.declared.Links.{Ghosts as LinkSays}
 use Rattle.machine_core.specs.RunLegal.{DownloadsAreLegal, IsLegal, LengthsStay, download_in}
 use Rattle.machine_core.specs.Starts.{Download, RunStart}
@@ -23,19 +22,20 @@ use Rattle.machine_core.specs.declared.calls.Call.{Call}
 use Rattle.machine_core.specs.declared.events.Event.{Event}
 use Rattle.option_set.specs.Values.{OptionValues}
 use Rattle.option_set.specs.declared.setting.Assigned.{Assigned}
-use Rattle.run_frame.proofs.Ran as ran_facts
-use Rattle.run_frame.specs.Begins.{IsOwnCall}
-use Rattle.run_frame.specs.Consoles.{doors_used, is_console_on}
-use Rattle.run_frame.specs.Finishes.{Ran}
-use Rattle.run_frame.specs.Stops.{all_turns}
-use Rattle.run_frame.specs.declared.ended.Ended.{Ended}
+use Rattle.run_lifecycle.proofs.Ran as ran_facts
+use Rattle.run_lifecycle.proofs.Turns.{all_reversed}
+use Rattle.run_lifecycle.specs.Begins.{IsOwnCall}
+use Rattle.run_lifecycle.specs.Consoles.{doors_used, is_console_on}
+use Rattle.run_lifecycle.specs.Finishes.{Ran}
+use Rattle.run_lifecycle.specs.Stops.{all_turns}
+use Rattle.run_lifecycle.specs.declared.ended.Ended.{Ended}
 use Rattle.solo_run.specs.Pieces.{RanOverOne}
 use Rattle.work_bounds.specs.SavesDue.{UnsavedHaveNews}
-use Rattle.work_turns.specs.Alone.{turns_behind}
-use Rattle.work_turns.specs.Reads.{IsFirstCall}
-use Rattle.work_turns.specs.TurnBounds.{EachBehind}
-use Rattle.work_turns.proofs.Lone.{legal_behind, none_stands}
-use Rattle.work_turns.proofs.Solo.{all_behind, behind_append, first_none}
+use Rattle.worker_turns.specs.Alone.{turns_behind}
+use Rattle.worker_turns.specs.Reads.{IsFirstCall}
+use Rattle.worker_turns.specs.TurnBounds.{EachBehind}
+use Rattle.worker_turns.proofs.Lone.{legal_behind, none_stands}
+use Rattle.worker_turns.proofs.Solo.{all_behind, behind_append, first_none}
 use Rattle.solo_run.proofs.FewEvents.{HistoryLaws, is_bounded}
 use Rattle.solo_run.proofs.Stops.{call_alone, call_fine, named_adds, stop_fine}
 use Rattle.solo_run.proofs.Steps.{Adds}

@@ -22,7 +22,7 @@ use Rattle.machine_core.specs.Starts.{Download, RunStart}
 use Rattle.machine_core.specs.declared.events.Event.{Event}
 use Rattle.machine_core.specs.declared.events.Event.TheVariants.{Opened}
 use Rattle.stored_run.specs.RunFollows.{RunFollows}
-use Rattle.work_turns.specs.Reads.{WantsAreOwn}
+use Rattle.worker_turns.specs.Reads.{WantsAreOwn}
 use Rattle.solo_run.proofs.OneDownload.{IsSole}
 
 -- ---- openings

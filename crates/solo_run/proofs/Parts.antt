@@ -19,8 +19,8 @@ use Rattle.machine_core.specs.declared.events.Event.TheVariants.{Checked, Cleare
 use Rattle.work_bounds.proofs.Tallies.{tally}
 use Rattle.work_bounds.specs.SavesDue.{has_news}
 use Rattle.work_bounds.specs.WorkLimits.{is_check}
-use Rattle.turn_offers.proofs.Histories.{history_append}
-use Rattle.work_turns.proofs.Standing.{own_lost}
+use Rattle.offered_work.proofs.Histories.{history_append}
+use Rattle.worker_turns.proofs.Standing.{own_lost}
 use Rattle.solo_run.proofs.OneDownload.{own_event, tally_events}
 use Rattle.solo_run.proofs.Steps.{EachAfter, IsOrderly, each_after_append}
 

@@ -24,7 +24,7 @@ use Rattle.dl_kinds.specs.declared.gid.Gid.{Gid}
 use Rattle.dl_kinds.specs.declared.outside.Sink.{Ghosts as SinkSays}
 use Rattle.engine_turns.specs.Told.{RunTurn, history_of}
 use Rattle.engine_turns.specs.TurnLaws.{TurnsAppend}
-use Rattle.first_call.specs.Sources.{IsCallOf}
+use Rattle.command_call.specs.Sources.{IsCallOf}
 use Rattle.link_source.specs.declared.Links.{Ghosts as LinkSays}
 use Rattle.machine_core.specs.RunLegal.{DownloadsStay, tries_in}
 use Rattle.machine_core.specs.Starts.{Download, Listed, RunStart, Subject}
@@ -33,14 +33,14 @@ use Rattle.metainfo.specs.declared.meta.Meta.{Meta}
 use Rattle.machine_core.specs.Wanted.{wanted_pieces}
 use Rattle.option_set.specs.Values.{OptionValues, number_value}
 use Rattle.option_set.specs.declared.kinds.Num.TheVariants.{MaxTries}
-use Rattle.paid_marks.specs.Paid.{IsListedRun, lengths_of_meta}
-use Rattle.paid_marks.specs.Served.{IsServedPiece, ServedOnlyComplete}
+use Rattle.mark_costs.specs.Paid.{IsListedRun, lengths_of_meta}
+use Rattle.mark_costs.specs.Served.{IsServedPiece, ServedOnlyComplete}
 use Rattle.resume_core.specs.Wants.{control_name, payload_name}
-use Rattle.run_frame.specs.Finishes.{Ran}
-use Rattle.run_frame.specs.FrameLaws.{RunsEndAsShown, RunsShowDisk}
-use Rattle.run_frame.specs.Stops.{all_turns}
-use Rattle.run_frame.specs.declared.ended.Ended.{Ended}
-use Rattle.run_frame.proofs.Ran as ran_facts
+use Rattle.run_lifecycle.specs.Finishes.{Ran}
+use Rattle.run_lifecycle.specs.FrameLaws.{RunsEndAsShown, RunsShowDisk}
+use Rattle.run_lifecycle.specs.Stops.{all_turns}
+use Rattle.run_lifecycle.specs.declared.ended.Ended.{Ended}
+use Rattle.run_lifecycle.proofs.Ran as ran_facts
 use Rattle.run_report.specs.declared.endings.RunEnding.TheVariants.{NoMemory}
 use Rattle.solo_run.specs.Pieces.{CompletesPieces, IsRunOverOne, IsServedByPieces, RanOverOne}
 use Rattle.served_runs.proofs.Unbegun.{never_began}

@@ -30,7 +30,7 @@ use Rattle.machine_core.specs.declared.events.Event.TheVariants.{Claimed, Cleare
 use Rattle.machine_core.specs.declared.offers.Offer.{Offer}
 use Rattle.machine_core.specs.declared.offers.Offer.TheVariants as offer
 use Rattle.verify_piece.specs.Seals.{PieceBytes}
-use Rattle.work_turns.specs.Alone.{NoClaimStands}
+use Rattle.worker_turns.specs.Alone.{NoClaimStands}
 use Rattle.solo_run.proofs.Parts.{IsFine, IsFineBehind, fine_dead, fine_due_save, fine_end, fine_ending, fine_event, fine_fault, fine_filled, fine_if, fine_landings, fine_none, fine_nothing, fine_one, fine_opening, fine_read, fine_settling, fine_then, filled_news, landed_some, loose_checks}
 
 -- a turn that was answered for want of memory may have a check without an end

@@ -13,7 +13,7 @@ use Rattle.engine_turns.specs.declared.operations.Operation.{Operation}
 use Rattle.engine_turns.specs.declared.operations.Operation.TheVariants as operation
 use Rattle.engine_turns.specs.declared.operations.Said.{Said}
 use Rattle.engine_turns.specs.declared.outcome.Outcome.{Outcome}
-use Rattle.first_call.specs.Sources.{AddsNamed, IsNamedCall}
+use Rattle.command_call.specs.Sources.{AddsNamed, IsNamedCall}
 use Rattle.command_line.specs.declared.source.Source.{Source}
 use Rattle.command_line.specs.declared.source.Source.TheVariants as source
 use Rattle.machine_core.specs.OwnParts.{halted_where, halts_by, own_of}
@@ -28,8 +28,8 @@ use Rattle.machine_core.specs.declared.events.Event.{Event}
 use Rattle.machine_core.specs.declared.events.Event.TheVariants.{Called, Ended, Saved, Stopped}
 use Rattle.option_set.specs.declared.setting.Assigned.{Assigned}
 use Rattle.work_bounds.specs.SavesDue.{UnsavedHaveNews}
-use Rattle.turn_offers.proofs.Histories.{history_append}
-use Rattle.turn_offers.proofs.Histories.{legal_before}
+use Rattle.offered_work.proofs.Histories.{history_append}
+use Rattle.offered_work.proofs.Histories.{legal_before}
 use Rattle.solo_run.proofs.OneDownload.{AreFew, downloads_few}
 use Rattle.solo_run.proofs.Parts.{HasNews, IsFine, fine_append, fine_none, fine_one}
 use Rattle.solo_run.proofs.Rows.{answered_so}

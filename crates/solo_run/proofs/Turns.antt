@@ -35,14 +35,14 @@ use Rattle.machine_core.specs.RunLegal.{IsLegal, LengthsStay, is_stop}
 use Rattle.machine_core.specs.Starts.{Download, RunStart}
 use Rattle.machine_core.specs.declared.events.Event.{Event}
 use Rattle.work_bounds.specs.WorkLimits.{is_check}
-use Rattle.work_turns.specs.Alone.{turns_behind}
-use Rattle.work_turns.specs.TurnBounds.{ComeAfter}
-use Rattle.work_turns.proofs.Appending.{answered, ends_starved}
-use Rattle.work_turns.proofs.Counting.{no_end}
-use Rattle.work_turns.proofs.Landings.{has_in}
-use Rattle.work_turns.proofs.Lone.{legal_behind, or_none, stands_none}
-use Rattle.work_turns.proofs.Tracked.{FetchTracks, Tracks, turn_tracks}
-use Rattle.work_turns.proofs.Tracking.{FetchStands, at_home, no_home}
+use Rattle.worker_turns.specs.Alone.{turns_behind}
+use Rattle.worker_turns.specs.TurnBounds.{ComeAfter}
+use Rattle.worker_turns.proofs.Appending.{answered, ends_starved}
+use Rattle.worker_turns.proofs.Counting.{no_end}
+use Rattle.worker_turns.proofs.Landings.{has_in}
+use Rattle.worker_turns.proofs.Lone.{legal_behind, or_none, stands_none}
+use Rattle.worker_turns.proofs.Tracked.{FetchTracks, Tracks, turn_tracks}
+use Rattle.worker_turns.proofs.Tracking.{FetchStands, at_home, no_home}
 use Rattle.solo_run.proofs.OneDownload.{own_event, tally_events}
 use Rattle.solo_run.proofs.Parts.{IsFine}
 use Rattle.solo_run.proofs.Rows.{answered_so, deliver_fine, lose_fine, loose_said, next_fine, no_events, seal_fine, sized_fine}

@@ -7,9 +7,9 @@ use Rattle.dl_kinds.specs.declared.outside.Sink.{Ghosts as SinkSays}
 use Rattle.link_source.specs.declared.Links.{Ghosts as LinkSays}
 use Rattle.machine_core.specs.declared.events.Event.{Event}
 use Rattle.machine_core.specs.declared.events.Event.TheVariants.{Stopped}
-use Rattle.run_frame.specs.Finishes.{Ran}
-use Rattle.run_frame.specs.Untouched.{OnlyReads}
-use Rattle.run_frame.specs.declared.ended.Ended.{Ended}
+use Rattle.run_lifecycle.specs.Finishes.{Ran}
+use Rattle.run_lifecycle.specs.Untouched.{OnlyReads}
+use Rattle.run_lifecycle.specs.declared.ended.Ended.{Ended}
 use Rattle.solo_run.specs.LinkCauses.{ShowsFirstLink, ShowsLink}
 use Rattle.solo_run.specs.Runs.{RunsOver}
 use Rattle.solo_run.specs.Untouched.{LeavesUnused}

@@ -15,7 +15,7 @@ use Rattle.served_runs.proofs.TurnCalls.{AreOfOnes, IsOfOne}
 use Rattle.command_line.specs.declared.source.Source.{Source}
 use Rattle.command_line.specs.declared.source.Source.TheVariants as source
 use Rattle.engine_turns.specs.Told.{history_after}
-use Rattle.first_call.specs.Sources.{AddsNamed, IsNamedCall}
+use Rattle.command_call.specs.Sources.{AddsNamed, IsNamedCall}
 use Rattle.machine_core.specs.Choices.{options_now}
 use Rattle.machine_core.specs.LawfulCalls.{IsLawful}
 use Rattle.machine_core.specs.Replays.{Replay, download_of, is_refused, is_same_gid, next_gid, queue_in, replay_of, replay_start, stop_of, with_call, with_download, with_settings}
@@ -30,7 +30,7 @@ use Rattle.machine_core.specs.declared.events.Event.TheVariants.{Called, Checked
 use Rattle.option_set.specs.Values.{OptionValues, number_value}
 use Rattle.option_set.specs.declared.kinds.Num.TheVariants as num
 use Rattle.option_set.specs.declared.setting.Assigned.{Assigned}
-use Rattle.work_turns.specs.Leisure.{IsWorkable}
+use Rattle.worker_turns.specs.Leisure.{IsWorkable}
 use Rattle.solo_run.proofs.Steps.{Adds, EachBefore, OrderlyRun}
 
 -- ---- calls

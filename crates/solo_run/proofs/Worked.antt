@@ -11,11 +11,11 @@ use Rattle.dl_kinds.specs.declared.outside.Sink.{Ghosts as SinkSays}
 use Rattle.engine_turns.specs.Told.{RunTurn}
 use Rattle.link_source.specs.declared.Links.{Ghosts as LinkSays}
 use Rattle.machine_core.specs.declared.calls.Call.{Call}
-use Rattle.paid_marks.specs.Served.{IsWorkOfOne}
-use Rattle.run_frame.specs.Begins.{IsOwnCall}
-use Rattle.run_frame.specs.Finishes.{Ran}
-use Rattle.run_frame.specs.Stops.{all_turns}
-use Rattle.run_frame.specs.declared.ended.Ended.{Ended}
+use Rattle.mark_costs.specs.Served.{IsWorkOfOne}
+use Rattle.run_lifecycle.specs.Begins.{IsOwnCall}
+use Rattle.run_lifecycle.specs.Finishes.{Ran}
+use Rattle.run_lifecycle.specs.Stops.{all_turns}
+use Rattle.run_lifecycle.specs.declared.ended.Ended.{Ended}
 use Rattle.served_runs.specs.ServingLaws.{UsesClaim}
 use Rattle.served_runs.proofs.ServedRuns.{works_over}
 use Rattle.solo_run.specs.Pieces.{RanOverOne}

@@ -4,7 +4,7 @@ use Rattle.solo_run.specs.BoundedRuns.{BoundsRun}
 use Rattle.dl_disk.specs.declared.disk.Disk.{Ghosts as DiskSays}
 use Rattle.dl_kinds.specs.declared.outside.Sink.{Ghosts as SinkSays}
 use Rattle.link_source.specs.declared.Links.{Ghosts as LinkSays}
-use Rattle.run_frame.specs.declared.ended.Ended.{Ended}
+use Rattle.run_lifecycle.specs.declared.ended.Ended.{Ended}
 
 module _ {D O L K : Type 0} (says : DiskSays D) (sinks : SinkSays O) (links : LinkSays L) where
   -- it is bounded, by the first of the links, before and after

@@ -15,8 +15,8 @@ use Rattle.machine_core.specs.Starts.{Download, RunStart}
 use Rattle.machine_core.specs.declared.events.Event.{Event}
 use Rattle.machine_core.specs.declared.journal.TheConstants.{TURN_EVENTS}
 use Rattle.request_chain.specs.Chains.{Gains, received_by}
-use Rattle.run_frame.specs.Begins.{start_of_line}
-use Rattle.run_frame.specs.declared.ended.Ended.{Ended}
+use Rattle.run_lifecycle.specs.Begins.{start_of_line}
+use Rattle.run_lifecycle.specs.declared.ended.Ended.{Ended}
 use Rattle.run_report.specs.declared.endings.RunEnding.TheVariants.{Unfinished}
 use Rattle.solo_run.specs.Pieces.{IsRunOverOne, RanOverOne}
 use Rattle.solo_run.specs.Bounds.{IsBounded, limits_of, most_run_events}

@@ -4,8 +4,8 @@ use Rattle.dl_clock.specs.declared.clock.Clock.{Ghosts as ClockSays}
 use Rattle.dl_disk.specs.declared.disk.Disk.{Ghosts as DiskSays}
 use Rattle.dl_kinds.specs.declared.outside.Sink.{Ghosts as SinkSays}
 use Rattle.link_source.specs.declared.Links.{Ghosts as LinkSays}
-use Rattle.run_frame.specs.Results.{ended_of}
-use Rattle.run_frame.specs.declared.ended.Finished.{Finished}
+use Rattle.run_lifecycle.specs.Results.{ended_of}
+use Rattle.run_lifecycle.specs.declared.ended.Finished.{Finished}
 use Rattle.solo_run.specs.Runs.{RunsOver}
 
 module _ {D L K A : Type 0} where

@@ -7,8 +7,8 @@ use Rattle.dl_kinds.specs.declared.marks.Mark.{Mark}
 use Rattle.link_source.specs.declared.Links.{Ghosts as LinkSays}
 use Rattle.machine_core.specs.declared.events.Event.{Event}
 use Rattle.machine_core.specs.declared.events.Event.TheVariants.{Lost, Sized}
-use Rattle.run_frame.specs.Begins.{start_of_line}
-use Rattle.run_frame.specs.LinkCauses.{LostAsTold, SizedAsTold}
+use Rattle.run_lifecycle.specs.Begins.{start_of_line}
+use Rattle.run_lifecycle.specs.LinkCauses.{LostAsTold, SizedAsTold}
 
 module _ {L : Type 0} (links : LinkSays L) (words : List (List ℕ)) (gids : ℕ) where
   -- each claim that failed, and each length, is as the link told

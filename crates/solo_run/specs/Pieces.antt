@@ -14,10 +14,10 @@ use Rattle.machine_core.specs.Starts.{Listed}
 use Rattle.metainfo.specs.declared.meta.Meta.{Meta}
 use Rattle.option_set.specs.Values.{OptionValues, number_value}
 use Rattle.option_set.specs.declared.kinds.Num.TheVariants.{MaxTries}
-use Rattle.paid_marks.specs.Served.{IsServedPiece}
-use Rattle.run_frame.specs.Finishes.{NeverBegan}
-use Rattle.run_frame.specs.Stops.{ends_short}
-use Rattle.run_frame.specs.declared.ended.Ended.{Ended}
+use Rattle.mark_costs.specs.Served.{IsServedPiece}
+use Rattle.run_lifecycle.specs.Finishes.{NeverBegan}
+use Rattle.run_lifecycle.specs.Stops.{ends_short}
+use Rattle.run_lifecycle.specs.declared.ended.Ended.{Ended}
 use Rattle.run_report.specs.declared.endings.RunEnding.TheVariants.{NoMemory}
 
 -- ---- what is given

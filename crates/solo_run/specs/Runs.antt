@@ -1,5 +1,7 @@
 -- What a run over one link did, from the words to the summary.
-use Rattle.std.specs.Prelude.{◌≡◌, ◌⊎◌, ◌||◌, ℕ, Bool, List, Result}
+use Rattle.std.specs.Prelude.{◌≡◌, ◌⊎◌, ◌||◌, ℕ, Bool, false, List, Result}
+use Rattle.command_line.specs.Lines.{IsLine}
+use Rattle.command_line.specs.declared.line.CommandLine.{CommandLine}
 use Rattle.conn_worker.specs.Works.{RunSight, WorkedWithin}
 use Rattle.conn_worker.specs.declared.ends.Spent.{Spent}
 use Rattle.conn_worker.specs.declared.ends.WorkEnd.{WorkEnd}
@@ -13,11 +15,16 @@ use Rattle.engine_turns.specs.declared.operations.Operation.TheVariants.{Stop}
 use Rattle.engine_turns.specs.declared.operations.Said.{Said}
 use Rattle.link_source.specs.declared.Links.{Ghosts as LinkSays}
 use Rattle.turn_desk.specs.Sights.{Took}
-use Rattle.run_frame.specs.Begins.{HasBegun, is_no_memory}
-use Rattle.run_frame.specs.Finishes.{Finishes, NeverBegan}
-use Rattle.run_frame.specs.Stops.{IsAfter, ends_short}
-use Rattle.run_frame.specs.declared.beginning.Begun.{Begun}
-use Rattle.run_frame.specs.declared.ended.Ended.{Ended}
+use Rattle.run_lifecycle.specs.Begins.{HasBegun, is_no_memory}
+use Rattle.run_lifecycle.specs.Consoles.{is_console_on}
+use Rattle.run_lifecycle.specs.Finishes.{Finishes, NeverBegan}
+use Rattle.run_lifecycle.specs.Stops.{IsAfter, ends_short}
+use Rattle.run_lifecycle.specs.declared.beginning.Begun.{Begun}
+use Rattle.run_lifecycle.specs.declared.ended.Ended.{Ended}
+
+-- whatever line the words mean, it turns no console on
+abbrev pub TurnNoConsoleOn : List (List ℕ) → Type 0
+TurnNoConsoleOn words = (line : CommandLine) → IsLine words line → is_console_on line.globals ≡ false
 
 -- memory was wanting, for the worker or for the turn behind it
 abbrev pub is_short : Result WorkEnd Spent → Said → Bool

@@ -1,8 +1,8 @@
 -- What a run over one link leaves as it was.
 use Rattle.std.specs.Prelude.{◌≡◌, List, [], drop, length}
 use Rattle.dl_disk.specs.declared.disk.Disk.{Ghosts as DiskSays}
-use Rattle.run_frame.specs.Untouched.{OnlyReads}
-use Rattle.run_frame.specs.declared.ended.Ended.{Ended}
+use Rattle.run_lifecycle.specs.Untouched.{OnlyReads}
+use Rattle.run_lifecycle.specs.declared.ended.Ended.{Ended}
 
 module _ {D P : Type 0} (says : DiskSays D) (disk : D) (links : List P) (ended : Ended D) (links' : List P) where
   -- Where nothing happened the disk was read at most, and where the words have no meaning it wasn't called. Only the

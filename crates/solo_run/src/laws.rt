@@ -10,12 +10,12 @@ use dl_kinds::Sink;
 use engine_turns::{active_downloads_are_going, turns_tell_runs};
 use link_source::Links;
 use machine_core::{downloads_are_legal, downloads_stay};
-use paid_marks::served_downloads_only_complete;
-use run_frame::{runs_end_as_shown, runs_show_their_disk};
+use mark_costs::served_downloads_only_complete;
+use run_lifecycle::{runs_end_as_shown, runs_show_their_disk};
 use served_runs::{finished_runs_are_done, runs_show_their_links};
 use stored_run::runs_follow;
 use work_bounds::{claims_are_bounded, histories_are_bounded, pieces_are_cleared_seldom};
-use work_turns::solo_runs_find_offers;
+use worker_turns::solo_runs_find_offers;
 
 /// What is served piece by piece comes: a run over one link is done, if each piece that its options choose has a mirror
 /// there that holds it, with fewer bad answers left than tries, unless it was cut short.

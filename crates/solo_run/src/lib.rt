@@ -8,4 +8,4 @@ mod work;
 
 pub use laws::bounds_are_told;
 pub use run::run_alone;
-pub use run_frame::Finished;
+pub use run_lifecycle::Finished;

@@ -8,7 +8,7 @@ use dl_disk::Disk;
 use dl_kinds::Sink;
 use link_source::Links;
 use machine_core::Journal;
-use run_frame::{Begun, Ended, Unbegun, begin, finish, refuse};
+use run_lifecycle::{Begun, Ended, Unbegun, begin, finish, refuse};
 use std::alloc::Global;
 
 fn either(first: bool, second: bool) -> bool

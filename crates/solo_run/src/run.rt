@@ -1,19 +1,21 @@
 // A run over one link.
-ghost use Rattle.std.specs.Prelude.{◌≡◌, ◌≤◌, true, IsTrue, length, map, string_bytes, take};
+ghost use Rattle.std.specs.Prelude.{◌≡◌, ◌≤◌, ℕ, true, IsTrue, length, map, string_bytes, take};
 ghost use Rattle.served_runs.specs.Completes.{CompletesServed};
 ghost use Rattle.served_runs.specs.CompletesUris.{CompletesUris};
+ghost use Rattle.served_runs.specs.Over.{IsRunOver};
 ghost use Rattle.served_runs.specs.Served.{SparesServing};
 ghost use Rattle.served_runs.specs.Unfinished.{ShowsUnfinished};
-ghost use Rattle.run_frame.specs.DiskCauses.{LeavesOtherFiles, ShowsDisk};
-ghost use Rattle.run_frame.specs.Endings.{EndsAsShown};
-ghost use Rattle.run_frame.specs.Histories.{IsHistory};
-ghost use Rattle.run_frame.specs.Printing.{PrintsText};
-ghost use Rattle.run_frame.specs.Results.{ended_of};
-ghost use Rattle.run_frame.specs.Survivals.{SurvivesRun};
+ghost use Rattle.run_lifecycle.specs.DiskCauses.{LeavesOtherFiles, ShowsDisk};
+ghost use Rattle.run_lifecycle.specs.Endings.{EndsAsShown};
+ghost use Rattle.run_lifecycle.specs.Histories.{IsHistory};
+ghost use Rattle.run_lifecycle.specs.Printing.{PrintsText};
+ghost use Rattle.run_lifecycle.specs.Results.{ended_of};
+ghost use Rattle.run_lifecycle.specs.Survivals.{SurvivesRun};
 ghost use Rattle.solo_run.specs.Bounded.{BoundsFirst};
 ghost use Rattle.solo_run.specs.Headline.{DoesAlone};
 ghost use Rattle.solo_run.specs.LinkCauses.{ShowsFirstLink};
 ghost use Rattle.solo_run.specs.Pieces.{CompletesPieces};
+ghost use Rattle.solo_run.specs.Runs.{TurnNoConsoleOn};
 ghost use Rattle.solo_run.specs.Untouched.{LeavesUnused};
 
 use crate::laws::{runs_complete_served_pieces, runs_over_one_are_bounded};
@@ -22,7 +24,7 @@ use dl_clock::Clock;
 use dl_disk::Disk;
 use dl_kinds::Sink;
 use link_source::Links;
-use run_frame::{
+use run_lifecycle::{
     Ended, Finished, begun_runs_are_stopped, runs_end_as_shown, runs_have_whole_histories,
     runs_leave_other_files, runs_print_one_text, runs_show_their_disk, runs_survive_crashes,
     unbegun_runs_only_read,
@@ -89,6 +91,10 @@ pub fn run_alone<D: Disk, L: Links, K: Clock, A, O: Sink>(
     // What is complete has its digests, and nothing that was promised is lost by a crash.
     ensures survives { IsTrue D.tells
         → SurvivesRun D.Disk (map string_bytes words.now) gids 0 disk (ended_of result) }
+    // With any number of doors it is a run of its frame, whose turns between the line's call and the stop are the worker's.
+    ensures over { TurnNoConsoleOn (map string_bytes words.now) → (doors : ℕ) → IsRunOver D.Disk
+        O.Sink true L.Links (map string_bytes words.now) gids doors disk (take 1 links.items) out.old
+        (ended_of result) (take 1 result.links.items) out.new }
     // Nothing else is touched.
     ensures untouched { LeavesUnused D.Disk disk links.items (ended_of result) result.links.items }
     ensures doors { result.doors ≡ doors }

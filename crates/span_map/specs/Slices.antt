@@ -1,7 +1,7 @@
 -- Slices of a payload as parts of its files.
 use Rattle.std.specs.Prelude.{◌≡◌, ◌≤◌, ◌<◌, ◌+◌, ◌-◌, ℕ, List, [], ◌∷◌, ◌++◌, length, min, max, nat_lt, if◌then◌else◌, slice_get, IsSomeAnd}
 use Rattle.std.specs.List.{concat, flat_map, AllZip, slice_index_or}
-use Rattle.dl_words.specs.Lists.{part_at}
+use Rattle.dl_kinds.specs.Lists.{part_at}
 use Rattle.span_map.specs.declared.files.FileLen.{FileLen}
 use Rattle.span_map.specs.declared.files.Part.{Part}
 

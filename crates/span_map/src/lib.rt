@@ -10,7 +10,6 @@ mod paths;
 
 pub use files::{FileLen, LayoutErr, Part};
 pub use jobs::{Job, JobPart, JobParts};
-pub use laws::parts_hold_slices;
+pub use laws::{limits_are_told, parts_hold_slices};
 pub use layout::Layout;
 pub use paths::{MAX_PART_LEN, MAX_PARTS, NUL, SLASH, is_valid_part};
-pub use std::alloc::AllocError as NoMemory;

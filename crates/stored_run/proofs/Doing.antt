@@ -4,7 +4,7 @@ use Rattle.std.specs.Prelude.{◌||◌, Contains, IfSome, IsSome}
 use Rattle.std.proofs.lemmas.Bool.{cases_lt}
 use Rattle.std.proofs.lemmas.List.{append_assoc}
 use Rattle.std.proofs.lemmas.List.Elements.{Contains-append_cases}
-use Rattle.dl_words.specs.Counts.{Rose}
+use Rattle.dl_kinds.specs.Counts.{Rose}
 use Rattle.dl_disk.specs.Files.{Files}
 use Rattle.dl_disk.specs.Passes.{present, since_split}
 use Rattle.dl_disk.specs.State.{DiskState, LeftSince}

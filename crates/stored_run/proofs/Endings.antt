@@ -15,7 +15,7 @@ use Rattle.dl_history.specs.OwnLegal.{LegalOwn, MaySave}
 use Rattle.dl_history.specs.PayloadParts.{is_ended, is_verified_in}
 use Rattle.dl_kinds.specs.declared.gid.Gid.{Gid}
 use Rattle.dl_kinds.specs.declared.runs.Moment.{Moment}
-use Rattle.dl_words.specs.Counts.{Rose}
+use Rattle.dl_kinds.specs.Counts.{Rose}
 use Rattle.durable_progress.specs.Held.{IsHeld}
 use Rattle.durable_progress.specs.HeldSteps.{IsHeldNow, StaysHeldOrFinished}
 use Rattle.engine_turns.specs.Phases.{DiskFaultEnds, TurnStart}

@@ -14,7 +14,7 @@ use Rattle.dl_kinds.specs.declared.claims.Claim.{Claim}
 use Rattle.dl_kinds.specs.declared.gid.Gid.{Gid}
 use Rattle.dl_kinds.specs.declared.plan.Plan.{Plan}
 use Rattle.dl_kinds.specs.declared.runs.Run.{Run}
-use Rattle.dl_words.specs.Lists.{part_at}
+use Rattle.dl_kinds.specs.Lists.{part_at}
 use Rattle.engine_turns.specs.ClaimRows.{DeliveryPhase}
 use Rattle.engine_turns.specs.Phases.{AfterDisk, BreaksOff, LandingsPhase, TurnStart}
 use Rattle.engine_turns.specs.Standings.{AnswersUnlessStarved}

@@ -17,7 +17,7 @@ use Rattle.dl_kinds.specs.declared.gid.Gid.{Gid}
 use Rattle.dl_kinds.specs.declared.plan.Plan.{Plan}
 use Rattle.dl_kinds.specs.declared.runs.Moment.{Moment}
 use Rattle.dl_kinds.specs.declared.runs.Run.{Run}
-use Rattle.dl_words.specs.Lists.{part_at}
+use Rattle.dl_kinds.specs.Lists.{part_at}
 use Rattle.engine_turns.specs.ClaimRows.{blocks_in_event}
 use Rattle.engine_turns.specs.Phases.{AfterDisk, LandingsPhase, TurnStart}
 use Rattle.engine_turns.specs.Told.{history_after}

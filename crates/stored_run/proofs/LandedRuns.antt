@@ -17,7 +17,7 @@ use Rattle.dl_kinds.specs.declared.claims.Claim.{Claim}
 use Rattle.dl_kinds.specs.declared.gid.Gid.{Gid}
 use Rattle.dl_kinds.specs.declared.runs.Moment.{Moment}
 use Rattle.dl_kinds.specs.declared.runs.Run.{Run}
-use Rattle.dl_words.specs.Counts.{Rose}
+use Rattle.dl_kinds.specs.Counts.{Rose}
 use Rattle.dl_history.specs.Listings.{Listing}
 use Rattle.dl_kinds.specs.Plan.{block_end, block_start}
 use Rattle.durable_progress.specs.HeldLaws.{ListsNoneOf}

@@ -13,7 +13,7 @@ use Rattle.dl_history.specs.PayloadParts.{is_opened}
 use Rattle.dl_kinds.specs.Plan.{IsPlan}
 use Rattle.dl_kinds.specs.declared.gid.Gid.{Gid}
 use Rattle.dl_kinds.specs.declared.runs.Moment.{Moment}
-use Rattle.dl_words.specs.Counts.{Rose}
+use Rattle.dl_kinds.specs.Counts.{Rose}
 use Rattle.machine_core.specs.Claiming.{is_to_open, next_to_open}
 use Rattle.machine_core.specs.Clashes.{IsBeforeOpening}
 use Rattle.machine_core.specs.DownloadWants.{HasWant}

@@ -6,7 +6,7 @@ use Rattle.std.specs.Prelude.{IfNone, IfSome, IsSome, option_copied}
 use Rattle.std.proofs.Common.{Bor}
 use Rattle.dl_history.specs.PayloadParts.{is_ended, is_opened}
 use Rattle.dl_kinds.specs.declared.gid.Gid.{Gid}
-use Rattle.dl_words.specs.Counts.{Rose}
+use Rattle.dl_kinds.specs.Counts.{Rose}
 use Rattle.machine_core.specs.DownloadWants.{HasWant}
 use Rattle.machine_core.specs.MachineViews.{Appends, MachineView, account_of_gid}
 use Rattle.machine_core.specs.OwnParts.{PayloadLengths, own_of}

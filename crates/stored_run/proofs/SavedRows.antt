@@ -25,8 +25,8 @@ use Rattle.machine_core.specs.declared.calls.Call.{Call}
 use Rattle.machine_core.specs.declared.ends.End.TheVariants as end
 use Rattle.machine_core.specs.declared.events.Event.{Event}
 use Rattle.machine_core.specs.declared.events.Event.TheVariants.{Called, Ended, Stopped}
-use Rattle.run_replies.specs.Replies.{IsReplyAt}
-use Rattle.run_replies.specs.declared.kinds.Reply.{Reply}
+use Rattle.run_report.specs.Replies.{IsReplyAt}
+use Rattle.run_report.specs.declared.kinds.Reply.{Reply}
 use Rattle.stored_run.specs.RunFollows.{RunFollows}
 use Rattle.stored_run.specs.Saves.{IsDueLastIn, IsDueOffIn, StandOnce, TellsOnly, UnlessStarved, gids_of, is_active_status, is_going_status, is_off_by, noted_status, status_in, statuses_in}
 use Rattle.stored_run.specs.Steps.{DoesPart, DoesRow, turn_from}

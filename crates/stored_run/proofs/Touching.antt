@@ -10,7 +10,7 @@ use Rattle.dl_history.specs.OwnEvents.{OwnEvent, Halts}
 use Rattle.dl_history.specs.PayloadParts.{is_ended, is_opened}
 use Rattle.dl_kinds.specs.declared.gid.Gid.{Gid}
 use Rattle.dl_kinds.specs.declared.runs.Moment.{Moment}
-use Rattle.dl_words.specs.Counts.{Rose}
+use Rattle.dl_kinds.specs.Counts.{Rose}
 use Rattle.machine_core.specs.OwnParts.{own_of, with_own}
 use Rattle.machine_core.specs.RunLegal.{IsNewFault, MayBeEnded, MayFollow, disk_fault_of, moment_of_event}
 use Rattle.machine_core.specs.Starts.{RunStart}

@@ -2,7 +2,7 @@
 use Rattle.std.specs.Prelude.{Bool, true}
 use Rattle.machine_core.specs.declared.calls.Call.{Call}
 use Rattle.machine_core.specs.declared.calls.Call.TheVariants as call
-use Rattle.run_replies.specs.Replies.{is_asking}
+use Rattle.run_report.specs.Replies.{is_asking}
 
 -- it asks, adds a download, or changes the options of one
 abbrev pub is_quiet : Call → Bool

@@ -4,7 +4,7 @@ ghost use Rattle.std.specs.Option.{unwrap_or};
 ghost use Rattle.engine_turns.specs.CallRows.{CallRow, LeaveRow, is_starved};
 ghost use Rattle.machine_core.specs.LawfulCalls.{IsLawful};
 ghost use Rattle.machine_core.specs.declared.events.Event.TheVariants.{Called};
-ghost use Rattle.run_replies.specs.Replies.{IsReplyAt, applied_reply, is_asking};
+ghost use Rattle.run_report.specs.Replies.{IsReplyAt, applied_reply, is_asking};
 ghost use Rattle.stored_run.specs.Leavings.{LeavesDisk};
 ghost use Rattle.stored_run.specs.Quiet.{is_quiet};
 ghost use Rattle.stored_run.specs.Saves.{TellsOnly, UnlessStarved};
@@ -14,10 +14,10 @@ ghost use Rattle.stored_run.specs.Writings.{KeepsPayloads};
 use crate::StoredRun;
 use crate::following::runs_follow;
 use dl_disk::Disk;
-use dl_kinds::Moment;
+use dl_kinds::{Moment, NoMemory};
 use engine_turns::{Outcome, Said};
-use machine_core::{Applied, Call, NoMemory};
-use run_replies::{Reply, asks, changed_reply, changes_are_applied, reply_to};
+use machine_core::{Applied, Call};
+use run_report::{Reply, asks, changed_reply, changes_are_applied, reply_to};
 
 // Whether memory ran out.
 fn has_starved(outcome: Outcome) -> bool

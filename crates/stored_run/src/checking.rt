@@ -1,7 +1,7 @@
 // A whole payload is compared with the digest that it is to have.
 ghost use Rattle.std.specs.Prelude.{◌≡◌, ◌↔◌, ◌-◌, ◌<◌, ◌≤◌, IfOk, IsTrue, OnOk};
 ghost use Rattle.control_file.specs.Wants.{IsWant};
-ghost use Rattle.dl_words.specs.Lists.{part_at};
+ghost use Rattle.dl_kinds.specs.Lists.{part_at};
 ghost use Rattle.payload_files.specs.Payload.{HasFiles};
 ghost use Rattle.payload_files.specs.Reading.{ReadsOnly};
 ghost use Rattle.resume_core.specs.Causes.{HasStoreCause};

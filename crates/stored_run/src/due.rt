@@ -6,8 +6,7 @@ ghost use Rattle.stored_run.specs.Saves.{HasOpenedUnsaved, IsDueLast, IsDueOff, 
 use crate::StoredRun;
 use crate::following::runs_follow;
 use dl_disk::Disk;
-use dl_kinds::{Gid, Status};
-use machine_core::NoMemory;
+use dl_kinds::{Gid, NoMemory, Status};
 
 // Whether a download with this status is active.
 fn is_active(status: Option<Status>) -> bool

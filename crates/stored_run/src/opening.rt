@@ -27,10 +27,10 @@ use crate::following::runs_follow;
 use crate::sealing::done_unless_starved;
 use control_file::{Opened, Want};
 use dl_disk::Disk;
-use dl_kinds::Gid;
+use dl_kinds::{Gid, NoMemory};
 use durable_progress::steps_hold;
 use engine_turns::{Outcome, Said};
-use machine_core::{End, NoMemory};
+use machine_core::End;
 use option_set::Num;
 use resume_core::{OpenErr, resume};
 

@@ -14,8 +14,8 @@ use crate::StoredRun;
 use crate::following::runs_follow;
 use crate::sealing::done_unless_starved;
 use dl_disk::Disk;
+use dl_kinds::NoMemory;
 use engine_turns::Said;
-use machine_core::NoMemory;
 
 impl<D: Disk> StoredRun<D> {
     // The run stops, where it didn't before.

@@ -3,5 +3,4 @@
 
 mod names;
 
-pub use dl_kinds::NoMemory;
 pub use names::name_of_url;

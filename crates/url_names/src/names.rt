@@ -5,8 +5,7 @@ ghost use Rattle.percent_encoding.specs.Percent.{percent_decode};
 ghost use Rattle.span_map.specs.Paths.{IsValidPart};
 ghost use Rattle.url_names.specs.UrlNames as specs;
 
-use crate::NoMemory;
-use dl_kinds::Text;
+use dl_kinds::{NoMemory, Text};
 use percent_encoding::percent_decode;
 use span_map::{SLASH, is_valid_part};
 use std::alloc::Global;

@@ -1,5 +1,5 @@
 use Rattle.std.proofs.Common.{◌≡◌, ◌-◌, ◌≤◌}
-use Rattle.dl_words.specs.Lists.{part_at}
+use Rattle.dl_kinds.specs.Lists.{part_at}
 use Rattle.piece_table.proofs.Counts.{count_of}
 use Rattle.piece_table.proofs.start.count_landed.Given as goal
 

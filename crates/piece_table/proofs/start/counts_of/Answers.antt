@@ -2,7 +2,7 @@ use Rattle.std.proofs.Common.{◌≡◌, ℕ, ◌+◌, ◌*◌, ◌<◌, ◌≤�
 use Rattle.std.proofs.lemmas.Bool.{cases_lt}
 use Rattle.std.proofs.lemmas.List.{length_push, get_or_append_left, get_or_push}
 use Rattle.dl_kinds.specs.Plan.{full_blocks}
-use Rattle.dl_words.specs.Lists.{part_at}
+use Rattle.dl_kinds.specs.Lists.{part_at}
 use Rattle.piece_table.specs.Progress.{landed_count}
 use Rattle.piece_table.proofs.Counts.{count_of}
 use Rattle.piece_table.proofs.start.counts_of.Goals as goal

@@ -1,5 +1,5 @@
 use Rattle.std.proofs.Common.{ℕ, List, take, drop, sym, subst, arith, take-append-drop, length-take}
-use Rattle.range_http.specs.Heads.{IsHead}
+use Rattle.http_heads.specs.Heads.{IsHead}
 use Rattle.reply_reader.proofs.heads.may_end_head.Goals as goal
 
 pub returns-else-bytes-ge-MAX_HEAD_BYTES-clause-headless : goal.returns-else-bytes-ge-MAX_HEAD_BYTES-clause-headless

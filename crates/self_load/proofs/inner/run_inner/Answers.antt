@@ -1,10 +1,9 @@
-use Rattle.std.proofs.Common.{◌++◌, ◌≤◌, ⊎_elim, ◌∙◌, ap, arith, inl, inr, length, map, refl, string_bytes, subst}
+use Rattle.std.proofs.Common.{◌++◌, ⊎_elim, ◌∙◌, ap, arith, inl, inr, map, refl, string_bytes, subst}
 use Rattle.std.specs.Prelude.{codes}
-use Rattle.aria_top.proofs.Over.{over}
-use Rattle.load_parts.specs.Disk.{IsLoadDisk}
-use Rattle.load_parts.specs.Payload.{digests_of}
-use Rattle.load_parts.specs.Links.{load_content}
-use Rattle.load_parts.specs.Sound.{inner_disk}
+use Rattle.load_setup.specs.Disk.{IsLoadDisk}
+use Rattle.load_setup.specs.Payload.{digests_of}
+use Rattle.load_setup.specs.Links.{load_content}
+use Rattle.load_setup.specs.Sound.{inner_disk}
 use Rattle.self_load.proofs.Comes.{comes_well, full_alone, no_control}
 use Rattle.self_load.proofs.Links.{links_content}
 use Rattle.self_load.proofs.Pieces.{starts_sound}
@@ -23,14 +22,13 @@ returns-clause-run g c = record {
   none_are = c.new-doors.ensures.items;
   sink = _;
   shown = _;
-  does = c.run.ensures.does;
+  does = c.run_shared.ensures.does;
 }
 
 pub returns-clause-ends : goal.returns-clause-ends
 returns-clause-ends g c =
     let stands = subst (λ digests. IsLoadDisk digests c.in_ok-disk.disk) c.requires c.in_ok-disk.ensures in
-    let some : 1 ≤ length c.in_ok-links.links.items = let many = c.in_ok-links.ensures.0 in omega (arith, many) in
-    let ends = ends_so c.args.n (over some c.run.ensures.does) (record {
+    let ends = ends_so c.args.n c.run_shared.ensures.over (record {
       laws = record {
         stay = c.downloads_stay.ensures.downloads;
         parts = c.downloads_are_legal.ensures;
@@ -45,7 +43,7 @@ returns-clause-ends g c =
       file = stands.seen (codes "load.torrent");
       sound = starts_sound (digests_of c.args.n) (inner_disk c.in_ok-disk.disk) stands;
     }) in
-    let comes = comes_well c.args.n (c.run.ensures.completes refl refl) (record {
+    let comes = comes_well c.args.n (c.run_shared.ensures.completes refl refl) (record {
       words_name = c.words_name_load.ensures;
       files_say = c.metainfo_files_say_payloads.ensures.said;
       files_read = c.metainfo_files_say_payloads.ensures.read;

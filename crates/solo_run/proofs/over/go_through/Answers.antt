@@ -1,5 +1,5 @@
 use Rattle.std.proofs.Common.{Bool, subst}
-use Rattle.run_frame.specs.Finishes.{Finishes}
+use Rattle.run_lifecycle.specs.Finishes.{Finishes}
 use Rattle.solo_run.proofs.over.go_through.Goals as goal
 
 pub returns : goal.returns

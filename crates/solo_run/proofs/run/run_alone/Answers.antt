@@ -2,6 +2,7 @@ use Rattle.std.proofs.Common.{◌≡◌, ap, ◌∙◌, slice_index_or, slice_se
 use Rattle.std.specs.Prelude.{true, IsTrue, map, string_bytes}
 use Rattle.served_runs.specs.Completes.{CompletesServed}
 use Rattle.served_runs.specs.CompletesUris.{CompletesUris}
+use Rattle.served_runs.specs.Over.{IsRunOver}
 use Rattle.served_runs.specs.Served.{SparesServing}
 use Rattle.served_runs.specs.Unfinished.{ShowsUnfinished}
 use Rattle.solo_run.specs.Pieces.{CompletesPieces}
@@ -9,7 +10,7 @@ use Rattle.solo_run.specs.Bounded.{BoundsFirst}
 use Rattle.solo_run.specs.Runs.{RunsOver}
 use Rattle.solo_run.proofs.BoundedFirst.{bounds_first}
 use Rattle.solo_run.proofs.Framed.{whole}
-use Rattle.solo_run.proofs.OneLink.{of_first_alone, over, over_its_one, shows_one}
+use Rattle.solo_run.proofs.OneLink.{of_first_alone, over, over_doors, over_its_one, shows_one}
 use Rattle.solo_run.proofs.Used.{leaves_unused, of_first, unused_pair}
 use Rattle.solo_run.proofs.run.run_alone.Goals as goal
 
@@ -130,3 +131,12 @@ returns-clause-untouched g c =
     c.run_over-ending.ensures _ c.requires c.index_mut.ensures.value
     (c.begun_runs_are_stopped.ensures _ _ _ _ _ _ _)
     (c.unbegun_runs_only_read.ensures _ _ _ _ _ _ _ (whole c.run_over-ending.ensures))
+
+pub returns-clause-over : goal.returns-clause-over
+returns-clause-over g c off doors =
+    let pair = c.index_mut.result.now in
+    of_first_alone
+    (λ olds news. IsRunOver g.D.Disk g.O.Sink true g.L.Links (map string_bytes c.args.words.now) c.args.gids doors c.args.disk
+    olds c.args.out.now c.run_over-ending.result news c.run_over-ending.new.out)
+    _ pair (c.run_over-ending.new.link, c.run_over-ending.new.clock) c.requires c.index_mut.ensures.value
+    (over_doors pair (c.run_over-ending.new.link, c.run_over-ending.new.clock) off doors c.run_over-ending.ensures)

@@ -1,6 +1,6 @@
 use Rattle.std.proofs.Common.{List, subst}
 use Rattle.engine_turns.specs.Told.{RunTurn}
-use Rattle.run_frame.specs.Stops.{IsAfter}
+use Rattle.run_lifecycle.specs.Stops.{IsAfter}
 use Rattle.solo_run.proofs.work.work_through.Goals as goal
 
 pub returns : goal.returns

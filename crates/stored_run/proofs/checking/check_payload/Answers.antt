@@ -1,7 +1,7 @@
 use Rattle.std.proofs.Common.{◌≡◌, ◌+◌, ◌-◌, ◌∙◌, ℕ, List, ◌++◌, ap, arith, subst, sym, take}
 use Rattle.std.proofs.Math.Seq.{take-add}
 use Rattle.std.specs.List.{concat}
-use Rattle.dl_words.specs.Lists.{part_at}
+use Rattle.dl_kinds.specs.Lists.{part_at}
 use Rattle.payload_files.proofs.ReadSteps.{contents_same, reads_on}
 use Rattle.stored_run.specs.Settlings.{payload_of}
 use Rattle.verify_piece.specs.Hashes.{TookMessage}

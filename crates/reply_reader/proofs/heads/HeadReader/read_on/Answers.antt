@@ -1,8 +1,8 @@
 use Rattle.std.proofs.Common.{◌≡◌, List, ℕ, refl, subst}
-use Rattle.range_http.specs.Heads.{IfWhole, IsHead, IsUnfinished, IsNoHead}
-use Rattle.range_http.specs.declared.head.Head.{Head}
-use Rattle.range_http.specs.declared.head.HeadRead.{HeadRead}
-use Rattle.range_http.specs.declared.head.HeadRead.TheVariants.{Whole, More, Bad, NoMemory}
+use Rattle.http_heads.specs.Heads.{IfWhole, IsHead, IsUnfinished, IsNoHead}
+use Rattle.http_heads.specs.declared.head.Head.{Head}
+use Rattle.http_heads.specs.declared.head.HeadRead.{HeadRead}
+use Rattle.http_heads.specs.declared.head.HeadRead.TheVariants.{Whole, More, Bad, NoMemory}
 use Rattle.reply_reader.proofs.HeadsKept.{passes, too_many, no_head_behind}
 use Rattle.reply_reader.proofs.heads.HeadReader.read_on.Goals as goal
 

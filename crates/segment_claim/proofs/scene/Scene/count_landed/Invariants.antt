@@ -1,5 +1,5 @@
 use Rattle.std.proofs.Common.{◌≡◌, ◌-◌, ◌≤◌, count_by}
-use Rattle.dl_words.specs.Lists.{part_at}
+use Rattle.dl_kinds.specs.Lists.{part_at}
 use Rattle.segment_claim.proofs.scene.Scene.count_landed.Given as goal
 
 abbrev pub invariant-loop-block : goal.invariant-loop-block

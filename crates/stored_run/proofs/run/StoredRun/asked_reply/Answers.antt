@@ -1,5 +1,5 @@
 use Rattle.std.proofs.Common.{subst}
-use Rattle.run_replies.specs.Replies.{IsReplyAt}
+use Rattle.run_report.specs.Replies.{IsReplyAt}
 use Rattle.stored_run.specs.declared.run.StoredView.{StoredView}
 use Rattle.stored_run.proofs.run.StoredRun.asked_reply.Goals as goal
 

@@ -9,7 +9,7 @@ use Rattle.control_file.specs.Wants.{IsWant}
 use Rattle.control_file.specs.declared.want.Want.{Want}
 use Rattle.resume_core.specs.Openings.{KeepsBesides}
 use Rattle.dl_history.specs.Listings.{Listing}
-use Rattle.dl_words.specs.Counts.{Rose}
+use Rattle.dl_kinds.specs.Counts.{Rose}
 use Rattle.durable_progress.specs.HeldSteps.{IsHeldNow, StaysHeldOrFinished}
 use Rattle.machine_core.specs.OwnParts.{own_of}
 use Rattle.resume_core.specs.States.{StaysSound}

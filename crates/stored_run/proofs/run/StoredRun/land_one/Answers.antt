@@ -4,7 +4,7 @@ use Rattle.control_file.specs.Wants.{IsWant}
 use Rattle.control_file.specs.declared.want.Want.{Want}
 use Rattle.dl_history.specs.OwnEvents.{Halts, Lands}
 use Rattle.dl_history.specs.Listings.{Listing}
-use Rattle.dl_words.specs.Counts.{Rose}
+use Rattle.dl_kinds.specs.Counts.{Rose}
 use Rattle.durable_progress.specs.HeldLaws.{ListsNoneOf}
 use Rattle.durable_progress.specs.HeldSteps.{IsHeldNow}
 use Rattle.engine_turns.specs.Phases.{AfterDisk}

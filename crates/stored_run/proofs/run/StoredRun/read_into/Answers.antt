@@ -9,7 +9,7 @@ use Rattle.machine_core.specs.declared.events.Event.TheVariants.{Ended}
 use Rattle.control_file.specs.Wants.{IsWant}
 use Rattle.control_file.specs.declared.want.Want.{Want}
 use Rattle.dl_disk.specs.Files.{IsSame}
-use Rattle.dl_words.specs.Counts.{Rose}
+use Rattle.dl_kinds.specs.Counts.{Rose}
 use Rattle.machine_core.specs.OwnParts.{own_of}
 use Rattle.std.proofs.lemmas.Option.{same_Some}
 use Rattle.machine_core.specs.Reads.{IsPieceOfGid, lengths_of_gid}

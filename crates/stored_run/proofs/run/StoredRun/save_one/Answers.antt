@@ -3,7 +3,7 @@ use Rattle.std.specs.Prelude.{IsTrue}
 use Rattle.std.specs.Option.{is_some}
 use Rattle.dl_history.specs.Accounts.{listing_of}
 use Rattle.dl_history.specs.OwnEvents.{Saves}
-use Rattle.dl_words.specs.Counts.{Rose}
+use Rattle.dl_kinds.specs.Counts.{Rose}
 use Rattle.dl_history.specs.OwnLegal.{MaySave}
 use Rattle.control_file.specs.declared.want.Want.{Want}
 use Rattle.durable_progress.specs.HeldSteps.{IsHeldNow, StaysHeldOrSaved}

@@ -1,7 +1,0 @@
-mod Blanks
-mod FieldLemmas
-mod HeadLawLemmas
-mod HeadLemmas
-mod NumberLemmas
-mod Room
-mod TargetLemmas

@@ -1,9 +1,0 @@
-use Rattle.std.proofs.Common.{◌≡◌, length, reverse}
-use Rattle.httparse.specs.Grammar.{skip_ows}
-use Rattle.ask_heads.proofs.members.before_blanks.Given as goal
-
-abbrev pub invariant-loop-last : goal.invariant-loop-last
-invariant-loop-last l = skip_ows (reverse l.bytes) ≡ skip_ows (reverse l.front)
-
-abbrev pub decreases-loop-last : goal.decreases-loop-last
-decreases-loop-last l = length l.front

@@ -1,0 +1,10 @@
+mod AskHeadLawLemmas
+mod AskHeadLemmas
+mod Blanks
+mod FieldLemmas
+mod HeadLawLemmas
+mod HeadLemmas
+mod NumberLemmas
+mod Prefixes
+mod Room
+mod TargetLemmas

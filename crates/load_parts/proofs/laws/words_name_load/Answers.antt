@@ -1,5 +1,0 @@
-use Rattle.load_parts.proofs.LoadLine.{words_name}
-use Rattle.load_parts.proofs.laws.words_name_load.Goals as goal
-
-pub returns : goal.returns
-returns c = words_name c.names_are_apart.ensures

@@ -1,6 +1,0 @@
-use Rattle.std.proofs.Common.{◌∙◌}
-use Rattle.load_parts.proofs.Lines.{failed-text}
-use Rattle.load_parts.proofs.line.failed_line.Goals as goal
-
-pub returns : goal.returns
-returns c = c.in_ok-line.ensures.ok ∙ failed-text c.args.n c.args.status

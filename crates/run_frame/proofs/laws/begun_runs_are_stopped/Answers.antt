@@ -1,5 +1,0 @@
-use Rattle.run_frame.proofs.Whole.{stopped}
-use Rattle.run_frame.proofs.laws.begun_runs_are_stopped.Goals as goal
-
-pub returns : goal.returns
-returns g c words gids doors disk out ended out' ran = stopped ran c.turns_tell_runs.ensures.appended

@@ -1,8 +1,0 @@
-use Rattle.run_frame.proofs.Crashes.{have_digests, survives}
-use Rattle.run_frame.proofs.laws.disks_keep_runs.Goals as goal
-
-pub returns-clause-complete : goal.returns-clause-complete
-returns-clause-complete g c start told given now run = have_digests g.D.Disk.state c.runs_follow.ensures start told given now run
-
-pub returns-clause-crash : goal.returns-clause-crash
-returns-clause-crash g c start told given now run gid want opened = survives g.D.Disk.state c.runs_follow.ensures start told given now run gid want opened

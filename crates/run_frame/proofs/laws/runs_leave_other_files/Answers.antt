@@ -1,5 +1,0 @@
-use Rattle.run_frame.proofs.Others.{leaves_other_files}
-use Rattle.run_frame.proofs.laws.runs_leave_other_files.Goals as goal
-
-pub returns : goal.returns
-returns g c words gids doors disk out ended out' runs tells = leaves_other_files c.wants_stay.ensures runs tells

@@ -1,5 +1,0 @@
-use Rattle.run_replies.proofs.Changes.{change_applied}
-use Rattle.run_replies.proofs.laws.changes_are_applied.Goals as goal
-
-pub returns : goal.returns
-returns c = change_applied

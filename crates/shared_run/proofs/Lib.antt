@@ -1,0 +1,15 @@
+pub mod Sends
+pub mod Syncs
+pub mod Stopping
+pub mod Serving
+pub mod Sharing
+pub mod Closing
+pub mod Framed
+pub mod Passes
+pub mod Over
+pub mod Called
+pub mod CallPlaces
+pub mod Calling
+pub mod Doors
+pub mod Untouched
+pub mod Unused

@@ -1,0 +1,19 @@
+use Rattle.std.proofs.Common.{refl, rules}
+use Rattle.shared_run.proofs.Serving.{at_desk}
+use Rattle.shared_run.proofs.taking_part.serve_at.Goals as goal
+
+pub returns : goal.returns
+returns g c =
+    let both = at_desk c.args.desk.now c.chair-chair.result c.serve-transcript.new.desk c.in-Some.pass c.leave.result _ _
+    c.chair-chair.ensures.pass c.chair-chair.ensures.desk c.serve-transcript.ensures.desk_id c.leave.ensures.pass
+    c.leave.ensures.of_desk c.serve-transcript.ensures.served in
+    record {
+      pass = c.in-Some.pass;
+      had = search (c, rules);
+      pass' = c.leave.result;
+      has = refl;
+      of_desk = both.0;
+      came = c.serve-transcript.result;
+      came_is = refl;
+      did = both.1;
+    }
