@@ -5,7 +5,7 @@ from lib import controls
 from lib.controls import written
 from lib.faults import Faults
 from lib.mirrors import Site
-from lib.payloads import SMALL, served
+from lib.payloads import SMALL, served, turned
 from lib.rooms import HEADER, PLAIN, case
 from lib.sevens import HASH, PIECE, SEVEN
 from lib.wants import about, want
@@ -16,7 +16,7 @@ AT_METAINFO = 3
 LOOKS = 10
 
 # The first piece is verified. The third is in flight whole and is wrong, so that progress is saved without it.
-TORN = SEVEN[: 2 * PIECE] + b"torn" + SEVEN[2 * PIECE + 4 :]
+TURNED = turned(SEVEN, [2 * PIECE])
 SOME = written(HASH, PIECE, len(SEVEN), b"\x80", [(1, PIECE, b"\x80"), (2, PIECE, b"\xc0")])
 
 
@@ -26,7 +26,7 @@ def begin_anew(room):
 
 def begin_with_progress(room):
     room.clear()
-    room.put("a", TORN)
+    room.put("a", TURNED)
     room.put("a.aria2", SOME)
 
 

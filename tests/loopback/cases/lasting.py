@@ -8,7 +8,7 @@ from lib.faults import Faults
 from lib.mirrors import Site
 from lib.payloads import SMALL, served
 from lib.rooms import PLAIN, case
-from lib.wants import Wrong, about, want
+from lib.wants import Late, Wrong, about, want
 
 # Progress is saved at each chance.
 SAVING = ("--auto-save-interval=1", *PLAIN)
@@ -59,6 +59,8 @@ def want_noticed(what, check):
     """An edge that does this wrong is noticed."""
     try:
         check()
+    except Late:
+        raise
     except Wrong:
         return
     raise Wrong(f"it isn't noticed where {what}")

@@ -3,7 +3,7 @@ import os
 import socket
 
 from lib.mirrors import Site, head, reply
-from lib.payloads import LONG, MIB, MIB_CLAIMS, PIECE, SMALL, SPREAD, THREE, blocks_of, served, want_all_asked
+from lib.payloads import LONG, MIB, MIB_CLAIMS, PIECE, SMALL, SPREAD, THREE, blocks_of, noise, served, turned, want_all_asked
 from lib.rooms import BY_MIB, LITTLE, ONCE, case, files_of, want_asked
 from lib.torrents import MOST_PIECES, digests, info_of, whole
 from lib.wants import about, want
@@ -61,18 +61,17 @@ def _(room):
 
 @case("2,000 pieces", alone=True)
 def _(room):
-    fetches_from_site(room, os.urandom(2_000 * PIECE - 1), limit=100)
+    fetches_from_site(room, noise(2_000 * PIECE - 1), limit=100)
 
 
 @case("a piece that is wrong")
 def _(room):
     for place, at in ((0, 0), (1, MIB), (1, 2 * MIB - 1), (2, len(LONG) - 1)):
-        wrong = bytearray(LONG)
-        wrong[at] ^= 1
-        with about(f"byte {at}"), Site({"/a.bin": bytes(wrong)}) as site:
+        wrong = turned(LONG, [at])
+        with about(f"byte {at}"), Site({"/a.bin": wrong}) as site:
             room.torrent(site.url(), LONG, piece_length=MIB)
             stands = wrong[: (place + 1) * MIB].ljust(len(LONG), b"\0")
-            room.fails(32, LONG, place * MIB, stands=bytes(stands), words=BY_MIB)
+            room.fails(32, LONG, place * MIB, stands=stands, words=BY_MIB)
             # nothing is asked after the first loss
             want(len(site.requests) == place + 1, f"{len(site.requests)} requests came")
 
@@ -80,12 +79,11 @@ def _(room):
 @case("a piece that is wrong in a claim of three")
 def _(room):
     for place, at in ((0, 0), (1, 16_384), (1, 32_767), (2, 39_999)):
-        wrong = bytearray(THREE)
-        wrong[at] ^= 1
-        with about(f"byte {at}"), Site({"/a.bin": bytes(wrong)}) as site:
+        wrong = turned(THREE, [at])
+        with about(f"byte {at}"), Site({"/a.bin": wrong}) as site:
             room.torrent(site.url(), THREE)
             cleared = len(THREE[place * PIECE : (place + 1) * PIECE])
-            room.fails(32, THREE, len(THREE) - cleared, stands=bytes(wrong))
+            room.fails(32, THREE, len(THREE) - cleared, stands=wrong)
             want_asked(site, [("/a.bin", 0, 39_999)])
 
 
@@ -247,7 +245,7 @@ def _(room):
 
 @case("200 small files, and few open at once")
 def _(room):
-    files = [(f"{number % 7}/{number % 3}/{number}", os.urandom(number * 37 % 1_000)) for number in range(200)]
+    files = [(f"{number % 7}/{number % 3}/{number}", noise(number * 37 % 1_000, number)) for number in range(200)]
     fetches_from_site(room, files, shell="ulimit -n 24")
 
 
@@ -478,5 +476,5 @@ def _(room):
 
 @case("a payload that is larger than the memory", alone=True)
 def _(room):
-    payload = os.urandom(1 << 20) * 72
+    payload = noise(1 << 20) * 72
     fetches_from_site(room, payload, 1 << 22, shell=LITTLE)

@@ -1,30 +1,31 @@
 """The cases of many connections at once."""
-import os
 import random
 import threading
 import time
 
-from lib.acting import turned
 from lib.aria2 import Stalling
 from lib.consoles import SECRET, bothered
 from lib.killing import Slow, killed, listed_of
 from lib.mirrors import Ending, Site, free_port, head
-from lib.payloads import LONG, MIB
+from lib.payloads import LONG, MIB, noise, turned
 from lib.recording import asked_by
 from lib.rooms import PLAIN, case
-from lib.wants import about, want, want_within
+from lib.wants import about, want, want_in_time, want_within
 
 # Claims of a mebibyte, and as many connections to a host as there are.
 PARTS = ("--min-split-size=1M", "--max-connection-per-server=16")
 
 
 class Meeting(Site):
-    """Answers a request only once so many are there at the same time, or after ten seconds. Told is the most there were."""
+    """Answers a request only once so many are there at the same time, or after ten seconds. Told is the most there were, and
+    whether each wait ended before its time.
+    """
 
     def __init__(self, files, count=1):
         super().__init__(files)
         self.count = count
         self.there = self.most = 0
+        self.met = True
         self.change = threading.Condition()
 
     def answer(self, asked):
@@ -32,7 +33,7 @@ class Meeting(Site):
             self.there += 1
             self.most = max(self.most, self.there)
             self.change.notify_all()
-            self.change.wait_for(lambda: self.most >= self.count, 10)
+            self.met &= self.change.wait_for(lambda: self.most >= self.count, 10)
         # what is asked at the same time is there for a while
         time.sleep(0.05)
         with self.change:
@@ -56,10 +57,9 @@ def _(room):
         payload = LONG * (8 if count == 16 else 3)
         with about(f"{count} connections"), Meeting({"/a.bin": payload}, count) as site:
             room.torrent(site.url(), payload, piece_length=MIB // 4)
-            begun = time.monotonic()
             room.fetches(payload, words=[f"--split={count}", *PARTS, "t.torrent"])
-            want(site.most == count, f"{site.most} were there at the same time")
-            want(time.monotonic() - begun < 10, "one was waited for")
+            want(site.most <= count, f"{site.most} were there at the same time")
+            want_in_time(site.met, f"just {site.most} were there at the same time, or one came late")
 
 
 @case("no more connections to a host, and no more claims, than the words say")
@@ -139,7 +139,7 @@ def _(room):
 
 def want_killed_and_resumed(room, kill):
     """A run over four connections is killed at random moments, and takes up what is listed each time."""
-    chance, payload = random.Random(20), os.urandom(12 * MIB)
+    chance, payload = random.Random(20), noise(12 * MIB)
     with Slow({"/a.bin": payload}, 4 * MIB) as first, Slow({"/a.bin": payload}, 3 * MIB) as second:
         room.torrent([first.url(), second.url()], payload, piece_length=MIB // 4)
         words = ["--split=4", *PARTS, "--auto-save-interval=1", "t.torrent"]
@@ -173,7 +173,7 @@ def _(room):
         asked.extend(counts)
 
     want_killed_and_resumed(room, kill)
-    want(sum(asked) > 100, f"the console was asked {asked}")
+    want_in_time(sum(asked) > 100, f"the console was asked {asked}")
 
 
 @case("a mirror that falls silent in the midst of its claim", slow=True)
@@ -196,7 +196,7 @@ def _(room):
 
 @case("a limit of the speed over many connections", slow=True)
 def _(room):
-    payload = os.urandom(11 * 200 * 1024)
+    payload = noise(11 * 200 * 1024)
     with Site({"/a.bin": payload}) as site:
         room.torrent(site.url(), payload, piece_length=MIB // 4)
         begun = time.monotonic()

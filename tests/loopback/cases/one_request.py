@@ -21,7 +21,7 @@ from lib.mirrors import (
     sends_byte_by_byte,
     sends_for_ever,
 )
-from lib.payloads import MIB
+from lib.payloads import MIB, noise
 from lib.rooms import BUILT, LITTLE, PROGRAM, TOP, case, request, want_asked
 from lib.torrents import MOST_PIECE
 from lib.wants import Skipped, about, want, want_within
@@ -391,7 +391,7 @@ def _(room):
 
 @case("a disk that takes no more")
 def _(room):
-    payload = os.urandom(100_000)
+    payload = noise(100_000)
     with Mirror(sends(reply(payload))) as mirror:
         room.torrent(mirror.url(), payload, piece_length=131_072)
         # the control file is put before the payload gets its length

@@ -7,10 +7,10 @@ import tempfile
 
 from lib.controls import BLOCK
 from lib.mirrors import Nginx, PythonServer
-from lib.payloads import MIB
+from lib.payloads import MIB, noise
 from lib.rooms import BY_MIB, LITTLE, ONCE, PLAIN, case, files_of
 from lib.torrents import MOST_PIECE, bencoded, info_of, whole
-from lib.wants import Wrong, want
+from lib.wants import Late, Wrong, want
 
 
 @contextlib.contextmanager
@@ -31,7 +31,7 @@ def peer(words, folder):
     try:
         ran = subprocess.run(words, cwd=folder, timeout=60, check=False, **how)
     except subprocess.TimeoutExpired:
-        raise Wrong(f"{words[0]} had not ended after 60 seconds") from None
+        raise Late(f"{words[0]} had not ended after 60 seconds") from None
     want(ran.returncode == 0, f"{words[0]} ended with {ran.returncode}: {ran.stdout[-300:]!r}")
     return ran.stdout
 
@@ -70,14 +70,14 @@ def _(room):
 
 @case("a piece of 64 MiB from nginx", "nginx")
 def _(room):
-    payload = os.urandom(1 << 20) * 64
+    payload = noise(1 << 20) * 64
     with nginx() as mirror:
         mirror.put("a.bin", payload)
         room.torrent(mirror.url(), payload, piece_length=MOST_PIECE)
         room.fetches(payload, limit=100)
 
 
-LARGE = os.urandom(64 * MIB)
+LARGE = noise(64 * MIB)
 
 
 @case("64 MiB in pieces of 1 MiB from nginx", "nginx")
@@ -159,12 +159,12 @@ def make(maker, room, mirror, payload, name, seeds=()):
 
 # All programs think alike of the order of these files. The second piece spans five of them.
 TREE = [
-    ("1 first.bin", os.urandom(40_000)),
+    ("1 first.bin", noise(40_000)),
     ("2/1 two words.txt", b"two words\n"),
     ("2/2 é/1 ü ö.bin", b"\0\xff\0\xff\0\xff\0"),
-    ("2/2 é/2 日本.txt", os.urandom(300)),
+    ("2/2 é/2 日本.txt", noise(300)),
     ("3/none", b""),
-    ("4/100% + #1? & ;=@.bin", os.urandom(70_000)),
+    ("4/100% + #1? & ;=@.bin", noise(70_000)),
     ("5/a/b/c/d/e/f", b"f"),
 ]
 
@@ -182,7 +182,7 @@ for _maker in MAKERS:
 
     @case(f"one file of many pieces, by {_maker}", "nginx", _maker, "aria2c")
     def _(room, maker=_maker):
-        payload = os.urandom(1_000_003)
+        payload = noise(1_000_003)
         with nginx() as mirror:
             make(maker, room, mirror, payload, "pay load.bin", [mirror.url(target="/pay%20load.bin")])
             room.fetches(payload, "pay load.bin")
@@ -204,7 +204,7 @@ for _maker in MAKERS:
 
     @case(f"a second file that nginx lacks, by {_maker}", "nginx", _maker)
     def _(room, maker=_maker):
-        payload = [("x", os.urandom(100_000)), ("y", b"hello")]
+        payload = [("x", noise(100_000)), ("y", b"hello")]
         with nginx() as mirror:
             make(maker, room, mirror, payload, "n")
             os.remove(f"{mirror.www}/n/y")

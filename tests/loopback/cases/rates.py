@@ -1,9 +1,8 @@
 """The cases of limits of the speed."""
-import os
 import time
 
 from lib.mirrors import Site
-from lib.payloads import MIB, want_all_asked
+from lib.payloads import MIB, noise, want_all_asked
 from lib.rooms import PLAIN, case
 from lib.wants import about, want, want_within
 
@@ -30,7 +29,7 @@ for _words, _rate in (
 
     @case(f"bytes come as fast as {' and '.join(_words)} allows", slow=True)
     def _(room, words=_words, rate=_rate):
-        payload = os.urandom(11 * rate)
+        payload = noise(11 * rate)
         with Site({"/a": payload}) as site:
             room.torrent(site.url(target="/"), payload, piece_length=MIB)
             seconds = took(room, payload, *words, site=site)
@@ -41,7 +40,7 @@ for _words, _rate in (
 
 @case("a limit that is far away costs no time")
 def _(room):
-    payload = os.urandom(4 * MIB)
+    payload = noise(4 * MIB)
     with Site({"/a": payload}) as site:
         room.torrent(site.url(target="/"), payload, piece_length=MIB)
         far = ["--max-download-limit=4M", "--max-overall-download-limit=4095M"]
@@ -54,7 +53,7 @@ def _(room):
 @case("a limit below a block a second", slow=True)
 def _(room):
     # a bucket holds a block at least
-    payload = os.urandom(24_576)
+    payload = noise(24_576)
     with Site({"/a": payload}) as site:
         room.torrent(site.url(target="/"), payload)
         seconds = took(room, payload, "--max-download-limit=1K", site=site)

@@ -6,9 +6,9 @@ import subprocess
 import threading
 
 from lib.killing import Slow
-from lib.payloads import MIB
+from lib.payloads import MIB, noise
 from lib.rooms import HEADER, PROGRAM, case
-from lib.wants import want
+from lib.wants import want, want_in_time
 
 # A line is drawn over the one before it.
 CLEARED = b"\r\x1b[K"
@@ -44,7 +44,7 @@ def shown_on_a_terminal(room, *words):
 
 @case("a line of progress on a terminal", slow=True)
 def _(room):
-    payload = os.urandom(4 * MIB)
+    payload = noise(4 * MIB)
     for count in (1, 4):
         room.clear()
         with Slow({"/a.bin": payload}, MIB // 2 // count) as site:
@@ -55,7 +55,8 @@ def _(room):
         room.has(payload)
         front, *lines = drawn.split(CLEARED)
         want(front == b"", f"it began with {front!r}")
-        want(4 <= len(lines) <= 14 and lines[-1] == b"", f"it drew {lines}")
+        want(lines[-1] == b"", f"it drew {lines}")
+        want_in_time(4 <= len(lines) <= 14, f"it drew {lines}")
         percents, most = [], 0
         for it in lines[:-1]:
             fields = LINE.fullmatch(it)
@@ -64,8 +65,10 @@ def _(room):
             most = max(most, int(fields[4]))
         # what four connections bring at the same speed is written at the same time
         least = 50 if count == 1 else 0
-        want(percents == sorted(percents) and percents[-1] >= least, f"it drew {lines}")
-        want(most == count, f"it drew {most} connections of {count}")
+        want(percents == sorted(percents), f"it drew {lines}")
+        want_in_time(percents[-1] >= least, f"it drew {lines}")
+        want(most <= count, f"it drew {most} connections of {count}")
+        want_in_time(most == count, f"it drew {most} connections of {count}")
 
 
 @case("no line of progress on a terminal where the words have no meaning")

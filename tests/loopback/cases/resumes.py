@@ -10,13 +10,13 @@ from lib.aria2 import ARIA2, interrupted
 from lib.controls import BLOCK, blocks_of, packed, written
 from lib.killing import Slow, killed, listed_of
 from lib.mirrors import Site
-from lib.payloads import LONG, MIB, MIB_CLAIMS, SMALL, SPREAD, served, want_all_asked
+from lib.payloads import LONG, MIB, MIB_CLAIMS, SMALL, SPREAD, noise, served, want_all_asked
 from lib.payloads import blocks_of as numbers_of
 from lib.rooms import BY_MIB, LIMIT, ONCE, PLAIN, case
-from lib.sevens import ALL, HASH, SEVEN, refused
+from lib.sevens import ALL, HASH, SEVEN, TORN, refused
 from lib.sevens import PIECE as PAIR
 from lib.torrents import whole
-from lib.wants import about, want, want_within
+from lib.wants import about, want, want_in_time, want_within
 
 SAVING = ("--auto-save-interval=1",)
 
@@ -34,7 +34,7 @@ def goes_on(room, site, payload, listed, words=ONCE):
 @case("a run that is killed at thirty moments", "disk", slow=True)
 def _(room):
     chance = random.Random(30)
-    payload = os.urandom(24 * MIB - 1_000)
+    payload = noise(24 * MIB - 1_000)
     listed, verified = set(), b""
     with Slow({"/a.bin": payload}, 1_500_000) as site:
         room.torrent(site.url(), payload, piece_length=16 * BLOCK)
@@ -49,14 +49,14 @@ def _(room):
                 listed = now
                 if now:
                     verified = controls.read(room.get("a.aria2")).pieces.strip(b"\0")
-        want(len(listed) > 100 and verified, f"just {len(listed)} blocks were listed, and the pieces {verified}")
+        want_in_time(len(listed) > 100 and verified, f"just {len(listed)} blocks were listed, and the pieces {verified}")
         site.rate = None
         goes_on(room, site, payload, listed)
 
 
 @case("a run that is ended by a signal", "disk", slow=True)
 def _(room):
-    payload = os.urandom(8 * MIB)
+    payload = noise(8 * MIB)
     listed = set()
     with Slow({"/a.bin": payload}, 1_000_000) as site:
         room.torrent(site.url(), payload, piece_length=MIB)
@@ -70,7 +70,7 @@ def _(room):
 
 @case("progress is saved by time, as often as the words say", "disk", slow=True)
 def _(room):
-    payload = os.urandom(8 * MIB)
+    payload = noise(8 * MIB)
     with Slow({"/a.bin": payload}, 1_000_000) as site:
         room.torrent(site.url(), payload, piece_length=MIB)
         for seconds in (1, 2, 3):
@@ -94,7 +94,7 @@ def _(room):
 @case("a file that URIs name, whose run is killed", "disk", slow=True)
 def _(room):
     room.unlisted()
-    payload = os.urandom(8 * MIB - 5)
+    payload = noise(8 * MIB - 5)
     with Slow({"/a.bin": payload}, 1_500_000) as site:
         uri = site.url().decode()
         # the second save is of a piece and more
@@ -122,7 +122,7 @@ def _(room):
             room.clear()
             content = interrupted(room, SEVEN, most, PAIR)
             listed = {it for it, is_listed in enumerate(blocks_of(controls.read(content))) if is_listed}
-            want(len(listed) == most // BLOCK, f"aria2 lists {sorted(listed)}")
+            want_in_time(len(listed) == most // BLOCK, f"aria2 lists {sorted(listed)}")
             with Slow({"/a.bin": SEVEN}) as site:
                 # the seed is another one, which the info hash doesn't tell of
                 room.torrent(site.url(), SEVEN, b"a", PAIR)
@@ -146,7 +146,7 @@ def _(room):
             started.kill()
             started.wait()
         listed = [it for it, is_listed in enumerate(blocks_of(controls.read(room.get("a.aria2")))) if is_listed]
-        want(30 < len(listed) < 144, f"aria2 lists {listed}")
+        want_in_time(30 < len(listed) < 144, f"aria2 lists {listed}")
         site.rate = None
         site.requests.clear()
         room.fetches(SPREAD, anew=False)
@@ -156,7 +156,7 @@ def _(room):
 
 @case("aria2 goes on with what a killed run left", "aria2c", "disk", slow=True)
 def _(room):
-    payload = os.urandom(4 * MIB)
+    payload = noise(4 * MIB)
     with Slow({"/a.bin": payload}, 1_000_000) as site:
         room.torrent(site.url(), payload, piece_length=MIB)
         for _ in range(3):
@@ -167,7 +167,7 @@ def _(room):
             full = [bits for bits in controls.read(room.get("a.aria2")).flying.values() if bits == b"\xff" * 8]
             if not full:
                 break
-        want(len(listed) < 250, f"{len(listed)} blocks are listed")
+        want_in_time(len(listed) < 250, f"{len(listed)} blocks are listed")
         site.rate = None
         site.requests.clear()
         quiet = {"cwd": room.folder, "stdin": subprocess.DEVNULL, "stdout": subprocess.DEVNULL}
@@ -254,17 +254,16 @@ def _(room):
 
 @case("pieces that a control file lists are compared where the words say so")
 def _(room):
-    torn = SEVEN[:40_000] + b"torn" + SEVEN[40_004:]
     some = written(HASH, PAIR, len(SEVEN), b"\x80", [(1, PAIR, b"\x80"), (2, PAIR, b"\xc0")])
     none = written(HASH, PAIR, len(SEVEN), b"\0")
     for name, stands, control, words, right, free in (
-        ("listed, and not compared", torn, ALL, ONCE, torn, []),
-        ("listed, and compared", torn, ALL, ("-V", *ONCE), SEVEN, [2, 3]),
-        ("not listed, and compared", torn, none, ("--check-integrity", *ONCE), SEVEN, [2, 3]),
+        ("listed, and not compared", TORN, ALL, ONCE, TORN, []),
+        ("listed, and compared", TORN, ALL, ("-V", *ONCE), SEVEN, [2, 3]),
+        ("not listed, and compared", TORN, none, ("--check-integrity", *ONCE), SEVEN, [2, 3]),
         ("not listed, and not compared", SEVEN, none, ONCE, SEVEN, range(13)),
         ("in flight", SEVEN, some, ONCE, SEVEN, [3, *range(6, 13)]),
         ("in flight, and compared", SEVEN[:49_152] + bytes(150_848), some, ("-V", *ONCE), SEVEN, range(2, 13)),
-        ("no control file", torn, None, ("-V", *ONCE), SEVEN, [2, 3]),
+        ("no control file", TORN, None, ("-V", *ONCE), SEVEN, [2, 3]),
     ):
         with about(name), Site(served(SEVEN)) as site:
             room.torrent(site.url(target="/"), SEVEN, b"a", PAIR)

@@ -2,10 +2,10 @@
 import random
 import socket
 
-from lib.acting import BROKEN, BUSY, GONE, SHUT, acts, acts_by_chance, turned
+from lib.acting import BROKEN, BUSY, GONE, SHUT, acts, acts_by_chance
 from lib.choices import Model, Way
 from lib.mirrors import Mirror, Site, free_port, head, reply, sends_and_stays
-from lib.payloads import LONG, MIB, MIB_CLAIMS, PIECE, THREE
+from lib.payloads import LONG, MIB, MIB_CLAIMS, PIECE, THREE, turned
 from lib.rooms import ONCE, PLAIN, case, want_asked
 from lib.wants import about, want
 
@@ -94,7 +94,7 @@ def _(room):
 @case("no mirror is right in a piece")
 def _(room):
     payload = THREE
-    wrong = payload[:20_000] + b"x" + payload[20_001:]
+    wrong = turned(payload, [20_000])
     with Site({"/a.bin": wrong}) as first, Site({"/a.bin": wrong}) as second, Site({"/a.bin": wrong}) as third:
         room.torrent([first.url(), second.url(), third.url()], payload)
         whole_of, piece = ("/a.bin", 0, 39_999), ("/a.bin", PIECE, 2 * PIECE - 1)

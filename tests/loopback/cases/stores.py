@@ -9,9 +9,9 @@ from lib.controls import BLOCK, blocks_of, packed, read, rows_of, written
 from lib.mirrors import Site
 from lib.payloads import SMALL
 from lib.rooms import LIMIT, case
-from lib.sevens import ALL, HASH, PIECE, SEVEN, refused
+from lib.sevens import ALL, HASH, PIECE, SEVEN, TORN, refused
 from lib.torrents import whole
-from lib.wants import about, want
+from lib.wants import about, want, want_in_time
 
 
 def clear(room):
@@ -46,7 +46,8 @@ def _(room):
             content = interrupted(room, SEVEN, most, PIECE)
             control = read(content)
             listed = blocks_of(control)
-            want(sum(listed) == most // BLOCK, f"aria2 lists {rows_of(control)}")
+            want(sum(listed) <= most // BLOCK, f"aria2 lists {rows_of(control)}")
+            want_in_time(sum(listed) == most // BLOCK, f"aria2 lists {rows_of(control)}")
             room.stores(rows_of(control))
             holds(room, listed)
             # a piece of which no block has come is in flight for aria2, and not for us
@@ -120,11 +121,10 @@ def _(room):
 @case("the store by the digests of the pieces")
 def _(room):
     room.torrent(None, SEVEN, b"a", PIECE)
-    torn = SEVEN[:40_000] + b"torn" + SEVEN[40_004:]
     for name, content, files, words, told in (
-        ("without a control file", torn, {}, ["open"], "pieces be blocks cff8"),
-        ("beside one that lists all", torn, {"a.aria2": ALL}, ["open"], "pieces fe blocks fff8"),
-        ("beside one, compared", torn, {"a.aria2": ALL}, ["check"], "pieces be blocks cff8"),
+        ("without a control file", TORN, {}, ["open"], "pieces be blocks cff8"),
+        ("beside one that lists all", TORN, {"a.aria2": ALL}, ["open"], "pieces fe blocks fff8"),
+        ("beside one, compared", TORN, {"a.aria2": ALL}, ["check"], "pieces be blocks cff8"),
         ("compared beside one that lists none", SEVEN, {"a.aria2": written(HASH, PIECE, 200_000, b"\0")}, ["check"],
          "pieces fe blocks fff8"),
     ):

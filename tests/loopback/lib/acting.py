@@ -3,7 +3,7 @@ import contextlib
 
 from lib import controls
 from lib.choices import Acting, Model, Way
-from lib.payloads import LONG, MIB, MIB_CLAIMS, PIECE, blocks_in, pieces_of, served
+from lib.payloads import LONG, MIB, MIB_CLAIMS, PIECE, apart, blocks_in, pieces_of, served, turned
 from lib.rooms import want_asked
 from lib.torrents import whole
 from lib.wants import about
@@ -29,17 +29,6 @@ def acts(room, payload, piece_length, ways, tries=5, words=(), name="a", anew=Tr
     return right
 
 
-def apart(stands, payload):
-    """The bytes of a payload as its files have them."""
-    if isinstance(payload, bytes):
-        return stands
-    files = []
-    for path, content in payload:
-        files.append((path, stands[: len(content)]))
-        stands = stands[len(content) :]
-    return files
-
-
 def some_ways(chance):
     names = ["right", "right", "right", "whole", "turned", "turned", "turned", "cut", "cut", "short", "short"]
     kinds = [*(Way(name) for name in names), GONE, BUSY, BROKEN, SHUT]
@@ -62,14 +51,6 @@ def some_payload(chance):
     ends = sorted(chance.randrange(total + 1) for _ in range(chance.randrange(1, 5)))
     parts = zip([0, *ends], [*ends, total])
     return [(f"{place}/x", payload[at:end]) for place, (at, end) in enumerate(parts)], piece_length
-
-
-def turned(payload, places):
-    """The payload with a bit turned in each of these bytes."""
-    content = bytearray(whole(payload))
-    for it in places:
-        content[it] ^= 1
-    return apart(bytes(content), payload)
 
 
 def some_progress(chance, payload, piece_length):

@@ -6,7 +6,7 @@ import time
 
 from lib.controls import BLOCK
 from lib.mirrors import Site, one_request, rest_of
-from lib.wants import want
+from lib.wants import want, want_in_time
 
 # The first port that aria2 tries is taken where another one of it runs, and then it takes the next.
 ARIA2 = [
@@ -50,9 +50,9 @@ def interrupted(room, payload, most, piece_length):
             [*ARIA2, "t.torrent"], cwd=room.folder, stdin=subprocess.DEVNULL, stdout=subprocess.DEVNULL
         )
         try:
-            for _ in range(200):
-                if site.requests and site.left == 0 and len(room.get("a") or b"") >= most // BLOCK * BLOCK:
-                    break
+            ends = time.monotonic() + 20
+            while site.left > 0 or len(room.get("a") or b"") < most // BLOCK * BLOCK:
+                want_in_time(time.monotonic() < ends, f"aria2 had not written {most} bytes")
                 time.sleep(0.05)
             # what came is written by blocks, a moment after it came
             time.sleep(1)

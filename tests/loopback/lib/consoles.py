@@ -11,7 +11,7 @@ import time
 from lib.killing import Slow
 from lib.mirrors import free_port, head, rest_of
 from lib.rooms import LIMIT
-from lib.wants import Wrong, want
+from lib.wants import Late, Wrong, want, want_in_time
 
 SECRET = "s ü"
 TOKEN = f"token:{SECRET}"
@@ -84,7 +84,7 @@ class Console:
             told = self.status(gid)
             if all(told.get(key) == value for key, value in wanted.items()):
                 return told
-            want(time.monotonic() < ends, f"told was {told}, and not {wanted}")
+            want_in_time(time.monotonic() < ends, f"told was {told}, and not {wanted}")
             time.sleep(0.02)
 
     def close(self):
@@ -144,7 +144,7 @@ def wait_for(port, started):
     ends = time.monotonic() + LIMIT
     while not listens(port):
         want(started.poll() is None, f"the run ended with {started.poll()}")
-        want(time.monotonic() < ends, "nobody listens")
+        want_in_time(time.monotonic() < ends, "nobody listens")
         time.sleep(0.02)
 
 
@@ -166,7 +166,7 @@ def steered(room, *words, secret=SECRET):
         want(said == b"", f"it wrote to standard error: {said[:200]!r}")
         ended += [started.returncode, wrote]
     except subprocess.TimeoutExpired:
-        raise Wrong(f"the program had not ended after {LIMIT} seconds") from None
+        raise Late(f"the program had not ended after {LIMIT} seconds") from None
     finally:
         console.close()
         if started.poll() is None:

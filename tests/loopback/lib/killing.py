@@ -6,7 +6,7 @@ from lib import controls
 from lib.controls import BLOCK
 from lib.mirrors import Site, one_request
 from lib.recording import asked_by
-from lib.wants import want
+from lib.wants import want, want_in_time
 
 # How many bytes it gives at once.
 PORTION = 8_192
@@ -50,10 +50,10 @@ def killed(room, *words, after=0, when=lambda: True, by=signal.SIGKILL):
     try:
         time.sleep(after)
         while not when():
-            want(time.monotonic() - begun < 30, "what was waited for didn't come")
+            want_in_time(time.monotonic() - begun < 30, "what was waited for didn't come")
             time.sleep(0.02)
         passed = time.monotonic() - begun
-        want(started.poll() is None, f"it had ended, with {started.poll()}")
+        want_in_time(started.poll() is None, f"it had ended, with {started.poll()}")
         started.send_signal(by)
         wrote, said = started.communicate(timeout=30)
     finally:

@@ -1,6 +1,6 @@
 """Payloads, where a mirror has their files, and what is asked for their blocks."""
 import itertools
-import os
+import random
 from urllib.parse import quote
 
 from lib.controls import BLOCK
@@ -10,8 +10,15 @@ from lib.torrents import whole
 MIB = 1 << 20
 # The length of a piece of one block.
 PIECE = 16_384
+
+
+def noise(length, seed=0):
+    """So many bytes without a pattern, and in each run the same ones. Those of another length or seed differ."""
+    return random.Random(f"{seed} {length}").randbytes(length)
+
+
 # Three pieces of one block, the last one of 7,232 bytes.
-THREE = os.urandom(40_000)
+THREE = noise(40_000)
 # Pieces of 16 bytes: the first lies in the first file, the second spans three files, the third begins in an empty file.
 SMALL = [
     ("x", b"0123456789abcdefgh"),
@@ -21,8 +28,8 @@ SMALL = [
     ("w", b"wxyz"),
 ]
 # Three pieces of a mebibyte, the last one of 400,000 bytes, and files with 65,536 bytes for each one of the small ones.
-LONG = os.urandom(2 * MIB + 400_000)
-SPREAD = [(path, os.urandom(len(content) * MIB // 16)) for path, content in SMALL]
+LONG = noise(2 * MIB + 400_000)
+SPREAD = [(path, noise(len(content) * MIB // 16)) for path, content in SMALL]
 
 # How claims are cut by the words that make them of 64 blocks.
 MIB_CLAIMS = {"split": 64, "least": MIB}
@@ -31,6 +38,25 @@ MIB_CLAIMS = {"split": 64, "least": MIB}
 def served(payload, name="a"):
     """A mirror's files by their targets below `/`."""
     return {f"/{quote(path)}": content for path, content in files_of(payload, name)}
+
+
+def apart(stands, payload):
+    """The bytes of a payload as its files have them."""
+    if isinstance(payload, bytes):
+        return stands
+    files = []
+    for path, content in payload:
+        files.append((path, stands[: len(content)]))
+        stands = stands[len(content) :]
+    return files
+
+
+def turned(payload, places):
+    """The payload with a bit turned in each of these bytes."""
+    content = bytearray(whole(payload))
+    for it in places:
+        content[it] ^= 1
+    return apart(bytes(content), payload)
 
 
 def blocks_in(total, piece_length):

@@ -1,13 +1,15 @@
 """A payload of seven pieces, and control files that can't be used for it."""
 import hashlib
-import os
 
 from lib.controls import BLOCK, written
+from lib.payloads import noise, turned
 from lib.torrents import bencoded, info_of
 
 PIECE = 32_768
 # Seven pieces of two blocks, but for the last one, which is one block of 3,392 bytes.
-SEVEN = os.urandom(200_000)
+SEVEN = noise(200_000)
+# Four bytes of its second piece are wrong.
+TORN = turned(SEVEN, range(40_000, 40_004))
 HASH = hashlib.sha1(bencoded(info_of(SEVEN, b"a", PIECE))).digest()
 ALL = written(HASH, PIECE, len(SEVEN), b"\xfe")
 

@@ -7,7 +7,9 @@ class Wrong(Exception):
 
 
 class Late(Wrong):
-    """What a case wants came, but took too long. On a busy machine that says little, so it is tried again alone."""
+    """What a case wants came too late, or not in the time that was given. On a busy machine that says little, so it is tried
+    again alone.
+    """
 
 
 class Skipped(Exception):
@@ -17,6 +19,12 @@ class Skipped(Exception):
 def want(holds, text):
     if not holds:
         raise Wrong(text)
+
+
+def want_in_time(holds, text):
+    """What is so on a machine with nothing else to do, and may come later on a busy one."""
+    if not holds:
+        raise Late(text)
 
 
 def want_within(seconds, most, text="it"):
