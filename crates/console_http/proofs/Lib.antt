@@ -1,4 +1,5 @@
 mod Sending
+mod WritingLemmas
 mod Steps
 mod Waiting
 mod Outcomes

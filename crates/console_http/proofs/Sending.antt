@@ -11,8 +11,9 @@ use Rattle.rpc_envelope.specs.Turns.{Invocation, BeginsWith, StopsShort, Walks}
 use Rattle.console_http.specs.Answering.{ResponseBy, CausesBreak, HasResponded, HasTurnedAway, SendsFront}
 use Rattle.console_http.specs.Ends.{end_by_error}
 use Rattle.console_http.specs.Readings.{door_at}
-use Rattle.console_http.specs.Receiving.{GivesOut, HasReceived, ReceivesPiece}
+use Rattle.console_http.specs.Receiving.{GivesOut, HasReceived, ReceivesPiece, SendsAll}
 use Rattle.console_http.specs.Sessions.{CallsAt}
+use Rattle.console_http.specs.Writing.{HasSent}
 use Rattle.console_http.specs.declared.ends.ConnectionEnd.{ConnectionEnd}
 use Rattle.console_http.specs.declared.ends.ConnectionEnd.TheVariants.{Starved}
 
@@ -49,15 +50,21 @@ module _ {A : Type 0} (says : DoorSays A) where
   turned_away_front bytes old new Fault front = front
   turned_away_front bytes old new NoMemory front = front
 
+  pub sent_front : (bytes : List ℕ) (old new : A) (error : IoErr)
+      → (IsTrue says.tells → SendsToPeer bytes (Err error) (says.state old) (says.state new))
+      → HasCause {T = Unit {0}} (says.faults old) (says.faults new) (Err error)
+      → (part : List ℕ) × SendsFront says bytes part (end_by_error error) old new
+  sent_front bytes old new error sends cause =
+      let sent = sent_part says.tells bytes error (says.state old) (says.state new) sends in
+      (sent.part, record { front = sent.front; told = λ e. inl (sent.gives e); cause = cause_of error _ _ cause })
+
   -- the response to a request that is turned away couldn't be sent whole
   pub turned_away_by : (bytes : List ℕ) (old new : A) (error : IoErr)
       → (IsTrue says.tells → SendsToPeer bytes (Err error) (says.state old) (says.state new))
       → HasCause {T = Unit {0}} (says.faults old) (says.faults new) (Err error)
       → HasTurnedAway says bytes old new (end_by_error error)
   turned_away_by bytes old new error sends cause =
-      let sent = sent_part says.tells bytes error (says.state old) (says.state new) sends in
-      turned_away_front bytes old new error
-      (sent.part, record { front = sent.front; told = λ e. inl (sent.gives e); cause = cause_of error _ _ cause })
+      turned_away_front bytes old new error (sent_front bytes old new error sends cause)
 
 module _ {A : Type 0} (says : DoorSays A) where
   -- bytes came, and stand behind the others, or couldn't be put there
@@ -97,28 +104,26 @@ module _ {S T A : Type 0} (at : CallsAt S T) (says : DoorSays A) where
   pub responded : (calls : List Invocation) (response : ResponseBy) (s : S) (d : T) (s' : S) (d' : T) (old new : A)
       (text : List ℕ) (r : Result (Unit {0}) IoErr)
       → Walks (at s d) (at s' d') calls (λ came. text ≡ response came)
-      → (IsTrue says.tells → SendsToPeer text r (says.state old) (says.state new))
-      → HasCause (says.faults old) (says.faults new) r
+      → HasSent says text old new r
       → HasResponded at says calls response (door_at s d old) (door_at s' d' new) r
-  responded calls response s d s' d' old new text (Ok done) walks sends cause =
-      let P : List ℕ → Type 0 = λ bytes. GivesOut bytes (says.state old) (says.state new) in (
+  responded calls response s d s' d' old new text (Ok done) walks sends =
+      let P : List ℕ → Type 0 = λ bytes. SendsAll says bytes old new in (
         walks.mine,
         record {
           extends = walks.extends;
           carried = record { asked = walks.asked; came = walks.came };
-          sends = record { told = λ e. subst P walks.holds (gives_all text _ _ (sends e)); faults = cause.done };
+          sends = subst P walks.holds sends;
         },
       )
-  responded calls response s d s' d' old new text (Err error) walks sends cause =
-      let sent = sent_part says.tells text error (says.state old) (says.state new) sends in
-      let P : List ℕ → Type 0 = λ bytes. BeginsWith bytes sent.part in (
+  responded calls response s d s' d' old new text (Err error) walks (part, sends) =
+      let P : List ℕ → Type 0 = λ bytes. BeginsWith bytes part in (
         walks.mine,
-        sent.part,
+        part,
         record {
           extends = walks.extends;
-          begun = inl (record { asked = walks.asked; came = walks.came }, subst P walks.holds sent.front);
-          told = λ e. inl (sent.gives e);
-          cause = cause_of error _ _ cause;
+          begun = inl (record { asked = walks.asked; came = walks.came }, subst P walks.holds sends.front);
+          told = sends.told;
+          cause = sends.cause;
         },
       )
 

@@ -4,7 +4,6 @@ ghost use Rattle.request_stream.specs.Next.{IsServedBetween};
 ghost use Rattle.request_stream.specs.Responses.{served_response, refusal_response};
 ghost use Rattle.rpc_envelope.specs.Answers.{answer_text, read_bytes};
 ghost use Rattle.rpc_envelope.specs.Asks.{found_calls};
-ghost use Rattle.rpc_envelope.specs.Turns.{Walked};
 ghost use Rattle.console_http.specs.Answering.{HasResponded, HasTurnedAway};
 ghost use Rattle.console_http.specs.Readings.{console_at, door_at};
 ghost use Rattle.console_http.specs.Talks.{HasAdvanced};
@@ -12,9 +11,10 @@ ghost use Rattle.console_http.specs.Talks.{HasAdvanced};
 use crate::ends::{ConnectionEnd, end_by_error};
 use crate::intake::Intake;
 use crate::session::Session;
-use dl_kinds::{IoErr, NoMemory};
+use crate::writing::send_response;
+use dl_kinds::IoErr;
 use door_source::Doors;
-use request_stream::{NextRequest, Refusal, refusal_response, served_response};
+use request_stream::{NextRequest, Refusal, refusal_response};
 use rpc_envelope::answer_body;
 use std::alloc::Global;
 
@@ -26,21 +26,6 @@ pub(crate) enum Advance {
     /// No whole request stands there.
     Waiting,
     Ended(ConnectionEnd),
-}
-
-// Carries out the calls of a body. The response is what is to be sent.
-fn response_of<T, S: Session<T>>(
-    alloc: Global,
-    desk: &mut T,
-    session: &mut S,
-    body: &[u8],
-) -> Result<Vec<u8>, NoMemory>
-    ensures { Walked (S.at session.old desk.old) (S.at session.new desk.new)
-        (found_calls (read_bytes body.now)) result
-        (λ text came. text.items ≡ served_response (answer_text (read_bytes body.now) came)) }
-{
-    let answer = answer_body(alloc, desk, session, body)?;
-    served_response(alloc, answer.as_deref())
 }
 
 // Carries out the calls of a body, and sends the response.
@@ -57,8 +42,8 @@ fn respond<T, S: Session<T>, A: Doors>(
         (λ came. served_response (answer_text (read_bytes body.now) came))
         (door_at session.old desk.old door.old) (door_at session.new desk.new door.new) result }
 {
-    let text = response_of(alloc, desk, session, body)?;
-    door.send(&text)
+    let answer = answer_body(alloc, desk, session, body)?;
+    send_response(alloc, door, &answer)
 }
 
 // Serves the request whose content stands between the two places.

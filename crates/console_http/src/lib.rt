@@ -8,6 +8,7 @@ mod intake;
 mod keeping;
 mod session;
 mod talking;
+mod writing;
 
 pub use ends::{ConnectionEnd, DoorEnd};
 pub use intake::{Intake, PIECE_BYTES};

@@ -9,4 +9,4 @@ mod response;
 pub use laws::requests_are_one_and_stay;
 pub use next::{NextRequest, next_request};
 pub use refusal::Refusal;
-pub use response::{refusal_response, served_response};
+pub use response::{refusal_response, response_head};

@@ -1,6 +1,6 @@
 // Responses, as they are sent.
-ghost use Rattle.std.specs.Prelude.{◌≡◌, ◌<◌, ◌^◌, IfOk, option_map};
-ghost use Rattle.request_stream.specs.Responses.{content_head, served_response, refusal_response};
+ghost use Rattle.std.specs.Prelude.{◌≡◌, ◌<◌, ◌^◌, IfOk};
+ghost use Rattle.request_stream.specs.Responses.{content_head, response_head, refusal_response};
 
 use crate::refusal::Refusal;
 use dl_kinds::NoMemory;
@@ -15,17 +15,15 @@ fn content_head(alloc: Global, len: usize) -> Result<Vec<u8>, NoMemory>
     Ok(text.into_bytes())
 }
 
-/// The response to a request that is served: its head, and the content, if there is any.
-pub fn served_response(alloc: Global, content: Option<&[u8]>) -> Result<Vec<u8>, NoMemory>
-    ensures { IfOk result (λ text. text.items
-        ≡ served_response (option_map (λ content. content.now) content.entry)) }
+/// The head of the response to a request that is served, by the length of its content, if there is any. The content is to
+/// be sent behind it.
+pub fn response_head(alloc: Global, len: Option<usize>) -> Result<Vec<u8>, NoMemory>
+    ensures { IfOk result (λ head. head.items ≡ response_head len) }
 {
-    let Some(content) = content else {
-        return Vec::from_slice(alloc, b"HTTP/1.1 204 No Content\r\n\r\n");
-    };
-    let mut text = content_head(alloc, content.len())?;
-    text.extend_from_slice(content)?;
-    Ok(text)
+    match len {
+        Some(len) => content_head(alloc, len),
+        None => Vec::from_slice(alloc, b"HTTP/1.1 204 No Content\r\n\r\n"),
+    }
 }
 
 /// The response to a request that is turned away. It has no content.

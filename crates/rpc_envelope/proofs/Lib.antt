@@ -1,4 +1,5 @@
 mod Lists
 mod Plain
 mod Reading
+mod TextLemmas
 mod Walks

@@ -1,12 +1,16 @@
 -- Lists of values, as the data that they are seen as.
-use Rattle.std.proofs.Common.{◌≡◌, ◌&&◌, List, [], ◌∷◌, ◌<◌, length, Option, map, refl, ap, arith}
+use Rattle.std.proofs.Common.{◌≡◌, ◌==◌, ◌∙◌, ◌&&◌, ℕ, true, true≢false, List, [], ◌∷◌, ◌<◌, length, Option, Some, option_map, map, refl, sym, ap, arith}
 use Rattle.std.specs.List.{list_all}
-use Rattle.serde_json.specs.Data.{Data}
+use Rattle.serde_json.specs.Data.{Data, null}
 use Rattle.serde_json.specs.View.{view, items_of, items_view}
+use Rattle.serde_json.specs.Written.{compact_text}
 use Rattle.serde_json.specs.declared.value.Value.{Value}
-use Rattle.rpc_envelope.specs.Answers.{batch_answer, list_if_any, shared_out, member_answers}
-use Rattle.rpc_envelope.specs.Asks.{data_of, is_call_part, member_calls}
-use Rattle.rpc_envelope.specs.Turns.{OutcomeData}
+use Rattle.rpc_envelope.specs.Answers.{answer, batch_answer, list_if_any, shared_out, member_answers}
+use Rattle.rpc_envelope.specs.Asks.{data_of, is_call_part, member_calls, calls_of_all}
+use Rattle.rpc_envelope.specs.Turns.{OutcomeData, Invoked, Walks, failed}
+use Rattle.rpc_envelope.specs.declared.fault.RpcFault.TheVariants.{NoRequest}
+use Rattle.rpc_envelope.proofs.TextLemmas.{some_is}
+use Rattle.rpc_envelope.proofs.Walks.{walks_none}
 
 data_of-items_of : (ds : List Data) → data_of (items_of ds) ≡ ds
 data_of-items_of [] = refl
@@ -24,3 +28,10 @@ pub batch_some : (values : List Value) (ss : List (Option OutcomeData)) → 0 < 
 batch_some [] ss some = absurd (omega (arith, some))
 batch_some (value ∷ values) ss some =
     ap (λ members. list_if_any (shared_out member_calls member_answers members ss)) (list_of_items (value ∷ values))
+
+-- a batch without members is answered with a fault, and calls nothing
+pub empty_batch : (W : List Invoked → Type 0) (values : List Value) (text : List ℕ) → (length values == 0) ≡ true
+    → text ≡ compact_text (answer null (failed NoRequest))
+    → Walks W W (calls_of_all (map view values)) (λ ss. Some text ≡ option_map compact_text (batch_answer (items_view values) ss))
+empty_batch W [] text none is = walks_none W _ (ap Some is)
+empty_batch W (value ∷ values) text none is = absurd (true≢false (sym none ∙ some_is value values))

@@ -1,20 +1,18 @@
 -- No answer has a float.
-use Rattle.std.proofs.Common.{◌≡◌, ◌&&◌, ◌||◌, List, [], ◌∷◌, ◌++◌, Bool, true, false, length, take, drop, codes, Option, Some, None, refl, sym, if◌then◌else◌, subst}
+use Rattle.std.proofs.Common.{◌≡◌, ◌&&◌, ◌||◌, List, [], ◌∷◌, ◌++◌, Bool, true, false, length, take, drop, codes, Option, Some, None, refl, if◌then◌else◌}
 use Rattle.std.proofs.lemmas.List.Elements.{All-head, All-take, All-drop}
 use Rattle.std.specs.Prelude.{All}
-use Rattle.serde_json.specs.Data.{unsigned, negative, float, Data, null, boolean, number, string, array, object, Items, no_items, item}
-use Rattle.serde_json.specs.Find.{get, as_array}
+use Rattle.serde_json.specs.Data.{unsigned, negative, float, Data, null, boolean, number, string, array, object}
+use Rattle.serde_json.specs.Find.{get}
 use Rattle.serde_json.specs.View.{items_of}
 use Rattle.serde_json.specs.Written.{has_float, items_have_float}
-use Rattle.rpc_envelope.specs.Answers.{shared_out, outcome_or_full, first_outcome, part_data, part_outcome, part_answers, several_outcome, outcome_by_method, request_outcome, answer, answer_if, member_answers, first_of, list_if_any, batch_answer, answer_by_kind, answer_as_read}
-use Rattle.rpc_envelope.specs.Asks.{is_id, is_absent_or, is_request, is_multicall, invocation_in, parts_of, part_calls, member_calls, data_of}
+use Rattle.rpc_envelope.specs.Answers.{shared_out, outcome_or_full, first_outcome, part_data, part_outcome, part_answers, several_outcome, outcome_by_method, request_outcome, answer, answer_if, member_answers}
+use Rattle.rpc_envelope.specs.Asks.{is_id, is_absent_or, is_request, is_multicall, invocation_in, parts_of, part_calls}
 use Rattle.rpc_envelope.specs.Faults.{fault_data}
+use Rattle.rpc_envelope.specs.Texts.{ArePlainData}
 use Rattle.rpc_envelope.specs.Turns.{Invocation, OutcomeData, given, failed, IsPlain, CamePlain}
 use Rattle.rpc_envelope.specs.declared.fault.RpcFault.{RpcFault}
 use Rattle.rpc_envelope.specs.declared.fault.RpcFault.TheVariants.{NoJson, NoRequest, NoMethod, BadParams, Unauthorized, Nested, JournalFull, GidUnknown, GidAmbiguous, WrongStatus, GidInUse, TooManyDownloads, NotBencode, UnusableTorrent, NoUsableUri, TooManyUris, OptionUnknown, OptionBadValue, OptionOutOfRange, OptionFixed}
-
-ArePlainData : List Data → Type 0
-ArePlainData ds = items_have_float (items_of ds) ≡ false
 
 abbrev AreOutcomes : List (Option OutcomeData) → Type 0
 AreOutcomes ss = All CamePlain ss
@@ -31,14 +29,12 @@ first true b e = e
 first false b e = refl
 
 plain_append : (xs ys : List Data) → ArePlainData xs → ArePlainData ys → ArePlainData (xs ++ ys)
-unfolding ArePlainData
 plain_append [] ys h k = k
 plain_append (x ∷ xs) ys h k = neither (has_float x) _ (first (has_float x) _ h) (plain_append xs ys (second (has_float x) _ h) k)
 
 plain_shared : {A : Type 0} (calls : A → List Invocation) (f : A → List (Option OutcomeData) → List Data)
     → ((a : A) (ss : List (Option OutcomeData)) → AreOutcomes ss → ArePlainData (f a ss))
     → (xs : List A) (ss : List (Option OutcomeData)) → AreOutcomes ss → ArePlainData (shared_out calls f xs ss)
-unfolding ArePlainData
 plain_shared calls f h [] ss all = refl
 plain_shared calls f h (a ∷ xs) ss all =
     let n = length (calls a) in
@@ -82,12 +78,10 @@ part_plain : (call : Invocation) (ss : List (Option OutcomeData)) → AreOutcome
 part_plain call ss all = if_plain_outcome (is_multicall call) (failed Nested) (first_outcome ss) tt (first_plain ss all)
 
 data_plain : (o : OutcomeData) → IsPlain o → ArePlainData (part_data o ∷ [])
-unfolding ArePlainData
 data_plain (given d) h = neither _ _ (neither _ _ h refl) refl
 data_plain (failed f) h = neither _ _ (fault_plain f) refl
 
 several_plain : (parts : Option (List Data)) (ss : List (Option OutcomeData)) → AreOutcomes ss → IsPlain (several_outcome parts ss)
-unfolding ArePlainData
 several_plain None ss all = tt
 several_plain (Some parts) ss all =
     plain_shared part_calls part_answers
@@ -112,7 +106,6 @@ id_plain (array ds) h = cc
 id_plain (object ms) h = cc
 
 if_plain : (id : Option Data) (o : OutcomeData) → is_absent_or is_id id ≡ true → IsPlain o → ArePlainData (answer_if id o)
-unfolding ArePlainData
 if_plain None o h k = refl
 if_plain (Some id) o h k = neither _ _ (answer_plain id o (id_plain id h) k) refl
 
@@ -122,42 +115,10 @@ last_of false b e = cc
 
 members_plain_at : (b : Bool) (d : Data) (ss : List (Option OutcomeData)) → AreOutcomes ss → (b ≡ true → is_absent_or is_id (get (codes "id") d) ≡ true)
     → ArePlainData (if b then answer_if (get (codes "id") d) (request_outcome d ss) else answer null (failed NoRequest) ∷ [])
-unfolding ArePlainData
 members_plain_at true d ss all h = if_plain (get (codes "id") d) _ (h refl) (method_plain (invocation_in (codes "method") d) ss all)
 members_plain_at false d ss all h = refl
 
-members_plain : (d : Data) (ss : List (Option OutcomeData)) → AreOutcomes ss → ArePlainData (member_answers d ss)
+-- the answers to a member have no float
+pub members_plain : (d : Data) (ss : List (Option OutcomeData)) → AreOutcomes ss → ArePlainData (member_answers d ss)
 unfolding member_answers is_request
 members_plain d ss all = members_plain_at (is_request d) d ss all (λ e. last_of _ _ e)
-
-IsPlainAnswer : Option Data → Type 0
-IsPlainAnswer None = Unit {0}
-IsPlainAnswer (Some d) = has_float d ≡ false
-
-first_answer_plain : (ds : List Data) → ArePlainData ds → IsPlainAnswer (first_of ds)
-unfolding ArePlainData IsPlainAnswer
-first_answer_plain [] h = tt
-first_answer_plain (d ∷ ds) h = first (has_float d) _ h
-
-list_plain : (ds : List Data) → ArePlainData ds → IsPlainAnswer (list_if_any ds)
-unfolding ArePlainData IsPlainAnswer
-list_plain [] h = tt
-list_plain (d ∷ ds) h = h
-
-batch_plain : (ds : Items) (ss : List (Option OutcomeData)) → AreOutcomes ss → IsPlainAnswer (batch_answer ds ss)
-unfolding IsPlainAnswer
-batch_plain no_items ss all = refl
-batch_plain (item d ds) ss all = list_plain _ (plain_shared member_calls member_answers members_plain (data_of (item d ds)) ss all)
-
-by_plain : (found : Option Items) (d : Data) (ss : List (Option OutcomeData)) → AreOutcomes ss → IsPlainAnswer (answer_by_kind found d ss)
-by_plain None d ss all = first_answer_plain _ (members_plain d ss all)
-by_plain (Some ds) d ss all = batch_plain ds ss all
-
-all_plain : (found : Option Data) (ss : List (Option OutcomeData)) → AreOutcomes ss → IsPlainAnswer (answer_as_read found ss)
-unfolding IsPlainAnswer
-all_plain None ss all = refl
-all_plain (Some d) ss all = by_plain (as_array d) d ss all
-
-pub no_float : (found : Option Data) (ss : List (Option OutcomeData)) → AreOutcomes ss → (d : Data) → Some d ≡ answer_as_read found ss → has_float d ≡ false
-unfolding IsPlainAnswer
-no_float found ss all d e = let P : Option Data → Type 0 = IsPlainAnswer in subst P (sym e) (all_plain found ss all)

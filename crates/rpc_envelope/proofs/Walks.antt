@@ -66,26 +66,37 @@ walked_one (Err error) before after call took plain = record {
 }
 
 module _ {A B : Type 0} (calls : A → List Invocation) (f : A → List (Option OutcomeData) → List B) where
-  pub walks_on : (before middle after : List Invoked → Type 0) (done : List A) (a : A) (out out' : List B)
-      → Walks before middle (flat_map calls done) (λ ss. out ≡ shared_out calls f done ss)
-      → Walks middle after (calls a) (λ ss. out' ≡ out ++ f a ss)
-      → Walks before after (flat_map calls (done ++ a ∷ [])) (λ ss. out' ≡ shared_out calls f (done ++ a ∷ []) ss)
-  walks_on before middle after done a out out' h k =
+  -- what holds of the answers to those before, and of its own, makes what holds of all
+  pub walks_both : (before middle after : List Invoked → Type 0) (done : List A) (a : A) (P Q R : List B → Type 0)
+      → ((xs ys : List B) → P xs → Q ys → R (xs ++ ys))
+      → Walks before middle (flat_map calls done) (λ ss. P (shared_out calls f done ss))
+      → Walks middle after (calls a) (λ ss. Q (f a ss))
+      → Walks before after (flat_map calls (done ++ a ∷ [])) (λ ss. R (shared_out calls f (done ++ a ∷ []) ss))
+  walks_both before middle after done a P Q R both h k =
       let asked : invocations_in (h.mine ++ k.mine) ≡ flat_map calls (done ++ a ∷ []) =
       map-append _ h.mine k.mine
       ∙ (rw (h.asked, k.asked) (sym (flat_map-append calls done (a ∷ []) ∙ ap (λ l. flat_map calls done ++ l) (append-nil (calls a))))) in
       let outcomes : outcomes_in (h.mine ++ k.mine) ≡ outcomes_in h.mine ++ outcomes_in k.mine = map-append _ h.mine k.mine in
-      let said : out' ≡ shared_out calls f (done ++ a ∷ []) (outcomes_in (h.mine ++ k.mine)) =
-      k.holds ∙ (ap (λ l. l ++ f a (outcomes_in k.mine)) h.holds
-      ∙ (sym (shared_out_more calls f done a (outcomes_in h.mine) (outcomes_in k.mine)
-      (outcomes_len h.mine _ h.asked) (outcomes_len k.mine _ k.asked)) ∙ ap (shared_out calls f (done ++ a ∷ [])) (sym outcomes))) in
+      let all : shared_out calls f (done ++ a ∷ []) (outcomes_in (h.mine ++ k.mine))
+      ≡ shared_out calls f done (outcomes_in h.mine) ++ f a (outcomes_in k.mine) =
+      ap (shared_out calls f (done ++ a ∷ [])) outcomes
+      ∙ shared_out_more calls f done a (outcomes_in h.mine) (outcomes_in k.mine)
+      (outcomes_len h.mine _ h.asked) (outcomes_len k.mine _ k.asked) in
       record {
         mine = h.mine ++ k.mine;
         extends = extends_both before middle after h.mine k.mine h.extends k.extends;
         asked = asked;
         came = subst (All CamePlain) (sym outcomes) (All-append CamePlain (outcomes_in h.mine) (outcomes_in k.mine) h.came k.came);
-        holds = said;
+        holds = subst R (sym all) (both _ _ h.holds k.holds);
       }
+
+  pub walks_on : (before middle after : List Invoked → Type 0) (done : List A) (a : A) (out out' : List B)
+      → Walks before middle (flat_map calls done) (λ ss. out ≡ shared_out calls f done ss)
+      → Walks middle after (calls a) (λ ss. out' ≡ out ++ f a ss)
+      → Walks before after (flat_map calls (done ++ a ∷ [])) (λ ss. out' ≡ shared_out calls f (done ++ a ∷ []) ss)
+  walks_on before middle after done a out out' =
+      walks_both before middle after done a (λ xs. out ≡ xs) (λ ys. out' ≡ out ++ ys) (λ zs. out' ≡ zs)
+      (λ xs ys e e'. e' ∙ ap (λ l. l ++ ys) e)
 
   pub breaks_on : (before middle after : List Invoked → Type 0) (done : List A) (a : A) (rest all : List A) (P : List (Option OutcomeData) → Type 0)
       → Walks before middle (flat_map calls done) P

@@ -1,6 +1,7 @@
 -- What values, and outcomes of calls, stand for.
 use Rattle.std.specs.Prelude.{◌≡◌, ℕ, List, ◌++◌, map, Option, Some, None, option_map, Result, Ok, Err}
 use Rattle.std.specs.Borrow.{Bor}
+use Rattle.std.specs.Option.{option_to_list}
 use Rattle.serde_json.specs.Data.{Data}
 use Rattle.serde_json.specs.View.{view}
 use Rattle.serde_json.specs.declared.value.Value.{Value}
@@ -17,6 +18,10 @@ seen_if_any found = option_map (λ list. map view list.now) found
 -- these answers were put behind those that stood in the list
 abbrev pub AddsAnswers : List Value → List Value → List Data → Type 0
 AddsAnswers old new answers = map view new ≡ map view old ++ answers
+
+-- the answer, where there is one
+abbrev pub answers_in : Option Value → List Data
+answers_in answer = option_to_list (option_map view answer)
 
 abbrev pub outcome_view : Outcome → OutcomeData
 outcome_view (Given value) = given (view value)

@@ -1,8 +1,8 @@
 // Answers, as values of JSON.
-ghost use Rattle.std.specs.Prelude.{◌≡◌, IfOk, OnOk};
+ghost use Rattle.std.specs.Prelude.{◌≡◌, IfOk};
 ghost use Rattle.serde_json.specs.View.{view};
 ghost use Rattle.rpc_envelope.specs.Answers.{answer, answer_if, part_data};
-ghost use Rattle.rpc_envelope.specs.Outcomes.{value_if_any, AddsAnswers, outcome_view};
+ghost use Rattle.rpc_envelope.specs.Outcomes.{answers_in, value_if_any, outcome_view};
 ghost use Rattle.rpc_envelope.specs.Turns.{given, failed};
 
 use crate::fault::fault_value;
@@ -58,19 +58,17 @@ fn answer(alloc: Global, id: Value, outcome: Outcome) -> Result<Value, NoMemory>
     }
 }
 
-/// AddsAnswers the answer of a request, where it has an id.
-pub(crate) fn push_if(
+/// The answer of a request, where it has an id.
+pub(crate) fn answer_if(
     alloc: Global,
     id: Option<&Value>,
     outcome: Outcome,
-    list: &mut Vec<Value>,
-) -> Result<(), NoMemory>
-    ensures { OnOk result (AddsAnswers list.old.items list.new.items
-        (answer_if (value_if_any id.entry) (outcome_view outcome))) }
+) -> Result<Option<Value>, NoMemory>
+    ensures { IfOk result (λ answer. answers_in answer
+        ≡ answer_if (value_if_any id.entry) (outcome_view outcome)) }
 {
-    if let Some(id) = id {
-        let id = id.clone()?;
-        list.push(answer(alloc, id, outcome)?)?;
+    match id {
+        Some(id) => Ok(Some(answer(alloc, id.clone()?, outcome)?)),
+        None => Ok(None),
     }
-    Ok(())
 }

@@ -9,8 +9,10 @@ mod bodies;
 mod caller;
 mod fault;
 mod parts;
+mod texts;
 
 pub use asks::untokened;
 pub use bodies::answer_body;
 pub use caller::{Caller, Outcome};
 pub use fault::RpcFault;
+pub use texts::{LongText, Passage};
