@@ -3,7 +3,8 @@ ghost use Rattle.door_source.specs.Doors.{no_door};
 ghost use Rattle.std.specs.Prelude.{false};
 
 use crate::faults::Faults;
-use crate::links::{LOOK_MS, not_connected, read_some, write_whole};
+use crate::links::{not_connected, read_some, write_whole};
+use crate::patience::LOOK_MS;
 use dl_kinds::IoErr;
 use door_source::{Came, Doors};
 use std::io::{ErrorKind, Read, Write};
@@ -147,7 +148,7 @@ impl<'a, R: Net<Stream = TcpStream, Listener = TcpListener> + time::Clock> Doors
 
     fn recv(&mut self, into: &mut [u8]) -> Result<usize, IoErr> {
         let outcome = match &mut self.stream {
-            Some(stream) => read_some(stream, into, self.over),
+            Some(stream) => read_some(self.rt, stream, into, self.over),
             None => Err(not_connected()),
         };
         self.faults.note(outcome)
@@ -155,7 +156,7 @@ impl<'a, R: Net<Stream = TcpStream, Listener = TcpListener> + time::Clock> Doors
 
     fn send(&mut self, bytes: &[u8]) -> Result<(), IoErr> {
         let outcome = match &mut self.stream {
-            Some(stream) => write_whole(stream, bytes, self.over),
+            Some(stream) => write_whole(self.rt, stream, bytes, self.over),
             None => Err(not_connected()),
         };
         self.faults.note(outcome)

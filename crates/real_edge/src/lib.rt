@@ -6,11 +6,15 @@ mod clock;
 mod disk;
 mod doors;
 mod faults;
+mod folder;
+mod lasting;
 mod links;
 mod output;
+mod patience;
 
 pub use clock::StdClock;
 pub use disk::FileDisk;
 pub use doors::{TcpDoors, listen_on};
+pub use folder::{EdgeDisk, FolderDisk};
 pub use links::TcpLinks;
 pub use output::StdOut;

@@ -2,27 +2,22 @@
 ghost use Rattle.std.specs.Prelude.{◌≤◌, false, length, IfOk};
 ghost use Rattle.link_source.specs.Link.{no_link};
 
-use crate::faults::Faults;
+use crate::faults::{NotedFaults, told};
+use crate::patience::{LOOK_MS, MOST_LOOKS, Patience};
 use dl_kinds::IoErr;
+use fault_notes::{Noted, Notes, Why};
 use link_source::Links;
 use std::io;
 use std::io::{ErrorKind, Read, Write};
 use std::net::{Net, SocketAddr, TcpStream, ToSocketAddrs};
 use std::sync::atomic::{AtomicBool, Ordering};
-use std::time::Duration;
-
-// A mirror that is silent for so long is taken for dead.
-pub(crate) const PATIENCE_SECONDS: u64 = 60;
-
-// Who waits for bytes looks up so often, to see whether the run is over.
-pub(crate) const LOOK_MS: u64 = 200;
-
-const LOOKS: u64 = PATIENCE_SECONDS * 1000 / LOOK_MS;
+use std::time::{Clock, Duration};
 
 // A connection is opened in spans of this length, behind each of which it is seen whether the run is over.
 const CONNECT_SPAN_MS: u64 = 1_500;
 
-const CONNECT_SPANS: usize = 40;
+// So often the addresses are tried at most.
+const MOST_CONNECTS: usize = 1_000;
 
 /// Connections over TCP. Nothing is told of what they give.
 ///
@@ -31,96 +26,118 @@ const CONNECT_SPANS: usize = 40;
 /// nothing more is received, and what can't be sent or opened within two seconds fails. How long the system looks for a host's
 /// addresses is its own business.
 #[derive(Drop)]
-pub struct TcpLinks<'a, R: Net<Stream = TcpStream> + AllocGlobal> {
+pub struct TcpLinks<'a, R: Net<Stream = TcpStream> + Clock + AllocGlobal> {
     rt: &'a R,
     over: &'a AtomicBool,
     stream: Option<TcpStream>,
-    faults: Faults,
+    faults: NotedFaults,
 }
 
-impl<'a, R: Net<Stream = TcpStream> + AllocGlobal> TcpLinks<'a, R> {
+impl<'a, R: Net<Stream = TcpStream> + Clock + AllocGlobal> TcpLinks<'a, R> {
     /// `over` is set once the run is over.
     pub fn new(rt: &'a R, over: &'a AtomicBool) -> Self {
         TcpLinks {
             rt,
             over,
             stream: None,
-            faults: Faults::new(),
+            faults: NotedFaults::new(rt.alloc()),
         }
     }
 
-    fn is_over(&self) -> bool {
-        self.over.load(Ordering::SeqCst)
+    fn patience(&self) -> Patience<'a, R> {
+        Patience::begin(self.rt, self.over)
     }
 
     // The first of the addresses that answers. They are tried in turn, in short spans, and have one patience together; where
     // all refuse at once there is nothing to wait for.
-    fn first_answer(&self, addresses: &[SocketAddr]) -> io::Result<TcpStream> {
+    fn first_answer(&self, addresses: &[SocketAddr]) -> Result<TcpStream, Why> {
         let span = Duration::from_millis(CONNECT_SPAN_MS);
-        let mut last = io::Error::from(ErrorKind::NotFound);
+        let patience = self.patience();
+        let mut last = Why::UnknownHost;
         let mut any_silent = false;
-        for turn in 0..CONNECT_SPANS {
-            if addresses.is_empty() || self.is_over() || turn >= addresses.len() && !any_silent {
+        for turn in 0..MOST_CONNECTS {
+            let Some(left) = patience.left(turn as u64) else {
+                break;
+            };
+            if addresses.is_empty() || turn >= addresses.len() && !any_silent {
                 break;
             }
-            match TcpStream::connect_timeout(self.rt, &addresses[turn % addresses.len()], span) {
+            match TcpStream::connect_timeout(
+                self.rt,
+                &addresses[turn % addresses.len()],
+                span.min(left),
+            ) {
                 Ok(stream) => return Ok(stream),
                 Err(e) => {
                     any_silent = any_silent || e.kind() == ErrorKind::TimedOut;
-                    last = e;
+                    last = Why::of(&e);
                 }
             }
         }
         Err(last)
     }
 
-    fn connect(&self, host: &str, port: u16) -> io::Result<TcpStream> {
+    fn addresses(&self, host: &str, port: u16) -> Result<Vec<SocketAddr>, Why> {
+        let Ok(found) = (without_brackets(host), port).to_socket_addrs(self.rt) else {
+            return Err(Why::UnknownHost);
+        };
         let mut addresses = Vec::new(self.rt.alloc());
-        for address in (without_brackets(host), port).to_socket_addrs(self.rt)? {
-            addresses.push(address)?;
+        for address in found {
+            told(addresses.push(address).map_err(io::Error::from))?;
         }
+        Ok(addresses)
+    }
+
+    fn connect(&self, host: &str, port: u16) -> Result<TcpStream, Why> {
+        let addresses = self.addresses(host, port)?;
         let stream = self.first_answer(&addresses)?;
         let look = Some(Duration::from_millis(LOOK_MS));
-        stream.set_read_timeout(look)?;
-        stream.set_write_timeout(look)?;
+        told(stream.set_read_timeout(look))?;
+        told(stream.set_write_timeout(look))?;
         Ok(stream)
     }
 }
 
-impl<'a, R: Net<Stream = TcpStream> + AllocGlobal> Links for TcpLinks<'a, R> {
+impl<'a, R: Net<Stream = TcpStream> + Clock + AllocGlobal> Noted for TcpLinks<'a, R> {
+    fn notes(&self) -> &Notes {
+        &self.faults.notes
+    }
+}
+
+impl<'a, R: Net<Stream = TcpStream> + Clock + AllocGlobal> Links for TcpLinks<'a, R> {
     ghost tells = { false };
 
     ghost state = { λ _. no_link };
 
-    ghost faults = { λ link. link.faults.count };
+    ghost faults = { λ link. link.faults.faults.count };
 
     fn faults(&self) -> u64 {
-        self.faults.count
+        self.faults.faults.count
     }
 
     fn dial(&mut self, host: &str, port: u16) -> Result<(), IoErr> {
         self.stream = None;
         let outcome = self.connect(host, port);
-        self.stream = Some(self.faults.note(outcome)?);
+        self.stream = Some(self.faults.note(host, outcome)?);
         Ok(())
     }
 
     fn send(&mut self, bytes: &[u8]) -> Result<(), IoErr> {
         let outcome = match &mut self.stream {
-            Some(stream) => write_whole(stream, bytes, self.over),
+            Some(stream) => write_whole(self.rt, stream, bytes, self.over),
             None => Err(not_connected()),
         };
-        self.faults.note(outcome)
+        self.faults.note("", told(outcome))
     }
 
     // A mirror that never falls silent would keep a run that is over.
     fn recv(&mut self, into: &mut [u8]) -> Result<usize, IoErr> {
         let outcome = match &mut self.stream {
             _ if self.over.load(Ordering::SeqCst) => Err(io::Error::from(ErrorKind::TimedOut)),
-            Some(stream) => read_some(stream, into, self.over),
+            Some(stream) => read_some(self.rt, stream, into, self.over),
             None => Err(not_connected()),
         };
-        self.faults.note(outcome)
+        self.faults.note("", told(outcome))
     }
 
     fn hang_up(&mut self) {
@@ -129,19 +146,21 @@ impl<'a, R: Net<Stream = TcpStream> + AllocGlobal> Links for TcpLinks<'a, R> {
 }
 
 /// Reads what comes next. It is waited for in short spans, as long as patience lasts and the run isn't over.
-pub(crate) fn read_some(
+pub(crate) fn read_some<R: Clock>(
+    rt: &R,
     stream: &mut TcpStream,
     into: &mut [u8],
     over: &AtomicBool,
 ) -> io::Result<usize>
     ensures { IfOk result (λ count. count ≤ length into.new) }
 {
-    for _ in 0..LOOKS {
+    let patience = Patience::begin(rt, over);
+    for looks in 1..MOST_LOOKS {
         match stream.read(into) {
             Err(e) if is_silent(e.kind()) => {}
             outcome => return outcome,
         }
-        if over.load(Ordering::SeqCst) {
+        if patience.left(looks).is_none() {
             break;
         }
     }
@@ -149,15 +168,21 @@ pub(crate) fn read_some(
 }
 
 // Sends what can be sent next. It is waited for in short spans, as long as patience lasts and the run isn't over.
-fn write_some(stream: &mut TcpStream, bytes: &[u8], over: &AtomicBool) -> io::Result<usize>
+fn write_some<R: Clock>(
+    rt: &R,
+    stream: &mut TcpStream,
+    bytes: &[u8],
+    over: &AtomicBool,
+) -> io::Result<usize>
     ensures { IfOk result (λ count. count ≤ length bytes.now) }
 {
-    for _ in 0..LOOKS {
+    let patience = Patience::begin(rt, over);
+    for looks in 1..MOST_LOOKS {
         match stream.write(bytes) {
             Err(e) if is_silent(e.kind()) => {}
             outcome => return outcome,
         }
-        if over.load(Ordering::SeqCst) {
+        if patience.left(looks).is_none() {
             break;
         }
     }
@@ -165,14 +190,15 @@ fn write_some(stream: &mut TcpStream, bytes: &[u8], over: &AtomicBool) -> io::Re
 }
 
 /// Sends all of the bytes.
-pub(crate) fn write_whole(
+pub(crate) fn write_whole<R: Clock>(
+    rt: &R,
     stream: &mut TcpStream,
     bytes: &[u8],
     over: &AtomicBool,
 ) -> io::Result<()> {
     let mut rest = bytes;
     while !rest.is_empty() {
-        let count = write_some(stream, rest, over)?;
+        let count = write_some(rt, stream, rest, over)?;
         if count == 0 {
             return Err(io::Error::from(ErrorKind::WriteZero));
         }

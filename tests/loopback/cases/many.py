@@ -180,10 +180,11 @@ def _(room):
 def _(room):
     payload = LONG * 4
     with Stalling({"/a.bin": payload}, MIB + 99) as first, Slow({"/a.bin": payload}, 4 * MIB) as second:
-        room.torrent([first.url(), second.url()], payload, piece_length=MIB // 4)
+        # each is a host of its own, and is asked over one connection
+        room.torrent([first.url(), second.url("localhost")], payload, piece_length=MIB // 4)
         room.clear()
         begun = time.monotonic()
-        status, wrote = room.run("--split=2", *PARTS, "t.torrent", limit=90, leaves=False)
+        status, wrote = room.run("--split=2", "--min-split-size=1M", "t.torrent", limit=90, leaves=False)
         seconds = time.monotonic() - begun
         want(status == 0, f"it ended with {status}, and wrote {wrote!r}")
         # its last block can't be stolen: it is asked for elsewhere once the silence counts as a loss

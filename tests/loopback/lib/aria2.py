@@ -4,7 +4,6 @@ import subprocess
 import threading
 import time
 
-from lib.controls import BLOCK
 from lib.mirrors import Site, one_request, rest_of
 from lib.wants import want, want_in_time
 
@@ -51,11 +50,11 @@ def interrupted(room, payload, most, piece_length):
         )
         try:
             ends = time.monotonic() + 20
-            while site.left > 0 or len(room.get("a") or b"") < most // BLOCK * BLOCK:
-                want_in_time(time.monotonic() < ends, f"aria2 had not written {most} bytes")
+            while site.left > 0:
+                want_in_time(time.monotonic() < ends, f"aria2 had not asked for {most} bytes")
                 time.sleep(0.05)
-            # what came is written by blocks, a moment after it came
-            time.sleep(1)
+            # what was sent comes a moment later
+            time.sleep(2)
             started.send_signal(signal.SIGINT)
             started.wait(30)
         finally:

@@ -60,6 +60,7 @@ def killed(room, *words, after=0, when=lambda: True, by=signal.SIGKILL):
         if started.poll() is None:
             started.kill()
             started.communicate()
+    want_in_time(started.returncode != 0, "it had ended")
     ended = (started.returncode, wrote, said)
     want(ended == (-by, b"", b""), f"it ended with {ended}")
     return passed
