@@ -13,6 +13,8 @@ from path_parts import is_part
 CRATE = "tests_trees"
 BLOCK = 16384
 ZERO = bytes(32)
+# How deep a value may be.
+DEPTH = 100
 
 
 def sha256(message):
@@ -73,8 +75,10 @@ class Refused(Exception):
     pass
 
 
-def value_at(data, at):
+def value_at(data, at, depth=0):
     """The bencoded value at a place, and where it ends: a number, bytes, a list or a dictionary. What isn't spelled so is refused."""
+    if depth == DEPTH:
+        raise ValueError(at)
     first = data[at:at + 1]
     if first == b"i":
         end = data.index(b"e", at)
@@ -85,7 +89,7 @@ def value_at(data, at):
     if first == b"l":
         items, at = [], at + 1
         while data[at:at + 1] != b"e":
-            item, at = value_at(data, at)
+            item, at = value_at(data, at, depth + 1)
             items.append(item)
         return items, at + 1
     if first == b"d":
@@ -94,7 +98,7 @@ def value_at(data, at):
             key, at = value_at(data, at)
             if not isinstance(key, bytes) or before is not None and key <= before:
                 raise ValueError(at)
-            members[key], at = value_at(data, at)
+            members[key], at = value_at(data, at, depth + 1)
             before = key
         return members, at + 1
     colon = data.index(b":", at)

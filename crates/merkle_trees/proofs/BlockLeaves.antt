@@ -3,14 +3,14 @@ use Rattle.std.proofs.Common.{◌≡◌, ◌≢◌, ℕ, ◌+◌, ◌*◌, ◌<�
 use Rattle.std.specs.Prelude.{map}
 use Rattle.std.specs.Int.{div_ceil}
 use Rattle.std.specs.List.{range_with_len}
-use Rattle.std.proofs.lemmas.List.{take_min}
+use Rattle.std.proofs.lemmas.List.{take_min, same_lists, get_or_default}
 use Rattle.std.proofs.lemmas.List.FromFn.{length-map-range_with_len, get_or-map-range_with_len, map-range_with_len_more}
 use Rattle.sha2.specs.Sha256.{sha256}
 use Rattle.dl_kinds.specs.declared.plan.TheConstants.{BLOCK_LEN}
 use Rattle.merkle_trees.specs.Leaves.{block_at, leaves_of}
 use Rattle.merkle_trees.specs.Laws.{HaveOtherLeaves}
 
-abbrev leaf_at : List ℕ → ℕ → List ℕ
+abbrev pub leaf_at : List ℕ → ℕ → List ℕ
 leaf_at bytes place = sha256 (block_at bytes place)
 
 -- a block is cut at the end of the bytes
@@ -39,6 +39,17 @@ pub leaf-is : (bytes : List ℕ) (place : ℕ) → place < div_ceil (length byte
     → get_or (leaves_of bytes) place [] ≡ leaf_at bytes place
 leaf-is bytes place below =
     get_or-map-range_with_len (leaf_at bytes) 0 (div_ceil (length bytes) BLOCK_LEN) place place [] below (omega arith)
+
+-- a row of the leaves at all places
+pub leaves-each : (bytes : List ℕ) (row : List (List ℕ)) → length row ≡ div_ceil (length bytes) BLOCK_LEN
+    → ((place : ℕ) → place < length row → get_or row place [] ≡ leaf_at bytes place) → row ≡ leaves_of bytes
+leaves-each bytes row count each =
+    let all = length-map-range_with_len (leaf_at bytes) 0 (div_ceil (length bytes) BLOCK_LEN) in
+    same_lists row (leaves_of bytes) (count ∙ sym all)
+    (λ place d below.
+    let within : place < div_ceil (length bytes) BLOCK_LEN = omega (arith, below, count) in
+    sym (get_or_default row place [] d below) ∙ each place below ∙ sym (leaf-is bytes place within)
+    ∙ get_or_default (leaves_of bytes) place [] d (omega (arith, within, all)))
 
 pub other-blocks : (wrong right : List ℕ) (place : ℕ) → length wrong ≡ length right
     → HaveOtherLeaves (leaves_of wrong) (leaves_of right) place → block_at wrong place ≢ block_at right place

@@ -8,7 +8,7 @@ mod piece_lens;
 mod places;
 mod trees;
 
-pub use blocks::leaves;
+pub use blocks::{leaves, leaves_at_once};
 pub use hashes::{Hashes, SHA256_LEN};
 pub use laws::{layers_have_file_roots, limits_are_told, other_leaves_are_of_other_blocks};
 pub use piece_lens::is_piece_len;

@@ -1,5 +1,5 @@
 -- What is left of a walk through a file tree.
-use Rattle.std.specs.Prelude.{ℕ, List, [], ◌∷◌, ◌++◌, length, map, sum_by, Option, Some, option_map}
+use Rattle.std.specs.Prelude.{◌≡◌, ◌<◌, ◌+◌, ℕ, List, [], ◌∷◌, ◌++◌, length, map, sum_by, Option, Some, option_map}
 use Rattle.bencode_core.specs.Placed.{members_of}
 use Rattle.bencode_core.specs.Value.{spelling}
 use Rattle.meta_v2.specs.declared.tree.Branch.{Branch}
@@ -46,3 +46,13 @@ size_of branch = length (spelling branch.found.value)
 
 abbrev pub sizes_of : List Branch → ℕ
 sizes_of branches = sum_by size_of branches
+
+-- fewer bytes are to be walked than were before this was opened
+abbrev pub IsShortened : Branch → List Branch → List Branch → Type 0
+IsShortened opened old new = sizes_of new < size_of opened + sizes_of old
+
+-- the files that were found, and those of what is left, are what they were with those of the branch between them
+abbrev pub WalksBranch : Branch → (files rest files' rest' : List Branch) → Type 0
+WalksBranch branch files rest files' rest' =
+    with_both (Some (map seen files')) (files_left rest')
+    ≡ with_both (Some (map seen files)) (with_both (branch_files branch) (files_left rest))

@@ -1,12 +1,12 @@
 // The walk through a file tree.
-ghost use Rattle.std.specs.Prelude.{◌≡◌, ◌≤◌, ◌<◌, ◌+◌, ◌++◌, ◌∷◌, [], Some, None, length, map, MatchBool, IfOk, OnOk};
+ghost use Rattle.std.specs.Prelude.{◌≡◌, ◌≤◌, ◌++◌, ◌∷◌, [], None, length, map, MatchBool, IfOk, OnOk};
 ghost use Rattle.dl_kinds.specs.Answers.{Gives};
 ghost use Rattle.bencode_core.specs.Value.{spelling};
 ghost use Rattle.bencode_core.specs.Placed.{members_of};
 ghost use Rattle.meta_v2.specs.Refusals.{or_refusal, refusal_of};
 ghost use Rattle.meta_v2.specs.Rules as specs;
 ghost use Rattle.meta_v2.specs.Trees.{with_both, files_of_tree};
-ghost use Rattle.meta_v2.specs.Walks.{branch_files, folder_files, files_left, size_of, sizes_of, seen};
+ghost use Rattle.meta_v2.specs.Walks.{branch_files, folder_files, files_left, seen, IsShortened, WalksBranch};
 ghost use Rattle.meta_v2.specs.declared.refusals.KeyV2.TheVariants.{FileTree};
 ghost use Rattle.meta_v2.specs.declared.refusals.V2Err.TheVariants.{BadKind};
 
@@ -46,7 +46,7 @@ fn in_folder<'a>(
 fn open<'a>(alloc: Global, folder: &Branch<'a>, rest: &mut Vec<Branch<'a>>) -> Result<(), NoMemory>
     ensures leaves { OnOk result (files_left rest.new.items
         ≡ with_both (folder_files folder.now) (files_left rest.old.items)) }
-    ensures less { OnOk result (sizes_of rest.new.items < size_of folder.now + sizes_of rest.old.items) }
+    ensures less { OnOk result (IsShortened folder.now rest.old.items rest.new.items) }
 {
     let mut members = folder.found.members(alloc)?;
     while let Some((key, found)) = members.pop() {
@@ -63,10 +63,9 @@ fn walk<'a>(
     rest: &mut Vec<Branch<'a>>,
 ) -> Result<bool, NoMemory>
     ensures leaves { IfOk result (λ is. MatchBool is
-        (with_both (Some (map seen files.new.items)) (files_left rest.new.items)
-        ≡ with_both (Some (map seen files.old.items)) (with_both (branch_files branch.entry) (files_left rest.old.items)))
+        (WalksBranch branch.entry files.old.items rest.old.items files.new.items rest.new.items)
         (branch_files branch.entry ≡ None)) }
-    ensures less { OnOk result (sizes_of rest.new.items < size_of branch.entry + sizes_of rest.old.items) }
+    ensures less { OnOk result (IsShortened branch.entry rest.old.items rest.new.items) }
 {
     if !is_dict(&branch.found) {
         return Ok(false);

@@ -1,5 +1,6 @@
 -- The files of a payload are checked and repaired one after the other.
 use Rattle.std.proofs.Common.{◌≡◌, ◌≢◌, ◌∙◌, ap, sym, subst, ℕ, zero, suc, ◌+◌, ◌<◌, ◌≤◌, ◌⊎◌, inl, inr, Bool, true, List, [], ◌∷◌, ◌++◌, length, take, get_or, Option, Some, None, refl, arith, ⊎_elim, zero-add, slice_get}
+use mathlib.Core.Path.{fun_ext}
 use Rattle.std.specs.Prelude.{IsSome, option_map, map, sum_by}
 use Rattle.std.proofs.lemmas.Bool.{cases_Bool, cases_eq, cases_lt, both_ways}
 use Rattle.std.proofs.lemmas.List.{take_more, get_or-map, length-map}
@@ -288,6 +289,32 @@ module _ (piece_len : ℕ) (dir : List ℕ) (copy : Option (List ℕ)) (files : 
         }) changes.steps same;
     spared = λ none. same_on a b c (changes.spared none) same;
   }
+
+  -- a file that is as it was
+  unmended : (seen : Files) (f : FileV2) (x : Files) → MendsFileV2 piece_len dir copy seen f (x (name_of dir f.path)) (x (name_of dir f.path))
+  unmended seen f x = record {
+    bytes = (file_none (name_of dir f.path) f.len (falls_short (hashed_file piece_len f) (bytes_in dir f seen)) (IsWrittenIn piece_len dir copy seen f) x).here;
+    spared = λ none. refl;
+  }
+
+  -- calls that change nothing, in front
+  pub changes_first : (count : ℕ) (a b c : DiskState) → StepsBy IsSame a b → ChangesFiles piece_len dir copy files count b c → ChangesFiles piece_len dir copy files count a c
+  changes_first count a b c same changes =
+      let seen_is : b.seen ≡ a.seen = fun_ext (λ name. same.seen name) in
+      let M = MendsFiles piece_len dir copy files a.seen count in
+      record {
+        steps = steps_on IsSame M M a b c
+            (λ x y is. record {
+              others = λ name apart. is name;
+              each = λ j f before at_j. subst (MendsFileV2 piece_len dir copy a.seen f (x (name_of dir f.path))) (sym (is (name_of dir f.path))) (unmended a.seen f x);
+            })
+            (λ x y z is on. record {
+              others = λ name apart. on.others name apart ∙ is name;
+              each = λ j f before at_j. subst (λ (old : Option (List ℕ)). MendsFileV2 piece_len dir copy a.seen f old (z (name_of dir f.path))) (is (name_of dir f.path)) (on.each j f before at_j);
+            })
+            same (subst (λ (seen : Files). StepsBy (MendsFiles piece_len dir copy files seen count) b c) seen_is changes.steps);
+        spared = λ none. same_on a b c same (changes.spared none);
+      }
 
   pub repaired_then : (count : ℕ) (start : Files) (a b : DiskState) → FilesAreRepaired piece_len dir copy files count start a → StepsBy IsSame a b → FilesAreRepaired piece_len dir copy files count start b
   repaired_then count start a b repaired same j f before at_j =

@@ -12,8 +12,12 @@ ghost use Rattle.payload_repair.specs.Readings.{FindsPiece};
 use crate::job::RepairJob;
 use dl_disk::Disk;
 use dl_kinds::IoErr;
-use merkle_trees::{Hashes, file_root, leaves, piece_root};
-use std::alloc::Global;
+use merkle_trees::{Hashes, file_root, leaves_at_once, piece_root};
+use std::alloc::{AllocError, Global};
+use std::thread::Threads;
+
+/// The least bytes for which a thread is worth its start.
+const THREAD_BYTES: usize = 65_536;
 
 // A piece as it was read: its leaves, none where the file ends before it does, and whether it is right.
 #[derive(Debug, Drop)]
@@ -39,14 +43,29 @@ fn has_hash(job: &RepairJob, leaves: &Hashes, piece: u32) -> bool
     job.hashes[piece as usize] == root
 }
 
+// The leaves of a piece, hashed by so many threads at most, and each by one that has some blocks to hash.
+fn hash_piece<R: Threads + Sync>(
+    rt: &R,
+    alloc: Global,
+    bytes: &[u8],
+    threads: usize,
+) -> Result<Hashes, AllocError>
+    ensures { IfOk result (λ leaves. leaves ≡ leaves_of bytes.now) }
+{
+    let worth = bytes.len() / THREAD_BYTES;
+    leaves_at_once(rt, alloc, bytes, worth.min(threads).max(1))
+}
+
 // Reads a piece of a file that has so many bytes, and checks it. One that goes past them is wrong, and isn't read.
-pub(crate) fn read_piece<D: Disk>(
+pub(crate) fn read_piece<R: Threads + Sync, D: Disk>(
+    rt: &R,
     alloc: Global,
     disk: &mut D,
     job: &RepairJob,
     name: &str,
     len: u64,
     piece: u32,
+    threads: usize,
     into: &mut [u8],
 ) -> Result<ReadPiece, IoErr>
     requires job { IsRepairJob job.now }
@@ -60,7 +79,8 @@ pub(crate) fn read_piece<D: Disk>(
         into.new read.leaves) }
     ensures leaves { IfOk result (λ read. piece_ends_at (hashed job.now) piece ≤ len
         → read.leaves ≡ leaves_of into.new) }
-    ensures past { IfOk result (λ read. IsTrue read.right → piece_ends_at (hashed job.now) piece ≤ len) }
+    ensures past { IfOk result (λ read. IsTrue read.right
+        → piece_ends_at (hashed job.now) piece ≤ len) }
     ensures steps { IsTrue D.tells → StepsBy IsSame (D.state disk.old) (D.state disk.new) }
     ensures cause { HasCause (D.faults disk.old) (D.faults disk.new) result }
 {
@@ -72,17 +92,19 @@ pub(crate) fn read_piece<D: Disk>(
         });
     }
     disk.read_at(name, start, into)?;
-    let leaves = leaves(alloc, into)?;
+    let leaves = hash_piece(rt, alloc, into, threads)?;
     let right = has_hash(job, &leaves, piece);
     Ok(ReadPiece { leaves, right })
 }
 
 // Reads a piece of the copy, and checks it.
-pub(crate) fn read_copy<D: Disk>(
+pub(crate) fn read_copy<R: Threads + Sync, D: Disk>(
+    rt: &R,
     alloc: Global,
     disk: &mut D,
     job: &RepairJob,
     piece: u32,
+    threads: usize,
     into: &mut [u8],
 ) -> Result<ReadPiece, IoErr>
     requires job { IsRepairJob job.now }
@@ -99,7 +121,17 @@ pub(crate) fn read_copy<D: Disk>(
     ensures cause { HasCause (D.faults disk.old) (D.faults disk.new) result }
 {
     match job.copy {
-        Some(name) => read_piece(alloc, disk, job, name, job.copy_len, piece, into),
+        Some(name) => read_piece(
+            rt,
+            alloc,
+            disk,
+            job,
+            name,
+            job.copy_len,
+            piece,
+            threads,
+            into,
+        ),
         None => Ok(ReadPiece {
             leaves: Hashes::new(alloc),
             right: false,

@@ -14,11 +14,13 @@ use crate::counts::Counts;
 use crate::job::RepairJob;
 use crate::mending::mend_pieces;
 use crate::names::{as_text, names_of};
+use crate::watching::RepairWatch;
 use dl_disk::Disk;
 use dl_kinds::{IoErr, Plan};
 use merkle_trees::SHA256_LEN;
 use meta_v2::FileV2;
 use std::alloc::Global;
+use std::thread::Threads;
 
 // The length of a file, 0 where it is missing.
 fn len_of<D: Disk>(disk: &mut D, name: &str) -> Result<u64, IoErr>
@@ -90,14 +92,17 @@ fn job_of<'a>(
 }
 
 // Checks a file and repairs it from its copy.
-pub(crate) fn mend_file<D: Disk>(
+pub(crate) fn mend_file<R: Threads + Sync, D: Disk, W: RepairWatch>(
+    rt: &R,
     alloc: Global,
     disk: &mut D,
     piece_len: u32,
     file: &FileV2,
     dir: &str,
     copy: Option<&str>,
+    threads: usize,
     buffer: &mut [u8],
+    watch: &mut W,
 ) -> Result<Counts, IoErr>
     requires piece_len { IsPieceLen piece_len }
     requires file { IsFileV2 piece_len file.now }
@@ -136,5 +141,5 @@ pub(crate) fn mend_file<D: Disk>(
         copied,
         copy_len,
     );
-    mend_pieces(alloc, disk, &job, buffer)
+    mend_pieces(rt, alloc, disk, &job, threads, buffer, watch)
 }

@@ -12,8 +12,10 @@ mod payload;
 mod placing;
 mod repair_err;
 mod syncing;
+mod watching;
 mod writing;
 
 pub use counts::Counts;
 pub use payload::repair;
 pub use repair_err::RepairErr;
+pub use watching::{RepairWatch, Unwatched};

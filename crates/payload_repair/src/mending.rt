@@ -12,18 +12,23 @@ use crate::checking::{read_copy, read_piece};
 use crate::counts::Counts;
 use crate::job::RepairJob;
 use crate::placing::write_piece;
+use crate::watching::RepairWatch;
 use dl_disk::Disk;
 use dl_kinds::IoErr;
 use std::alloc::Global;
+use std::thread::Threads;
 
 // Checks a piece, and repairs it where it is wrong and the copy has it right.
-fn mend_piece<D: Disk>(
+fn mend_piece<R: Threads + Sync, D: Disk, W: RepairWatch>(
+    rt: &R,
     alloc: Global,
     disk: &mut D,
     job: &RepairJob,
     piece: u32,
     is_first: bool,
+    threads: usize,
     into: &mut [u8],
+    watch: &mut W,
 ) -> Result<Counts, IoErr>
     requires job { IsRepairJob job.now }
     requires piece { piece < job.now.plan.pieces }
@@ -43,7 +48,9 @@ fn mend_piece<D: Disk>(
         → ChangesPiece job.now piece (D.state disk.old) (D.state disk.new) }
     ensures cause { HasCause (D.faults disk.old) (D.faults disk.new) result }
 {
-    let own = read_piece(alloc, disk, job, job.name, job.len, piece, into)?;
+    let own = read_piece(
+        rt, alloc, disk, job, job.name, job.len, piece, threads, into,
+    )?;
     if own.right {
         return Ok(Counts {
             pieces: 1,
@@ -52,7 +59,8 @@ fn mend_piece<D: Disk>(
             blocks: 0,
         });
     }
-    let copy = read_copy(alloc, disk, job, piece, into)?;
+    watch.found_wrong(job.name, piece);
+    let copy = read_copy(rt, alloc, disk, job, piece, threads, into)?;
     if !copy.right {
         return Ok(Counts {
             pieces: 1,
@@ -70,6 +78,7 @@ fn mend_piece<D: Disk>(
         &own.leaves,
         &copy.leaves,
         into,
+        watch,
     )?;
     Ok(Counts {
         pieces: 1,
@@ -80,11 +89,14 @@ fn mend_piece<D: Disk>(
 }
 
 // Checks each piece of a file, and repairs the wrong ones that the copy has right. The buffer has room for a piece.
-pub(crate) fn mend_pieces<D: Disk>(
+pub(crate) fn mend_pieces<R: Threads + Sync, D: Disk, W: RepairWatch>(
+    rt: &R,
     alloc: Global,
     disk: &mut D,
     job: &RepairJob,
+    threads: usize,
     buffer: &mut [u8],
+    watch: &mut W,
 ) -> Result<Counts, IoErr>
     requires job { IsRepairJob job.now }
     requires room { (piece : ℕ) → piece < job.now.plan.pieces
@@ -105,8 +117,11 @@ pub(crate) fn mend_pieces<D: Disk>(
     for piece in 0..job.plan.pieces {
         let (_, size) = job.plan.piece_span(piece);
         let into = &mut buffer[..size as usize];
-        let found = mend_piece(alloc, disk, job, piece, counts.repaired == 0, into)?;
+        let is_first = counts.repaired == 0;
+        let found = mend_piece(rt, alloc, disk, job, piece, is_first, threads, into, watch)?;
         counts = counts.plus(found);
+        watch.checked(size);
     }
+    watch.finished(job.name);
     Ok(counts)
 }

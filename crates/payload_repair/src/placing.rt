@@ -3,18 +3,18 @@ ghost use Rattle.std.specs.Prelude.{◌≡◌, ◌+◌, ◌-◌, ◌*◌, ◌<�
 ghost use Rattle.std.specs.Int.{div_ceil};
 ghost use Rattle.std.specs.List.{range_with_len};
 ghost use Rattle.dl_kinds.specs.Causes.{HasCause};
-ghost use Rattle.dl_kinds.specs.Lists.{part_at};
 ghost use Rattle.dl_kinds.specs.declared.plan.TheConstants.{BLOCK_LEN, MAX_PAYLOAD_LEN, MAX_PIECE_LEN};
 ghost use Rattle.merkle_trees.specs.Leaves.{leaves_of};
 ghost use Rattle.merkle_trees.specs.Places.{differing_places};
 ghost use Rattle.payload_repair.specs.Jobs.{hashed, IsRepairJob};
 ghost use Rattle.payload_repair.specs.Mends.{LengthensFile, MendsPlaces};
 ghost use Rattle.payload_repair.specs.Pieces.{leaves_in_piece, piece_ends_at, piece_size, piece_starts_at};
-ghost use Rattle.payload_repair.specs.Placed.{own_content, IsFitted, IsInPlace};
+ghost use Rattle.payload_repair.specs.Placed.{leaves_from, own_content, HasLeavesOf, IsFitted, IsInPlace};
 ghost use Rattle.payload_repair.specs.Repairs.{places_by_leaves};
 ghost use Rattle.payload_repair.specs.StepsBy.{StepsBy};
 
 use crate::job::RepairJob;
+use crate::watching::RepairWatch;
 use crate::writing::{fit_file, places_below, write_blocks};
 use dl_disk::Disk;
 use dl_kinds::{BLOCK_LEN, IoErr};
@@ -36,21 +36,21 @@ fn fit_first<D: Disk>(disk: &mut D, job: &RepairJob, is_first: bool) -> Result<(
 }
 
 // Writes all the blocks of a piece into a file that was short or missing, and gives their number.
-fn write_all<D: Disk>(
+fn write_all<D: Disk, W: RepairWatch>(
     alloc: Global,
     disk: &mut D,
     job: &RepairJob,
     start: u64,
     is_first: bool,
     bytes: &[u8],
+    watch: &mut W,
 ) -> Result<usize, IoErr>
     requires few { length bytes.now ≤ MAX_PIECE_LEN }
     requires room { start + length bytes.now ≤ job.now.plan.total }
     requires fitted { IsTrue D.tells → is_first ≡ false → IsFitted job.now (D.state disk.old) }
     ensures count { IfOk result (λ count. count ≡ div_ceil (length bytes.now) BLOCK_LEN) }
-    ensures leaves { OnOk result (IsTrue D.tells
-        → leaves_of (part_at (own_content job.now (D.state disk.new).seen) start (length bytes.now))
-        ≡ leaves_of bytes.now) }
+    ensures leaves { OnOk result (IsTrue D.tells → HasLeavesOf bytes.now
+        (own_content job.now (D.state disk.new).seen) start) }
     ensures fitted { OnOk result (IsTrue D.tells → IsFitted job.now (D.state disk.new)) }
     ensures steps { IsTrue D.tells
         → StepsBy (MendsPlaces job.now true start (start + length bytes.now)
@@ -61,12 +61,12 @@ fn write_all<D: Disk>(
     fit_first(disk, job, is_first)?;
     let count = bytes.len().div_ceil(BLOCK_LEN as usize);
     let places = places_below(alloc, count)?;
-    write_blocks(disk, job.name, start, bytes, &places)?;
+    write_blocks(disk, job.name, start, bytes, &places, watch)?;
     Ok(count)
 }
 
 // Writes those blocks of a piece whose leaves differ, and gives their number.
-fn write_differing<D: Disk>(
+fn write_differing<D: Disk, W: RepairWatch>(
     alloc: Global,
     disk: &mut D,
     job: &RepairJob,
@@ -74,19 +74,19 @@ fn write_differing<D: Disk>(
     own: &Hashes,
     copy: &Hashes,
     bytes: &[u8],
+    watch: &mut W,
 ) -> Result<usize, IoErr>
     requires few { length bytes.now ≤ MAX_PIECE_LEN }
     requires room { start + length bytes.now ≤ job.now.plan.total }
     requires same { length own.now ≡ length copy.now }
     requires copy { copy.now ≡ leaves_of bytes.now }
-    requires own { IsTrue D.tells → own.now
-        ≡ leaves_of (part_at (own_content job.now (D.state disk.old).seen) start (length bytes.now)) }
+    requires own { IsTrue D.tells → own.now ≡ leaves_from start
+        (length bytes.now) (own_content job.now (D.state disk.old).seen) }
     requires reached { IsTrue D.tells
         → job.now.plan.total ≤ length (own_content job.now (D.state disk.old).seen) }
     ensures count { IfOk result (λ count. count ≡ length (differing_places own.now copy.now)) }
-    ensures leaves { OnOk result (IsTrue D.tells
-        → leaves_of (part_at (own_content job.now (D.state disk.new).seen) start (length bytes.now))
-        ≡ leaves_of bytes.now) }
+    ensures leaves { OnOk result (IsTrue D.tells → HasLeavesOf bytes.now
+        (own_content job.now (D.state disk.new).seen) start) }
     ensures steps { IsTrue D.tells
         → StepsBy (MendsPlaces job.now false start (start + length bytes.now)
         (differing_places own.now copy.now)) (D.state disk.old) (D.state disk.new) }
@@ -94,13 +94,13 @@ fn write_differing<D: Disk>(
 {
     other_leaves_are_of_other_blocks();
     let places = differing(alloc, own, copy)?;
-    write_blocks(disk, job.name, start, bytes, places.as_slice())?;
+    write_blocks(disk, job.name, start, bytes, places.as_slice(), watch)?;
     Ok(places.len())
 }
 
 // Writes the blocks of a piece that a repair writes, and gives their number. The leaves are those of the piece in the file,
 // where that isn't short, and in the copy, whose bytes these are.
-pub(crate) fn write_piece<D: Disk>(
+pub(crate) fn write_piece<D: Disk, W: RepairWatch>(
     alloc: Global,
     disk: &mut D,
     job: &RepairJob,
@@ -109,6 +109,7 @@ pub(crate) fn write_piece<D: Disk>(
     own: &Hashes,
     copy: &Hashes,
     bytes: &[u8],
+    watch: &mut W,
 ) -> Result<usize, IoErr>
     requires job { IsRepairJob job.now }
     requires piece { piece < job.now.plan.pieces }
@@ -135,7 +136,7 @@ pub(crate) fn write_piece<D: Disk>(
 {
     let (start, _) = job.plan.piece_span(piece);
     if job.len < job.plan.total {
-        return write_all(alloc, disk, job, start, is_first, bytes);
+        return write_all(alloc, disk, job, start, is_first, bytes, watch);
     }
-    write_differing(alloc, disk, job, start, own, copy, bytes)
+    write_differing(alloc, disk, job, start, own, copy, bytes, watch)
 }

@@ -8,6 +8,7 @@ ghost use Rattle.payload_repair.specs.Blocks.{HavePlaces, PutsBlocks};
 ghost use Rattle.payload_repair.specs.Mends.{LengthensFile, MendsBlocks};
 ghost use Rattle.payload_repair.specs.StepsBy.{StepsBy};
 
+use crate::watching::RepairWatch;
 use dl_disk::Disk;
 use dl_kinds::{BLOCK_LEN, IoErr};
 use std::alloc::{AllocError, Global};
@@ -37,7 +38,8 @@ fn write_block<D: Disk>(
     ensures written { OnOk result (IsTrue D.tells → PutsBlocks start bytes.now (place ∷ [])
         (file_bytes ((D.state disk.old).seen name.now))
         (file_bytes ((D.state disk.new).seen name.now))) }
-    ensures steps { IsTrue D.tells → StepsBy (MendsBlocks name.now start (length bytes.now) (place ∷ []))
+    ensures steps { IsTrue D.tells
+        → StepsBy (MendsBlocks name.now start (length bytes.now) (place ∷ []))
         (D.state disk.old) (D.state disk.new) }
     ensures cause { HasCause (D.faults disk.old) (D.faults disk.new) result }
 {
@@ -47,24 +49,27 @@ fn write_block<D: Disk>(
 }
 
 // Writes those blocks of these bytes, which begin at `start` in the file, that are at these places.
-pub(crate) fn write_blocks<D: Disk>(
+pub(crate) fn write_blocks<D: Disk, W: RepairWatch>(
     disk: &mut D,
     name: &str,
     start: u64,
     bytes: &[u8],
     places: &[u16],
+    watch: &mut W,
 ) -> Result<(), IoErr>
     requires places { HavePlaces bytes.now places.now }
     requires room { start + length bytes.now < 2 ^ 63 }
     ensures written { OnOk result (IsTrue D.tells → PutsBlocks start bytes.now places.now
         (file_bytes ((D.state disk.old).seen name.now))
         (file_bytes ((D.state disk.new).seen name.now))) }
-    ensures steps { IsTrue D.tells → StepsBy (MendsBlocks name.now start (length bytes.now) places.now)
+    ensures steps { IsTrue D.tells
+        → StepsBy (MendsBlocks name.now start (length bytes.now) places.now)
         (D.state disk.old) (D.state disk.new) }
     ensures cause { HasCause (D.faults disk.old) (D.faults disk.new) result }
 {
     for place in places {
         write_block(disk, name, start, bytes, *place)?;
+        watch.wrote_block(name, start, *place);
     }
     Ok(())
 }

@@ -9,17 +9,17 @@ use Rattle.payload_repair.proofs.WholeLemmas.{at_item, sound_at, few_at, bounded
 use Rattle.payload_repair.proofs.payload.mend_files.Goals as goal
 
 pub mend_file-requires-clause-file : goal.mend_file-requires-clause-file
-mend_file-requires-clause-file g c =
+mend_file-requires-clause-file g c lifetimes bounds =
     sound_at c.args.meta.now c.requires.sound c.loop-file.file-index c.file-item.result
     (at_item c.as_slice-file-items.result.now c.args.meta.now.files c.loop-file.file-index c.file-item.result c.as_slice-file-items.ensures c.loop-file-test.true c.file-item.is)
 
 pub mend_file-requires-clause-few : goal.mend_file-requires-clause-few
-mend_file-requires-clause-few g c =
+mend_file-requires-clause-few g c lifetimes bounds =
     few_at c.args.meta.now c.requires.sound c.loop-file.file-index c.file-item.result
     (at_item c.as_slice-file-items.result.now c.args.meta.now.files c.loop-file.file-index c.file-item.result c.as_slice-file-items.ensures c.loop-file-test.true c.file-item.is)
 
 pub mend_file-requires-clause-bounded : goal.mend_file-requires-clause-bounded
-mend_file-requires-clause-bounded g c =
+mend_file-requires-clause-bounded g c lifetimes bounds =
     bounded_at c.args.meta.now c.requires.sound c.loop-file.file-index c.file-item.result
     (at_item c.as_slice-file-items.result.now c.args.meta.now.files c.loop-file.file-index c.file-item.result c.as_slice-file-items.ensures c.loop-file-test.true c.file-item.is)
 

@@ -4,7 +4,7 @@ use Rattle.payload_repair.proofs.WholeLemmas.{other_names, changes_then, repaire
 use Rattle.payload_repair.proofs.payload.repair_files.Goals as goal
 
 pub mend_files-requires-clause-names : goal.mend_files-requires-clause-names
-mend_files-requires-clause-names g c = other_names c.names_differ.ensures c.args.dir.now c.args.meta.now c.requires
+mend_files-requires-clause-names g c lifetimes bounds = other_names c.names_differ.ensures c.args.dir.now c.args.meta.now c.requires
 
 pub returns-in_err-counts-clause-kept : goal.returns-in_err-counts-clause-kept
 returns-in_err-counts-clause-kept g c told apart =

@@ -1,0 +1,5 @@
+pub mod Files
+pub mod OneCheck
+pub mod Endings
+pub mod Payloads
+pub mod Checks

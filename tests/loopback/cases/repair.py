@@ -1,0 +1,248 @@
+"""The cases of payloads of version 2 torrents that are checked and repaired, beside libtorrent and hashlib."""
+import os
+
+from lib.faults import Faults
+from lib.rooms import case
+from lib.torrents import Raw, bencoded
+from lib.version2 import BLOCK, Payload2, checked
+from lib.wants import about, want
+
+PIECE = 32_768
+# Three leaves in two pieces.
+FORTY = os.urandom(40_000)
+# Files of all lengths that mean something where a piece has two blocks.
+MANY = {
+    "none": b"",
+    "one": b"1",
+    "d/block": os.urandom(BLOCK),
+    "d/more": os.urandom(BLOCK + 1),
+    "d/e/piece": os.urandom(PIECE),
+    "ü z/more": os.urandom(PIECE + 1),
+    "forty": FORTY,
+    "three": os.urandom(3 * PIECE - 1),
+    "same": FORTY,
+}
+# Five hundred blocks, and pieces of 64 of them.
+LONG = os.urandom(500 * BLOCK + 77)
+KINDS = ("plain", "hybrid")
+
+WORDS = ("--verify-v2=t.torrent", "--dir=own", "--copy-dir=copy")
+
+
+def flipped(content, at):
+    return content[:at] + bytes([content[at] ^ 1]) + content[at + 1 :]
+
+
+def damages(files):
+    """Ways in which files may stand wrong: each a name, and what becomes of them."""
+    some = {path: content for path, content in files.items() if content}
+    yield "nothing", dict(files)
+    yield "the first bytes", {path: flipped(it, 0) if it else it for path, it in files.items()}
+    yield "the last bytes", {path: flipped(it, len(it) - 1) if it else it for path, it in files.items()}
+    yield "the midst", {path: flipped(it, len(it) // 2) if it else it for path, it in files.items()}
+    yield "cut to a half", {path: it[: len(it) // 2] for path, it in files.items()}
+    yield "cut by a byte", {path: it[:-1] for path, it in files.items()}
+    yield "empty files", {path: b"" for path in files}
+    yield "longer", {path: it + b"more" for path, it in files.items()}
+    yield "longer and wrong", {path: flipped(it + b"more", 0) for path, it in files.items()}
+    yield "no files", {}
+    yield "each second missing", dict([*files.items()][::2])
+    yield "zeros", {path: bytes(len(it)) for path, it in some.items()}
+
+
+def want_check(payload, words, own, copy, status=None):
+    """A check of files that stand so ends and leaves them as it has to."""
+    counts, left = payload.files.wanted(own, copy)
+    ended = checked(payload.room, *words)
+    want(ended == (counts.status(), counts.line()), f"it ended with {ended}, and not {counts.status()}, {counts.line()!r}")
+    want(status in (None, ended[0]), f"status {ended[0]}, and not {status}")
+    stands = payload.stands("own")
+    right = {path: content for path, content in left.items() if content is not None}
+    wrong = [path for path in {*stands, *right} if stands.get(path) != right.get(path)]
+    want(not wrong, f"these files don't stand as they should: {wrong}")
+    return counts
+
+
+def each_damage(room, content, name, piece_length):
+    for kind in KINDS:
+        payload = Payload2(room, content, name, piece_length, kind)
+        files = payload.files.files
+        for damage, own in damages(files):
+            with about(f"{kind}, {damage}"):
+                room.clear("own")
+                room.clear("copy")
+                payload.put("own", own)
+                payload.put("copy", files)
+                yield payload, own
+
+
+@case("files of a version 2 torrent are repaired, and libtorrent finds them whole", "libtorrent")
+def _(room):
+    for content, name in ((FORTY, "forty"), (b"hello", "ü z"), (MANY, "many")):
+        for payload, own in each_damage(room, content, name, PIECE):
+            want_check(payload, WORDS, own, payload.files.files, 0)
+            # an empty file isn't made, and libtorrent doesn't miss it
+            want(payload.is_whole("own"), "libtorrent finds a piece that is wrong")
+
+
+@case("files of a version 2 torrent are checked without a copy, and stay as they are", "libtorrent")
+def _(room):
+    for content, name in ((FORTY, "forty"), (MANY, "many")):
+        for payload, own in each_damage(room, content, name, PIECE):
+            before = payload.stands("own")
+            counts = want_check(payload, WORDS[:2], own, {})
+            want(counts.repaired == counts.blocks == 0, "something was repaired")
+            want(payload.stands("own") == before, "a file was changed")
+            want((counts.right == counts.pieces) == payload.is_whole("own"), "libtorrent finds otherwise")
+
+
+@case("a copy that is wrong too repairs the pieces that it has right", "libtorrent")
+def _(room):
+    payload = Payload2(room, MANY, "many", PIECE, "plain")
+    files = payload.files.files
+    ways = dict(damages(files))
+    for one, own in ways.items():
+        for other, copy in ways.items():
+            with about(f"{one}, and of the copy {other}"):
+                room.clear("own")
+                room.clear("copy")
+                payload.put("own", own)
+                payload.put("copy", copy)
+                want_check(payload, WORDS, own, copy)
+                want(payload.stands("copy") == copy, "the copy was changed")
+
+
+@case("the line of a check is as told, and its status", "libtorrent")
+def _(room):
+    Payload2(room, b"hello", "a", BLOCK, "plain")
+    room.put("own/a", b"hellO")
+    room.put("copy/a", b"hello")
+    ended = checked(room, *WORDS[:2])
+    want(ended == (32, b"pieces 1 right 0 repaired 0 blocks 0\n"), f"without a copy it ended with {ended}")
+    ended = checked(room, *WORDS)
+    want(ended == (0, b"pieces 1 right 0 repaired 1 blocks 1\n"), f"it ended with {ended}")
+    ended = checked(room, *WORDS)
+    want(ended == (0, b"pieces 1 right 1 repaired 0 blocks 0\n"), f"it ended with {ended}")
+
+
+@case("a folder that is its own copy stays as it is", "libtorrent")
+def _(room):
+    payload = Payload2(room, MANY, "many", PIECE, "plain")
+    for damage, own in damages(payload.files.files):
+        for other in ("own", "own/.", "../" + os.path.basename(room.folder) + "/own"):
+            with about(f"{damage}, by the name {other}"):
+                room.clear("own")
+                payload.put("own", own)
+                before = payload.stands("own")
+                counts = want_check(payload, (*WORDS[:2], f"--copy-dir={other}"), own, own)
+                want(counts.repaired == 0, "something was repaired")
+                want(payload.stands("own") == before, "a file was changed")
+
+
+def deep(levels, within):
+    """What stands behind so many keys."""
+    return Raw(b"d1:a" * levels + within + b"e" * levels)
+
+
+@case("metainfo files that give no payload of version 2 are refused", "libtorrent")
+def _(room):
+    Payload2(room, b"hello", "a", BLOCK, "plain")
+    room.put("own/a", b"hello")
+    right = room.get("t.torrent")
+    file = bencoded({"": {"length": 5, "pieces root": bytes(32)}})
+    info = {"file tree": {"a": Raw(file)}, "meta version": 2, "name": "a"}
+    for name, status, content in (
+        ("nothing", 25, b""),
+        ("cut by a byte", 25, right[:-1]),
+        ("a byte behind it", 25, right + b"e"),
+        ("a list", 26, b"le"),
+        ("version 1", 26, bencoded({"info": {"length": 5, "name": "a", "piece length": BLOCK, "pieces": bytes(20)}})),
+        ("a piece of 16,383 bytes", 26, bencoded({"info": {**info, "piece length": BLOCK - 1}})),
+        ("a tree of 101 levels", 25, bencoded({"info": {**info, "piece length": BLOCK, "file tree": deep(101, b"de")}})),
+        ("a path of 90 parts", 26, bencoded({"info": {**info, "piece length": BLOCK, "file tree": deep(90, file)}})),
+        ("too long", 26, right.ljust(33_554_433, b" ")),
+    ):
+        room.put("t.torrent", content)
+        ended = checked(room, *WORDS)
+        want(ended == (status, b"error %d\n" % status), f"{name}: it ended with {ended}, and not {status}")
+    room.put("t.torrent", bencoded({"info": {**info, "piece length": BLOCK, "file tree": {}}}))
+    ended = checked(room, *WORDS)
+    want(ended == (0, b"pieces 0 right 0 repaired 0 blocks 0\n"), f"without files it ended with {ended}")
+    for word, status in (("none.torrent", 3), ("own", 17)):
+        ended = checked(room, f"--verify-v2={word}", *WORDS[1:])
+        want(ended == (status, b"error %d\n" % status), f"{word}: it ended with {ended}, and not {status}")
+
+
+@case("a folder in a file's place ends a check", "libtorrent")
+def _(room):
+    payload = Payload2(room, MANY, "many", PIECE, "plain")
+    payload.put("copy", payload.files.files)
+    os.makedirs(room.path("own/many/forty"))
+    ended = checked(room, *WORDS)
+    want(ended == (17, b""), f"it ended with {ended}")
+    room.clear("own")
+    room.clear("copy")
+    payload.put("own", {})
+    os.makedirs(room.path("copy/many/forty"))
+    ended = checked(room, *WORDS)
+    want(ended == (17, b""), f"with the copy's it ended with {ended}")
+
+
+def long_payload(room):
+    """A payload of several files, of which some pieces are wrong, some missing, and all right in the copy."""
+    files = {"d/long": LONG, "small": b"small", "cut": os.urandom(5 * BLOCK), "gone": os.urandom(BLOCK + 5)}
+    payload = Payload2(room, files, "p", 64 * BLOCK, "plain")
+    own = dict(payload.files.files)
+    for at in range(0, len(LONG), 96 * BLOCK):
+        own["p/d/long"] = flipped(own["p/d/long"], at)
+    own["p/cut"] = own["p/cut"][:-BLOCK]
+    del own["p/gone"]
+    payload.put("copy", payload.files.files)
+    return payload, own
+
+
+def right_pieces(payload, folder):
+    stands = payload.stands(folder)
+    return {
+        (path, span)
+        for path in payload.files.files
+        for span in payload.files.spans(path)
+        if payload.files.is_right(path, span, stands.get(path))
+    }
+
+
+def each_call(room, does):
+    """Repairs that don't get past one call of the disk, some fifty of all calls in turn."""
+    faults = Faults(room.folder)
+    payload, own = long_payload(room)
+    room.clear("own")
+    payload.put("own", own)
+    ended = checked(room, *WORDS, shell=faults.noting())
+    want(ended[0] == 0, f"it ended with {ended}")
+    # others look for how many processors there are; a folder that can't be looked for is made, and one that can't be made is looked for
+    numbers = [it.number for it in faults.notes() if it.path.startswith(faults.folder) and "folder" not in it.does]
+    want(len(numbers) > 40, f"just {len(numbers)} calls of the disk came")
+    for number in numbers[:: max(1, len(numbers) // 50)]:
+        room.clear("own")
+        payload.put("own", own)
+        before = right_pieces(payload, "own")
+        with about(f"call {number}"):
+            ended = checked(room, *WORDS, shell=faults.shell(FAULT_AT=number, FAULT_DOES=does))
+            lost = before - right_pieces(payload, "own")
+            want(not lost, f"these pieces were right: {lost}")
+            yield number, ended
+            again = checked(room, *WORDS)
+            want(again[0] == 0, f"the next check ended with {again}")
+            want(payload.stands("own") == payload.files.files, "the next check left a file wrong")
+
+
+@case("a repair that is killed at a call of the disk leaves right what was right", "cc", "libtorrent")
+def _(room):
+    for _, ended in each_call(room, "tears"):
+        want(ended[0] in (-9, 137), f"it ended with {ended}")
+
+
+@case("a repair whose disk fails at a call leaves right what was right", "cc", "libtorrent")
+def _(room):
+    for _, ended in each_call(room, "fails"):
+        want(ended in ((17, b""), (17, b"error 17\n")), f"it ended with {ended}")
