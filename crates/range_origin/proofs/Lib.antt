@@ -1,4 +1,8 @@
 mod Growing
 mod SentTexts
 mod Serving
-mod Turning
+pub mod Turning
+mod Visiting
+mod Talks
+mod Doors
+mod Hearing

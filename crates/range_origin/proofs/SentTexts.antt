@@ -25,13 +25,13 @@ use Rattle.range_origin.specs.Ends.{CausesIfEnd, disk_failed_if, disk_failed_onc
 use Rattle.range_origin.specs.Shelves.{AsksFolder, IsToldOf, LacksSlice}
 use Rattle.range_origin.specs.declared.shelf.Ask.TheVariants.{Length as AskLength}
 use Rattle.range_origin.specs.declared.shelf.Told.{Told}
-use Rattle.range_origin.specs.declared.shelf.Told.TheVariants.{Length, Fault as FaultTold}
+use Rattle.range_origin.specs.declared.shelf.Told.TheVariants.{Length, Fault as FaultTold, NoMemory as ToldNoMemory}
 use Rattle.range_origin.specs.Talking.{Grows, HasSent, IsBreak, IsSendEnd, OriginAt, SendsText, ShelfSight, TookTurns, fault_told, files_below, origin_at}
 use Rattle.range_origin.specs.declared.ends.VisitEnd.{VisitEnd}
 use Rattle.range_origin.specs.declared.ends.VisitEnd.TheVariants.{AtItsEnd, HungUp, Failed, DiskFailed, Cut, Starved}
 use Rattle.range_origin.specs.declared.sending.Piece.TheVariants.{Read as PieceRead, Ended}
 use Rattle.range_origin.proofs.Growing.{grows_both, grows_none, grows_sent}
-use Rattle.range_origin.proofs.Turning.{took_both, took_fewer, took_none}
+use Rattle.range_origin.proofs.Turning.{took_as, took_both, took_none}
 
 -- ---- one call
 
@@ -68,14 +68,14 @@ module _ {A : Type 0} (says : DoorSays A) where
       none_some : Some Starved ≡ None → ⊥
       none_some e = cc
 
-  kind_by : (error : IoErr) → IsSendEnd (Some (visit_end_by error))
+  pub kind_by : (error : IoErr) → IsSendEnd (Some (visit_end_by error))
   kind_by Fault = tt
   kind_by NoMemory = tt
 
-  cause_by : (error : IoErr) (before now : ℕ) → HasCause {T = Unit {0}} before now (Err error)
+  pub cause_by : {R : Type 0} → (error : IoErr) (before now : ℕ) → HasCause {T = R} before now (Err error)
       → CausesIfEnd (Some (visit_end_by error)) before now
-  cause_by Fault before now cause = cause.fault refl
-  cause_by NoMemory before now cause = cause.none refl
+  cause_by {R} Fault before now cause = cause.fault refl
+  cause_by {R} NoMemory before now cause = cause.none refl
 
   some_none : {A : Type 0} (x : A) → Some x ≡ None → ⊥
   some_none x e = cc
@@ -110,7 +110,7 @@ module _ {A : Type 0} (says : DoorSays A) where
             }
       ]
 
-no_disk_failure : (end : Option VisitEnd) → IsSendEnd end → disk_failed_if end ≡ 0
+pub no_disk_failure : (end : Option VisitEnd) → IsSendEnd end → disk_failed_if end ≡ 0
 no_disk_failure None is = refl
 no_disk_failure (Some AtItsEnd) is = refl
 no_disk_failure (Some HungUp) is = refl
@@ -119,7 +119,7 @@ no_disk_failure (Some DiskFailed) is = absurd is
 no_disk_failure (Some Cut) is = refl
 no_disk_failure (Some Starved) is = refl
 
-break_by_call : (end : Option VisitEnd) → IsSendEnd end → IsBreak end
+pub break_by_call : (end : Option VisitEnd) → IsSendEnd end → IsBreak end
 break_by_call None is = tt
 break_by_call (Some AtItsEnd) is = absurd is
 break_by_call (Some HungUp) is = absurd is
@@ -158,7 +158,7 @@ cause_behind end a b c same cause = subst (λ n. CausesIfEnd end n c) same cause
 module _ {D T A : Type 0} (sight : T → ShelfSight D) (disk : DiskSays D) (doors : DoorSays A) where
   -- one call, beside turns
   pub sent_text : (text bytes : List ℕ) (n : ℕ) (end : Option VisitEnd) (d d' : T) (door door' : A)
-      → (IsTrue disk.tells → text ≡ bytes) → TookTurns disk (sight d) n (sight d') → HasSent doors bytes end door door'
+      → (IsTrue disk.tells → text ≡ bytes) → TookTurns disk (sight d) n 0 (sight d') → HasSent doors bytes end door door'
       → SendsText sight disk doors text n end (origin_at d door) (origin_at d' door')
   sent_text text bytes n end d d' door door' same took sent =
       let none = no_disk_failure end sent.kind in
@@ -167,7 +167,7 @@ module _ {D T A : Type 0} (sight : T → ShelfSight D) (disk : DiskSays D) (door
         rest = sent.rest;
         front = λ tells. same tells ∙ sent.front;
         whole = λ tells. sent.whole;
-        took = took_fewer disk (sight d) (sight d') n (n + disk_failed_if end) (omega (arith, none)) took;
+        took = took_as disk (sight d) (sight d') n n 0 (disk_failed_if end) refl (sym none) took;
         told = sent.told;
         cause = sent.cause;
         kind = break_by_call end sent.kind;
@@ -176,7 +176,7 @@ module _ {D T A : Type 0} (sight : T → ShelfSight D) (disk : DiskSays D) (door
 
   -- a turn ended the connection
   pub ended_text : (text : List ℕ) (n : ℕ) (end : VisitEnd) (d d' : T) (door : A) → IsReadEnd end
-      → TookTurns disk (sight d) (n + disk_failed_once end) (sight d') → (IsTrue disk.tells → end ≡ Cut → ⊥)
+      → TookTurns disk (sight d) n (disk_failed_once end) (sight d') → (IsTrue disk.tells → end ≡ Cut → ⊥)
       → SendsText sight disk doors text n (Some end) (origin_at d door) (origin_at d' door)
   ended_text text n end d d' door kind took uncut = record {
     part = [];
@@ -233,8 +233,8 @@ module _ {D T A : Type 0} (sight : T → ShelfSight D) (disk : DiskSays D) (door
         (λ i. done i ++ two.front tells i) ∙ sym (append_assoc one.part two.part two.rest);
     whole = two.whole;
     took =
-        took_fewer disk (sight a.desk) (sight c.desk) ((m + 0) + (n + disk_failed_if end)) ((m + n) + disk_failed_if end) (omega arith)
-        (took_both disk add (sight a.desk) (sight b.desk) (sight c.desk) (m + 0) (n + disk_failed_if end) one.took two.took);
+        took_as disk (sight a.desk) (sight c.desk) (m + n) (m + n) (0 + disk_failed_if end) (disk_failed_if end) refl (omega arith)
+        (took_both disk add (sight a.desk) (sight b.desk) (sight c.desk) m n 0 (disk_failed_if end) one.took two.took);
     told = λ tells.
         grows_both ⊥ [] one.part [] two.part (doors.state a.door) (doors.state b.door) (doors.state c.door) (one.told tells)
         (two.told tells);
@@ -259,9 +259,9 @@ module _ {D T A : Type 0} (sight : T → ShelfSight D) (disk : DiskSays D) (door
   }
 
   -- the files below the folder stay
-  pub files_stay : (n : ℕ) (s s' : ShelfSight D) (name : List ℕ) → TookTurns disk s n s'
+  pub files_stay : (m n : ℕ) (s s' : ShelfSight D) (name : List ℕ) → TookTurns disk s m n s'
       → files_below disk s'.given name ≡ files_below disk s.given name
-  files_stay n s s' name took = ap (λ given. files_below disk given name) took.went.given
+  files_stay m n s s' name took = ap (λ given. files_below disk given name) took.went.given
 
   -- a piece of a file
   pub sent_piece : (name : List ℕ) (at len : ℕ) (bytes : List ℕ) (end : Option VisitEnd) (d d' : T) (door door' : A)
@@ -277,8 +277,7 @@ module _ {D T A : Type 0} (sight : T → ShelfSight D) (disk : DiskSays D) (door
       → HasReadPiece disk name at len (sight d) (sight d') (Ended end)
       → SendsText sight disk doors (part_at (file_bytes (files_below disk (sight d).given name)) at len) 0 (Some end) (origin_at d door) (origin_at d' door)
   ended_piece name at len end d d' door some held read =
-      ended_text _ 0 end d d' door read.1
-      (took_fewer disk (sight d) (sight d') (disk_failed_once end) (0 + disk_failed_once end) (omega arith) read.0)
+      ended_text _ 0 end d d' door read.1 read.0
       (λ tells is. lacks (files_below disk (sight d).given name) (held tells) (read.2 tells is))
     where
       lacks : (file : Option (List ℕ)) → at + len ≤ length (file_bytes file) → LacksSlice file at len → ⊥
@@ -318,7 +317,7 @@ module _ {D T A : Type 0} (sight : T → ShelfSight D) (disk : DiskSays D) (door
       → SendsText sight disk doors (piece_at name first done count b) 0 end b c
       → SendsText sight disk doors (part_at (bytes_of name a) first (done + count)) (0 + 0) end a c
   sends_piece add name first done count end a b c one two =
-      let stay = files_stay sight disk doors (0 + 0) (sight a.desk) (sight b.desk) name one.took in
+      let stay = files_stay sight disk doors 0 0 (sight a.desk) (sight b.desk) name one.took in
       sends_same sight disk doors _ _ (0 + 0) end a c
       (λ tells.
       part_both (bytes_of name a) first done count
@@ -356,7 +355,7 @@ module _ {D T A : Type 0} (sight : T → ShelfSight D) (disk : DiskSays D) (door
       → (IsTrue disk.tells → first + len ≤ length (bytes_of name a)) → IsSending name first len done a b
       → IsTrue disk.tells → first + done + count ≤ length (bytes_of name b)
   still_held name first len done count a b within held is tells =
-      let stay = files_stay sight disk doors 0 (sight a.desk) (sight b.desk) name is.sent.took in
+      let stay = files_stay sight disk doors 0 0 (sight a.desk) (sight b.desk) name is.sent.took in
       let has = held tells in
       subst (λ file. first + done + count ≤ length (file_bytes file)) (sym stay) (omega (arith, within, has))
 
@@ -386,7 +385,7 @@ module _ {D T A : Type 0} (sight : T → ShelfSight D) (disk : DiskSays D) (door
   -- ---- behind a look for a length
 
   pub behind_look : TurnsAddUp (AsksFolder disk) → (text other : List ℕ) (n : ℕ) (end : Option VisitEnd) (d d' : T) (door : A) (c : OriginAt T A)
-      → TookTurns disk (sight d) n (sight d') → (IsTrue disk.tells → other ≡ text)
+      → TookTurns disk (sight d) n 0 (sight d') → (IsTrue disk.tells → other ≡ text)
       → SendsText sight disk doors text 0 end (origin_at d' door) c → SendsText sight disk doors other n end (origin_at d door) c
   behind_look add text other n end d d' door c took same sends = record {
     part = sends.part;
@@ -394,8 +393,8 @@ module _ {D T A : Type 0} (sight : T → ShelfSight D) (disk : DiskSays D) (door
     front = λ tells. same tells ∙ sends.front tells;
     whole = sends.whole;
     took =
-        took_fewer disk (sight d) (sight c.desk) (n + (0 + disk_failed_if end)) (n + disk_failed_if end) (omega arith)
-        (took_both disk add (sight d) (sight d') (sight c.desk) n (0 + disk_failed_if end) took sends.took);
+        took_as disk (sight d) (sight c.desk) (n + 0) n (0 + disk_failed_if end) (disk_failed_if end) (omega arith) (omega arith)
+        (took_both disk add (sight d) (sight d') (sight c.desk) n 0 0 (disk_failed_if end) took sends.took);
     told = sends.told;
     cause = sends.cause;
     kind = sends.kind;
@@ -431,9 +430,9 @@ module _ {D T A : Type 0} (sight : T → ShelfSight D) (disk : DiskSays D) (door
       → SendsText sight disk doors (reply_and_content head (reply_by_length head (Some total)) (file_of name d')) 0 end (origin_at d' door) c
       → AnswersFile sight disk doors head name end (origin_at d door) c
   answers_sized add head name total end told d d' door c looked is sends =
-      let stay : file_of name d' ≡ file_of name d = files_stay sight disk doors (fault_told told) (sight d) (sight d') name looked.took in (
+      let stay : file_of name d' ≡ file_of name d = files_stay sight disk doors (fault_told told) 0 (sight d) (sight d') name looked.took in (
         false,
-        behind_look sight disk doors add _ _ 0 end d d' door c (took_fewer disk (sight d) (sight d') (fault_told told) 0 (omega arith) looked.took)
+        behind_look sight disk doors add _ _ 0 end d d' door c (took_as disk (sight d) (sight d') (fault_told told) 0 0 0 (ap fault_told is) refl looked.took)
             (λ tells i. reply_and_content head (reply_by_length head (sym (told_by name d d' told (Some total) looked is tells) i)) (sym stay i)) sends,
       )
 
@@ -448,7 +447,7 @@ module _ {D T A : Type 0} (sight : T → ShelfSight D) (disk : DiskSays D) (door
         let none = no_length (file_of name d) (told_by name d d' told None looked is tells) in
         ap (λ file. reply_and_content head (reply_by_length head (option_map length file)) file) none
         ∙ (ap (λ c. head_of_reply NotFound ++ c) (no_content (is_get head) []) ∙ append-nil (head_of_reply NotFound)))
-        (took_fewer disk (sight d) (sight d') (fault_told told) 0 (omega arith) looked.took) sent,
+        (took_as disk (sight d) (sight d') (fault_told told) 0 0 0 (ap fault_told is) refl looked.took) sent,
   )
 
   -- the disk failed
@@ -461,17 +460,18 @@ module _ {D T A : Type 0} (sight : T → ShelfSight D) (disk : DiskSays D) (door
         (λ tells.
         ap (λ c. head_of_reply FailedReply ++ c) (no_content (is_get head) (file_bytes (file_of name d)))
         ∙ append-nil (head_of_reply FailedReply))
-        (subst (λ told. TookTurns disk (sight d) (fault_told told) (sight d')) is looked.took) sent,
+        (subst (λ told. TookTurns disk (sight d) (fault_told told) 0 (sight d')) is looked.took) sent,
   )
 
   -- memory was wanting
   pub answers_starved : (head : AskHead) (name : List ℕ) (told : Told) (d d' : T) (door : A)
-      → HasLookedUp disk name (sight d) (sight d') told
+      → HasLookedUp disk name (sight d) (sight d') told → told ≡ ToldNoMemory
       → AnswersFile sight disk doors head name (Some Starved) (origin_at d door) (origin_at d' door)
-  answers_starved head name told d d' door looked = (
+  answers_starved head name told d d' door looked is = (
     false,
     ended_text sight disk doors _ 0 Starved d d' door tt
-        (took_fewer disk (sight d) (sight d') (fault_told told) (0 + 0) (omega arith) looked.took) (λ tells is. starved_uncut is),
+        (took_as disk (sight d) (sight d') (fault_told told) 0 0 0 (ap fault_told is) refl looked.took)
+        (λ tells cut. starved_uncut cut),
   )
 
   -- ---- any request
@@ -498,5 +498,5 @@ module _ {D T A : Type 0} (sight : T → ShelfSight D) (disk : DiskSays D) (door
   answers_none_read none head d door = (
     false,
     ended_text sight disk doors _ 0 Starved d d door tt
-        (took_fewer disk (sight d) (sight d) 0 (0 + 0) (omega arith) (took_none disk none (sight d))) (λ tells is. starved_uncut is),
+        (took_none disk none (sight d)) (λ tells is. starved_uncut is),
   )

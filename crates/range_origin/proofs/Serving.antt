@@ -20,6 +20,10 @@ last_behind : {O A E : Type 0} (m : Stamp) (ts : List (Turn O A E)) (t : Turn O 
 last_behind m [] t = refl
 last_behind m (u ∷ ts) t = last_behind u.after ts t
 
+some_behind : {A : Type 0} (xs : List A) (x : A) → xs ++ x ∷ [] ≡ [] → ⊥
+some_behind [] x e = cc
+some_behind (y ∷ xs) x e = cc
+
 module _ {D : Type 0} (says : DiskSays D) where
   -- behind a call that changed nothing and had no fault
   pub after_look : (ask : Ask) (place : List ℕ) (old mid new : D) (told : Told)
@@ -59,5 +63,6 @@ module _ {D : Type 0} (says : DiskSays D) where
           same = λ tells name. has.same tells name ∙ after.same tells name;
           each = all_behind (IsAsked says (folder_at says first dir)) turns t after.each asked;
           mark = sym (last_behind (mark_of says new) turns t);
+          still = λ none. absurd (some_behind turns t none);
         },
       )

@@ -37,15 +37,15 @@ module _ {D : Type 0} (says : DiskSays D) where
   -- so many bytes of the file were read, or it is told how the connection ends
   abbrev pub HasReadPiece : List ℕ → ℕ → ℕ → ShelfSight D → ShelfSight D → Piece → Type 0
   HasReadPiece name at len s s' (PieceRead bytes) =
-      TookTurns says s 0 s' × (length bytes ≡ len)
+      TookTurns says s 0 0 s' × (length bytes ≡ len)
       × (IsTrue says.tells → ReadsAt (files_below says s.given name) at bytes)
   HasReadPiece name at len s s' (Ended end) =
-      TookTurns says s (disk_failed_once end) s' × IsReadEnd end
+      TookTurns says s 0 (disk_failed_once end) s' × IsReadEnd end
       × (IsTrue says.tells → end ≡ Cut → LacksSlice (files_below says s.given name) at len)
 
   -- the length of a file was looked up
   pub record HasLookedUp (name : List ℕ) (s s' : ShelfSight D) (told : Told) : Type 0 where
-    pub took : TookTurns says s (fault_told told) s'
+    pub took : TookTurns says s (fault_told told) 0 s'
     pub fits : FitsAsk (AskLength name) told
     pub is : IsTrue says.tells → IsToldOf (files_below says s.given name) (AskLength name) told
 

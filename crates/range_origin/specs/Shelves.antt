@@ -101,8 +101,10 @@ module _ {D : Type 0} (says : DiskSays D) where
   abbrev pub AsksFolder : Folder D → List (Turn Ask Told (Folder D)) → Turn Ask Told (Folder D) → Type 0
   AsksFolder start turns t = IsAsked start t
 
-  -- the files are those at the start, each turn is one of the folder, and the mark is that behind the last of them
+  -- The files are those at the start, each turn is one of the folder, and the mark is that behind the last of them. The disk is
+  -- as it was, where there is none.
   pub record IsShelfAfter (first : D) (dir : List ℕ) (disk : D) (turns : List (Turn Ask Told (Folder D))) : Type 0 where
     pub same : IsTrue says.tells → IsSame (says.state first).seen (says.state disk).seen
     pub each : AllByRecursion (IsAsked (folder_at first dir)) turns
     pub mark : mark_of disk ≡ last_mark (mark_of disk) turns
+    pub still : turns ≡ [] → disk ≡ first

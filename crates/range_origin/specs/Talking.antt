@@ -1,5 +1,5 @@
 -- What is received and sent in a connection, and the turns at the desk beside it.
-use Rattle.std.specs.Prelude.{◌≡◌, ◌≤◌, ℕ, ◌+◌, IsTrue, List, [], ◌∷◌, ◌++◌, Option, Some, None}
+use Rattle.std.specs.Prelude.{◌≡◌, ℕ, ◌+◌, Bool, true, IsTrue, List, [], ◌∷◌, ◌++◌, Option, Some, None}
 use Rattle.dl_disk.specs.Files.{Files}
 use Rattle.dl_disk.specs.declared.disk.Disk.{Ghosts as DiskSays}
 use Rattle.door_source.specs.Doors.{Connection, DoorState}
@@ -13,6 +13,7 @@ use Rattle.range_origin.specs.Shelves.{AsksFolder, shelf_name}
 use Rattle.range_origin.specs.declared.ends.VisitEnd.{VisitEnd}
 use Rattle.range_origin.specs.declared.ends.VisitEnd.TheVariants.{AtItsEnd, HungUp, Failed, Cut, Starved}
 use Rattle.range_origin.specs.declared.shelf.Ask.{Ask}
+use Rattle.range_origin.specs.declared.shelf.Ask.TheVariants.{Length as AskLength, Read}
 use Rattle.range_origin.specs.declared.shelf.Folder.{Folder}
 use Rattle.range_origin.specs.declared.shelf.Told.{Told}
 use Rattle.range_origin.specs.declared.shelf.Told.TheVariants.{Fault}
@@ -29,23 +30,39 @@ abbrev pub fault_told : Told → ℕ
 fault_told (Fault count) = 1
 fault_told other = 0
 
--- in how many of the turns the disk failed
-abbrev pub faults_told : {D : Type 0} → List (ShelfTurn D) → ℕ
-faults_told [] = 0
-faults_told (t ∷ turns) = fault_told t.answer + faults_told turns
+-- whether the disk failed where the length of a file was looked up: once or not
+abbrev pub look_failed : Ask → Told → ℕ
+look_failed (AskLength name) told = fault_told told
+look_failed (Read name at len) told = 0
+
+-- .. where bytes of a file were read
+abbrev pub read_failed : Ask → Told → ℕ
+read_failed (AskLength name) told = 0
+read_failed (Read name at len) told = fault_told told
+
+-- in how many of the turns the look for a length met a fault
+abbrev pub looks_failed : {D : Type 0} → List (ShelfTurn D) → ℕ
+looks_failed [] = 0
+looks_failed (t ∷ turns) = look_failed t.op t.answer + looks_failed turns
+
+-- .. and in how many the reading of bytes did
+abbrev pub reads_failed : {D : Type 0} → List (ShelfTurn D) → ℕ
+reads_failed [] = 0
+reads_failed (t ∷ turns) = read_failed t.op t.answer + reads_failed turns
 
 module _ {D : Type 0} (says : DiskSays D) where
   -- the files below the folder, at the start
   abbrev pub files_below : Given (Folder D) (Folder D) → Files
   files_below given name = (says.state given.start.disk).seen (shelf_name given.start.dir name)
 
-  -- some turns were taken, and in so many of them, or more, the disk failed
-  pub record TookTurns (s : ShelfSight D) (faults : ℕ) (s' : ShelfSight D) : Type 0 where
+  -- Some turns were taken. In just so many the look for a length met a fault, and in so many the reading of bytes.
+  pub record TookTurns (s : ShelfSight D) (looks reads : ℕ) (s' : ShelfSight D) : Type 0 where
     pub mine : List (ShelfTurn D)
     pub went : Went (AsksFolder says) s mine s'
-    pub failed : faults ≤ faults_told mine
+    pub looks_are : looks_failed mine ≡ looks
+    pub reads_are : reads_failed mine ≡ reads
 
--- an end by a call that sends
+-- an end by a call of the door
 abbrev pub IsSendEnd : Option VisitEnd → Type 0
 IsSendEnd None = Unit {0}
 IsSendEnd (Some Failed) = Unit {0}
@@ -79,10 +96,11 @@ pub record Grows (all : Type 0) (received sent : List ℕ) (old new : DoorState)
   pub is_closed : new.is_closed ≡ old.is_closed
 
 module _ {A : Type 0} (says : DoorSays A) where
-  -- this piece came, or it is told how the connection ends
-  pub record HasHeard (piece : List ℕ) (end : Option VisitEnd) (old new : A) : Type 0 where
-    pub told : IsTrue says.tells → Grows (end ≡ Some AtItsEnd) piece [] (says.state old) (says.state new)
+  -- this piece came: all that the peer had still to send, where it is over
+  pub record HasHeard (piece : List ℕ) (is_over : Bool) (end : Option VisitEnd) (old new : A) : Type 0 where
+    pub told : IsTrue says.tells → Grows (is_over ≡ true) piece [] (says.state old) (says.state new)
     pub cause : CausesIfEnd end (says.faults old) (says.faults new)
+    pub kind : IsSendEnd end
 
   -- a front of the text was sent, and all of it, unless it is told how the connection ends
   pub record HasSent (text : List ℕ) (end : Option VisitEnd) (old new : A) : Type 0 where
@@ -103,13 +121,14 @@ abbrev pub origin_at : {T A : Type 0} → T → A → OriginAt T A
 origin_at {T} {A} desk door = record { desk = desk; door = door }
 
 module _ {D T A : Type 0} (sight : T → ShelfSight D) (disk : DiskSays D) (doors : DoorSays A) where
-  -- By turns a front of the text was sent, as far as the disk tells what it is. In so many turns, or more, the disk failed.
-  pub record SendsText (text : List ℕ) (faults : ℕ) (end : Option VisitEnd) (a b : OriginAt T A) : Type 0 where
+  -- By turns a front of the text was sent, as far as the disk tells what it is. In so many turns the look for a length met a
+  -- fault.
+  pub record SendsText (text : List ℕ) (looks : ℕ) (end : Option VisitEnd) (a b : OriginAt T A) : Type 0 where
     pub part : List ℕ
     pub rest : List ℕ
     pub front : IsTrue disk.tells → text ≡ part ++ rest
     pub whole : IsTrue disk.tells → end ≡ None → rest ≡ []
-    pub took : TookTurns disk (sight a.desk) (faults + disk_failed_if end) (sight b.desk)
+    pub took : TookTurns disk (sight a.desk) looks (disk_failed_if end) (sight b.desk)
     pub told : IsTrue doors.tells → Grows ⊥ [] part (doors.state a.door) (doors.state b.door)
     pub cause : CausesIfEnd end (doors.faults a.door) (doors.faults b.door)
     pub kind : IsBreak end

@@ -21,6 +21,17 @@ pub enum VisitEnd {
     Starved,
 }
 
+/// Why a door is served no more.
+#[derive(Clone, Copy, Debug, PartialEq, Eq)]
+pub enum OriginEnd {
+    /// No client comes any more.
+    Closed,
+    /// No client could be let in. The count is that of the door's faults.
+    Fault { count: u64 },
+    /// The buffers couldn't be made.
+    NoMemory,
+}
+
 pub(crate) fn visit_end_by(error: IoErr) -> VisitEnd
     ensures { result ≡ visit_end_by error }
 {

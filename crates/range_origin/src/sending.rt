@@ -43,7 +43,7 @@ fn send<A: Doors>(door: &mut A, bytes: &[u8]) -> Option<VisitEnd>
     }
 }
 
-fn send_head<A: Doors>(alloc: Global, door: &mut A, reply: Reply) -> Option<VisitEnd>
+pub(crate) fn send_head<A: Doors>(alloc: Global, door: &mut A, reply: Reply) -> Option<VisitEnd>
     requires within { IsWithinFile reply }
     requires opened { IsTrue A.tells → (A.state door.old).is_open ≡ true }
     ensures stays_open { IsTrue A.tells → (A.state door.new).is_open ≡ true }
@@ -74,7 +74,8 @@ fn read_piece<D: Disk, T: Desk<Shelf<D>>>(
     at: u64,
     len: u32,
 ) -> Piece
-    ensures { HasReadPiece D.Disk name.now at len (T.sight desk.old) (T.sight desk.new) result }
+    ensures desk_id { T.desk_id desk.new ≡ T.desk_id desk.old }
+    ensures read { HasReadPiece D.Disk name.now at len (T.sight desk.old) (T.sight desk.new) result }
 {
     turns_add_up::<Shelf<D>>();
     match name.copy(alloc) {
@@ -85,7 +86,8 @@ fn read_piece<D: Disk, T: Desk<Shelf<D>>>(
 
 // Looks the length of a file up in a turn.
 fn look_up<D: Disk, T: Desk<Shelf<D>>>(alloc: Global, desk: &mut T, name: &Text) -> Told
-    ensures { HasLookedUp D.Disk name.now (T.sight desk.old) (T.sight desk.new) result }
+    ensures desk_id { T.desk_id desk.new ≡ T.desk_id desk.old }
+    ensures looked { HasLookedUp D.Disk name.now (T.sight desk.old) (T.sight desk.new) result }
 {
     turns_add_up::<Shelf<D>>();
     match name.copy(alloc) {
@@ -108,6 +110,7 @@ fn send_piece<D: Disk, A: Doors, T: Desk<Shelf<D>>>(
         → at + len ≤ length (file_bytes (files_below D.Disk (T.sight desk.old).given name.now)) }
     requires opened { IsTrue A.tells → (A.state door.old).is_open ≡ true }
     ensures stays_open { IsTrue A.tells → (A.state door.new).is_open ≡ true }
+    ensures desk_id { T.desk_id desk.new ≡ T.desk_id desk.old }
     ensures sent { SendsText T.sight D.Disk A.Doors
         (part_at (file_bytes (files_below D.Disk (T.sight desk.old).given name.now)) at len) 0
         result (origin_at desk.old door.old) (origin_at desk.new door.new) }
@@ -132,6 +135,7 @@ fn send_body<D: Disk, A: Doors, T: Desk<Shelf<D>>>(
         → first + len ≤ length (file_bytes (files_below D.Disk (T.sight desk.old).given name.now)) }
     requires opened { IsTrue A.tells → (A.state door.old).is_open ≡ true }
     ensures stays_open { IsTrue A.tells → (A.state door.new).is_open ≡ true }
+    ensures desk_id { T.desk_id desk.new ≡ T.desk_id desk.old }
     ensures sent { SendsText T.sight D.Disk A.Doors
         (part_at (file_bytes (files_below D.Disk (T.sight desk.old).given name.now)) first len) 0
         result (origin_at desk.old door.old) (origin_at desk.new door.new) }
@@ -163,6 +167,7 @@ fn send_reply<D: Disk, A: Doors, T: Desk<Shelf<D>>>(
         ≤ length (file_bytes (files_below D.Disk (T.sight desk.old).given name.now)) }
     requires opened { IsTrue A.tells → (A.state door.old).is_open ≡ true }
     ensures stays_open { IsTrue A.tells → (A.state door.new).is_open ≡ true }
+    ensures desk_id { T.desk_id desk.new ≡ T.desk_id desk.old }
     ensures sent { SendsText T.sight D.Disk A.Doors
         (reply_and_content head.now reply (files_below D.Disk (T.sight desk.old).given name.now)) 0
         result (origin_at desk.old door.old) (origin_at desk.new door.new) }
@@ -191,6 +196,7 @@ fn answer_sized<D: Disk, A: Doors, T: Desk<Shelf<D>>>(
         → length (file_bytes (files_below D.Disk (T.sight desk.old).given name.now)) ≡ total }
     requires opened { IsTrue A.tells → (A.state door.old).is_open ≡ true }
     ensures stays_open { IsTrue A.tells → (A.state door.new).is_open ≡ true }
+    ensures desk_id { T.desk_id desk.new ≡ T.desk_id desk.old }
     ensures sent { SendsText T.sight D.Disk A.Doors
         (reply_and_content head.now (reply_by_length head.now (Some total))
         (files_below D.Disk (T.sight desk.old).given name.now)) 0
@@ -210,6 +216,7 @@ fn answer_file<D: Disk, A: Doors, T: Desk<Shelf<D>>>(
 ) -> Option<VisitEnd>
     requires opened { IsTrue A.tells → (A.state door.old).is_open ≡ true }
     ensures stays_open { IsTrue A.tells → (A.state door.new).is_open ≡ true }
+    ensures desk_id { T.desk_id desk.new ≡ T.desk_id desk.old }
     ensures answers { AnswersFile T.sight D.Disk A.Doors head.now name.now
         result (origin_at desk.old door.old) (origin_at desk.new door.new) }
 {
@@ -234,6 +241,7 @@ pub fn answer<D: Disk, A: Doors, T: Desk<Shelf<D>>>(
 ) -> Option<VisitEnd>
     requires opened { IsTrue A.tells → (A.state door.old).is_open ≡ true }
     ensures stays_open { IsTrue A.tells → (A.state door.new).is_open ≡ true }
+    ensures desk_id { T.desk_id desk.new ≡ T.desk_id desk.old }
     ensures answers { AnswersHead T.sight D.Disk A.Doors head.now
         result (origin_at desk.old door.old) (origin_at desk.new door.new) }
 {

@@ -1,0 +1,5 @@
+mod Counting
+mod SharedPasses
+mod Chairs
+mod Closing
+mod Sends
