@@ -20,9 +20,11 @@ from cases import (  # each lists its cases
     metainfos,
     moves,
     one_request,
+    origin,
     peers,
     rates,
     readout,
+    repair,
     replies,
     rests,
     resumes,
@@ -33,6 +35,7 @@ from cases import (  # each lists its cases
 )
 from lib.mirrors import free_port
 from lib.rooms import CASES, PROGRAM, Room
+from lib.version2 import has_libtorrent
 from lib.wants import Late, Skipped, Wrong
 
 
@@ -61,6 +64,8 @@ def lacking():
         gone.add("ipv6")
     if "unshare" not in gone and not can_unshare():
         gone.add("unshare")
+    if not has_libtorrent():
+        gone.add("libtorrent")
     return gone
 
 
@@ -113,6 +118,9 @@ def tried_alone(late, tried):
 def main():
     # a stop from outside unwinds, so that each server is ended
     signal.signal(signal.SIGTERM, lambda *_: sys.exit(1))
+    # who runs this in the background has it ignore what is to end the programs that it starts
+    signal.signal(signal.SIGINT, signal.default_int_handler)
+    signal.signal(signal.SIGHUP, signal.SIG_DFL)
     resource.setrlimit(resource.RLIMIT_CORE, (0, 0))
     # a mirror that sends byte by byte isn't to wait for threads that compute
     sys.setswitchinterval(0.0002)

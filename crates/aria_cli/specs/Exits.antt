@@ -3,6 +3,8 @@ use Rattle.std.specs.Prelude.{◌≡◌, ℕ, List}
 use Rattle.aria_top.specs.Began.{BeganOrNot}
 use Rattle.aria_top.specs.Loads.{RunsLoads}
 use Rattle.aria_top.specs.OneRun.{OneRun}
+use Rattle.aria_top.specs.Origins.{ServesFolders}
+use Rattle.aria_top.specs.PayloadChecks.{ChecksPayloads}
 use Rattle.aria_top.specs.Promises.{Does, HasEnding}
 use Rattle.dl_clock.specs.declared.clock.Clock.{Ghosts as ClockSays}
 use Rattle.dl_clock.specs.declared.memory.MemClock.{MemClock}
@@ -28,3 +30,5 @@ module _ (disks : DiskSays SoundDisk) (links : LinkSays SoundLinks) (clocks : Cl
     pub ending : HasEnding own_disk out run
     pub does : Does own_disk own_links own_clocks own_doors out run
     pub loads : RunsLoads disks links clocks doors sinks out run
+    pub serves : ServesFolders own_disk own_doors run
+    pub checks : ChecksPayloads own_disk out run

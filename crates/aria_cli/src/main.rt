@@ -7,14 +7,17 @@ ghost use Rattle.aria_top.specs.declared.limits.TheConstants.{CONSOLE_DOORS};
 ghost use Rattle.shared_run.specs.declared.limits.TheConstants.{MAX_DOORS, MAX_LINKS};
 
 use aria_top::{CONSOLE_DOORS, FinishedRun, Needs, needs_of, run};
+use command_meanings::{Meaning, ServeLine, meaning_of};
 use dl_clock::{Clock, MemClock};
 use dl_disk::Disk;
-use dl_kinds::{ExitStatus, Sink};
+use dl_kinds::{ExitStatus, Sink, Text};
 use door_source::{Doors, MemDoors};
 use link_source::Links;
 use load_setup::{SoundDisk, SoundLinks, UnseenSink};
-use real_edge::{FileDisk, StdClock, StdOut, TcpDoors, TcpLinks, listen_on};
-use run_readout::{Progress, Terminal, WatchedDisk, WatchedLinks, WatchedSink};
+use option_set::{Options, Word};
+use payload_repair::RepairWatch;
+use real_edge::{EdgeDisk, FileDisk, FolderDisk, StdClock, StdOut, TcpDoors, TcpLinks, listen_on};
+use run_readout::{CheckReadout, Progress, Terminal, WatchedDisk, WatchedLinks, WatchedSink};
 use std::alloc::Global;
 use std::io::{ErrorKind, IsTerminal, Stderr, Stdout};
 use std::net::{Ipv4Addr, SocketAddr, SocketAddrV4, TcpListener};
@@ -32,7 +35,7 @@ type Link<'a> = WatchedLinks<'a, TcpLinks<'a, HostRuntime>, RealClock<'a>, Stder
 
 type Door<'a> = TcpDoors<'a, HostRuntime>;
 
-type RealDisk<'a> = WatchedDisk<'a, FileDisk<'a, HostRuntime>>;
+type RealDisk<'a> = WatchedDisk<'a, EdgeDisk<'a, HostRuntime>>;
 
 type Output<'a> = WatchedSink<'a, StdOut<Stdout>, Stderr>;
 
@@ -63,8 +66,59 @@ fn program<R: Threads + Wait + Sync>(
         doors: 0,
         port: 0,
     });
+    let folder = folder_of(rt.alloc(), &words)?;
     let listener = listener(rt, needs)?;
-    run_at(threads, rt, shared, &words, needs, listener.as_ref())
+    if let Some(listener) = &listener {
+        tell_who_is_served(rt, &words, listener)?;
+    }
+    run_at(
+        threads,
+        rt,
+        shared,
+        &words,
+        needs,
+        folder,
+        listener.as_ref(),
+    )
+}
+
+// The folder that the words ask to serve.
+fn folder_of(alloc: Global, words: &[String]) -> io::Result<Option<Text>> {
+    match meaning_of(alloc, words)? {
+        Some(Meaning::Serve(line)) => Ok(Some(line.dir)),
+        Some(Meaning::Download(_line)) => Ok(None),
+        Some(Meaning::Load(_number)) => Ok(None),
+        Some(Meaning::Check(_line)) => Ok(None),
+        None => Ok(None),
+    }
+}
+
+// Where a folder is served; and that a console without a secret is steered by all who reach it.
+fn tell_who_is_served(
+    rt: &HostRuntime,
+    words: &[String],
+    listener: &TcpListener,
+) -> io::Result<()> {
+    let at = listener.local_addr()?;
+    match meaning_of(rt.alloc(), words)? {
+        Some(Meaning::Serve(line)) => tell_folder(rt, &line, at),
+        Some(Meaning::Download(line)) => tell_console(rt, &line.globals, at),
+        Some(Meaning::Load(_number)) => Ok(()),
+        Some(Meaning::Check(_line)) => Ok(()),
+        None => Ok(()),
+    }
+}
+
+fn tell_folder(rt: &HostRuntime, line: &ServeLine, at: SocketAddr) -> io::Result<()> {
+    let dir = line.dir.as_str();
+    eprintln!(rt; "aria_cli: the files below {dir} are served at http://{at}/")
+}
+
+fn tell_console(rt: &HostRuntime, globals: &Options, at: SocketAddr) -> io::Result<()> {
+    if globals.text(Word::RpcSecret).is_some() {
+        return Ok(());
+    }
+    eprintln!(rt; "aria_cli: whoever reaches {at} steers the run: --rpc-secret isn't set")
 }
 
 /// The exit status of the run of these words: the code of its ending.
@@ -75,6 +129,7 @@ fn exit_status<
     A: Doors + Send + Drop,
     K: Clock + Send + Drop,
     O: Sink,
+    W: RepairWatch,
 >(
     rt: &R,
     alloc: Global,
@@ -85,6 +140,7 @@ fn exit_status<
     doors: Vec<(A, K)>,
     gids: u64,
     out: &mut O,
+    watch: &mut W,
 ) -> u8
     requires links { (1 ≤ length links.items) × (length links.items ≤ MAX_LINKS) }
     requires doors { length doors.items ≤ MAX_DOORS }
@@ -99,7 +155,7 @@ fn exit_status<
         doors: _doors,
         transcripts: _transcripts,
         journal: _journal,
-    } = run(rt, alloc, words, disk, over, links, doors, gids, out);
+    } = run(rt, alloc, words, disk, over, links, doors, gids, out, watch);
     ending.code()
 }
 
@@ -109,6 +165,7 @@ fn run_at<'a, R: Threads + Wait + Sync>(
     shared: &'a Shared,
     words: &[String],
     needs: Needs,
+    folder: Option<Text>,
     listener: Option<&'a TcpListener>,
 ) -> io::Result<u8>
     requires { (1 ≤ needs.links) × (needs.links ≤ MAX_LINKS) }
@@ -123,13 +180,22 @@ fn run_at<'a, R: Threads + Wait + Sync>(
     let doors = doors(rt, listener, over, needs.doors.min(CONSOLE_DOORS))?;
     let gids = random_number(rt)?;
     let mut out = WatchedSink::new(StdOut::new(rt.stdout()), progress, rt.stderr());
-    let disk = WatchedDisk::new(alloc, FileDisk::new(rt), progress);
+    let mut watch = CheckReadout::new(progress, terminal(rt)?, rt.stderr());
+    let disk = WatchedDisk::new(alloc, disk_of(rt, folder), progress);
     Ok(exit_status(
-        threads, alloc, words, disk, over, links, doors, gids, &mut out,
+        threads, alloc, words, disk, over, links, doors, gids, &mut out, &mut watch,
     ))
 }
 
-// One listener for all doors, where the console is on. Where it can't be had, nobody is let in.
+// All files, or those below a folder that is served.
+fn disk_of<'a>(rt: &'a HostRuntime, folder: Option<Text>) -> EdgeDisk<'a, HostRuntime> {
+    match folder {
+        Some(dir) => EdgeDisk::Folder(FolderDisk::new(rt, dir.as_str())),
+        None => EdgeDisk::All(FileDisk::new(rt)),
+    }
+}
+
+// One listener for all doors, where there are some. Where it can't be had, nobody is let in.
 fn listener(rt: &HostRuntime, needs: Needs) -> io::Result<Option<TcpListener>> {
     if needs.doors == 0 {
         return Ok(None);

@@ -1,5 +1,5 @@
 -- A run over the only link, without a console.
-use Rattle.std.proofs.Common.{◌≡◌, inl, inr, ⊎_elim, ℕ, zero, suc, Bool, true, false, List, [], ◌∷◌, Some, length, refl, sym, ap, ◌∙◌, subst, take, arith, slice_get}
+use Rattle.std.proofs.Common.{◌≡◌, inl, inr, ℕ, zero, suc, Bool, true, false, List, [], ◌∷◌, Some, length, refl, sym, ap, ◌∙◌, subst, take, arith, slice_get}
 use Rattle.std.specs.Prelude.{◌==◌, ◌&&◌, not}
 use Rattle.std.proofs.lemmas.Bool.{eqb-true, false≢true}
 use Rattle.command_line.specs.LineLaws.{LinesAreOne}
@@ -15,11 +15,10 @@ use Rattle.link_source.specs.declared.Links.{Ghosts as LinkSays}
 use Rattle.run_lifecycle.specs.Consoles.{is_console_on}
 use Rattle.run_lifecycle.specs.declared.console.ConsoleTerms.{ConsoleTerms}
 use Rattle.run_lifecycle.specs.declared.ended.Ended.{Ended}
-use Rattle.served_runs.specs.Over.{IsRunOver, RanOverLinks}
+use Rattle.served_runs.specs.Over.{IsRunOver}
 use Rattle.shared_run.specs.DoorsCauses.{IsPlaceOfCall}
 use Rattle.shared_run.proofs.Untouched.{GoOn, stays, worker_goes_on}
-use Rattle.solo_run.specs.Runs.{RanOver, RunsOver, TurnNoConsoleOn}
-use Rattle.aria_top.specs.Alone.{is_alone_by}
+use Rattle.solo_run.specs.Runs.{RunsOver, TurnNoConsoleOn}
 use Rattle.aria_top.proofs.OwnCalls.{own_alone}
 use Rattle.aria_top.proofs.Unread.{none_at}
 use Rattle.machine_core.specs.declared.events.Event.{Event}

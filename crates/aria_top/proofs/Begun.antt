@@ -1,11 +1,10 @@
 -- What is promised of a run that began, and why one didn't.
-use Rattle.std.proofs.Common.{◌≡◌, ◌⊎◌, inl, inr, ⊎_elim, ℕ, Bool, true, false, List, [], ◌∷◌, None, Some, length, refl, sym, ap, ◌∙◌, subst, arith, slice_get}
-use Rattle.std.specs.Prelude.{Contains, if◌then◌else◌, reverse}
-use Rattle.std.proofs.lemmas.Bool.{false≢true}
+use Rattle.std.proofs.Common.{◌≡◌, ◌⊎◌, inl, inr, ⊎_elim, List, [], ◌∷◌, Some, length, refl, sym, ap, ◌∙◌, subst, arith}
+use Rattle.std.specs.Prelude.{Contains, reverse}
 use Rattle.command_line.specs.LineLaws.{LinesAreOne}
 use Rattle.command_line.specs.Lines.{IsLine}
 use Rattle.command_line.specs.declared.line.CommandLine.{CommandLine}
-use Rattle.command_meanings.specs.Meanings.{AskForLoad, LackMeaning}
+use Rattle.command_meanings.specs.Meanings.{LackMeaning}
 use Rattle.command_meanings.specs.declared.meanings.Meaning.TheVariants as meaning
 use Rattle.dl_clock.specs.declared.clock.Clock.{Ghosts as ClockSays}
 use Rattle.dl_clock.specs.declared.memory.MemClock.{MemClock}
@@ -35,13 +34,12 @@ use Rattle.shared_run.specs.RunsTogether.{RunsTogether, edges}
 use Rattle.shared_run.specs.Together.{Edges}
 use Rattle.shared_run.proofs.Framed as shared_frame
 use Rattle.solo_run.specs.Bounded.{BoundsFirst}
-use Rattle.solo_run.specs.BoundedRuns.{BoundsRun}
 use Rattle.solo_run.proofs.Framed as solo_frame
-use Rattle.aria_top.specs.Alone.{RanAlone, is_alone}
-use Rattle.aria_top.specs.Began.{Began, BeganOrNot, EndedUnbegun, LeftAll, WhyUnbegun}
+use Rattle.aria_top.specs.Alone.{RanAlone}
+use Rattle.aria_top.specs.Began.{Began, BeganOrNot, EndedUnbegun, WhyUnbegun}
 use Rattle.aria_top.specs.OneRun.{OneRun, events_of_run}
 use Rattle.aria_top.specs.Promises.{IsEndingOf, PrintsSummaryOnce}
-use Rattle.aria_top.specs.Went.{WasRefused, WentAlone, WentByMeaning, WentForDownloads, WentTogether}
+use Rattle.aria_top.specs.Went.{WasRefused, WentByMeaning, WentForDownloads}
 use Rattle.aria_top.proofs.Unread.{refused_read}
 
 none_there : {P : Type 0} → Contains [] Stopped → P
@@ -174,16 +172,22 @@ module _ {D L K A O : Type 0} (says : DiskSays D) (links : LinkSays L) (clocks :
         (λ shared. shared_began its.0 shared.means shared.ran) its.1
 
     pub began_or_not : BeganOrNot run says sinks
-    began_or_not = ⊎_elim (λ load. inr (inr (load.0, load.1)))
-        (λ other. ⊎_elim (λ was. refused_began was) (λ its. downloads_began its) other.1) went
+    began_or_not = ⊎_elim (λ load. inr (inr (inl (load.0, load.1))))
+        (λ other. ⊎_elim (λ was. refused_began was) (λ its. ⊎_elim (λ downloads. downloads_began downloads)
+        (λ modes. inr (inr (inr (⊎_elim (λ folder. inl (folder.0, folder.1)) (λ check. inr (check.0, check.1)) modes)))) its)
+        other.1) went
 
     -- words without a meaning were refused
     pub words_first : LackMeaning run.given.words
         → (run.came.ended.ending ≡ NoMeaning) ⊎ (run.came.ended.ending ≡ NoMemory)
     words_first lacks = ⊎_elim (λ load. absurd (lacks (meaning.Load load.0) load.1))
-        (λ other. ⊎_elim (λ was. refused_ending was) (λ its. ⊎_elim
-        (λ alone. absurd (lacks (meaning.Download its.0) alone.means))
-        (λ shared. absurd (lacks (meaning.Download its.0) shared.means)) its.1) other.1) went
+        (λ other. ⊎_elim (λ was. refused_ending was) (λ its. ⊎_elim downloads_lack
+        (λ modes. ⊎_elim (λ folder. absurd (lacks (meaning.Serve folder.0) folder.1))
+        (λ check. absurd (lacks (meaning.Check check.0) check.1)) modes) its) other.1) went
+      where
+        downloads_lack : {P : Type 0} → WentForDownloads says links clocks doors sinks run → P
+        downloads_lack its = ⊎_elim (λ alone. absurd (lacks (meaning.Download its.0) alone.means))
+            (λ shared. absurd (lacks (meaning.Download its.0) shared.means)) its.1
 
 -- ---- bounds
 

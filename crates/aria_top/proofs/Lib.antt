@@ -5,3 +5,5 @@ pub mod AloneRuns
 pub mod Lines
 pub mod Begun
 pub mod Ways
+pub mod OtherWays
+pub mod CheckNames

@@ -1,6 +1,5 @@
 -- What a run was, by a line that its words mean.
-use Rattle.std.proofs.Common.{◌≡◌, ◌⊎◌, inl, inr, ⊎_elim, ℕ, List, ◌∷◌, [], length, sym, ap, subst}
-use Rattle.std.specs.Prelude.{if◌then◌else◌}
+use Rattle.std.proofs.Common.{◌≡◌, ◌⊎◌, inl, inr, ⊎_elim, ℕ, List, length, subst}
 use Rattle.command_line.specs.LineLaws.{LinesAreOne}
 use Rattle.command_line.specs.Lines.{IsLine}
 use Rattle.command_line.specs.declared.line.CommandLine.{CommandLine}
@@ -16,9 +15,9 @@ use Rattle.link_source.specs.declared.Links.{Ghosts as LinkSays}
 use Rattle.load_setup.specs.declared.sink.UnseenSink.{UnseenSink}
 use Rattle.load_setup.specs.declared.sound_disk.SoundDisk.{SoundDisk}
 use Rattle.load_setup.specs.declared.sound_links.SoundLinks.{SoundLinks}
-use Rattle.run_lifecycle.specs.Finishes.{IsWholeRun, NeverBegan}
+use Rattle.run_lifecycle.specs.Finishes.{IsWholeRun}
 use Rattle.run_report.specs.declared.endings.RunEnding.TheVariants.{NoMemory}
-use Rattle.served_runs.specs.Over.{IsRunOver, RanOverLinks}
+use Rattle.served_runs.specs.Over.{IsRunOver}
 use Rattle.shared_run.specs.DoorsCauses.{ShowsDoors}
 use Rattle.shared_run.specs.LinksLeft.{LeavesLinks}
 use Rattle.shared_run.specs.RunsTogether.{edges}
@@ -57,7 +56,9 @@ module _ {D L K A O : Type 0} {says : DiskSays D} {links : LinkSays L} {clocks :
   pub by_line : ByLine
   by_line = ⊎_elim
       (λ load. absurd (none load.0 line (subst (λ (ws : List (List ℕ)). IsLine ws line) load.1.1 means)))
-      (λ other. ⊎_elim by_refused by_download other.1) went
+      (λ other. ⊎_elim by_refused (λ its. ⊎_elim by_download
+      (λ modes. absurd (⊎_elim (λ folder. folder.1.alone.line line means) (λ check. check.1.alone.line line means) modes)) its)
+      other.1) went
 
   abbrev pub Over : Type 0
   Over = IsRunOver says sinks (is_alone run.given.links line) links run.given.words run.given.gids (length run.given.doors)

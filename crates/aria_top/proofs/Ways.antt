@@ -1,5 +1,5 @@
 -- What holds of a run by the way that it went.
-use Rattle.std.proofs.Common.{◌≡◌, inl, inr, ⊎_elim, ℕ, Bool, true, false, List, [], ◌∷◌, length, sym, ap, ◌∙◌, subst}
+use Rattle.std.proofs.Common.{◌≡◌, inl, inr, ⊎_elim, ℕ, Bool, true, false, sym, ◌∙◌, subst}
 use Rattle.std.specs.Bool.{MatchBool}
 use Rattle.std.specs.Prelude.{IsTrue}
 use Rattle.std.proofs.lemmas.Bool.{false≢true}
@@ -25,7 +25,7 @@ use Rattle.aria_top.specs.Alone.{RanAlone, is_alone}
 use Rattle.aria_top.specs.Began.{Began}
 use Rattle.aria_top.specs.Loads.{RanLoad}
 use Rattle.aria_top.specs.OneRun.{OneRun}
-use Rattle.aria_top.specs.Went.{WasRefused, WentAlone, WentByMeaning, WentTogether}
+use Rattle.aria_top.specs.Went.{WentByMeaning}
 use Rattle.aria_top.proofs.Begun.{bounds_nothing, some_events, starved_ending}
 use Rattle.aria_top.proofs.Lines.{by_line}
 

@@ -2,7 +2,9 @@
 use Rattle.std.specs.Prelude.{◌≡◌, ◌⊎◌, ℕ, Contains, List, []}
 use Rattle.command_line.specs.Lines.{IsLine}
 use Rattle.command_line.specs.declared.line.CommandLine.{CommandLine}
-use Rattle.command_meanings.specs.Meanings.{AskForLoad, LackMeaning}
+use Rattle.command_meanings.specs.Meanings.{AskForLoad, AskToCheck, AskToServe, LackMeaning}
+use Rattle.command_meanings.specs.declared.modes.CheckLine.{CheckLine}
+use Rattle.command_meanings.specs.declared.modes.ServeLine.{ServeLine}
 use Rattle.dl_disk.specs.declared.disk.Disk.{Ghosts as DiskSays}
 use Rattle.dl_kinds.specs.declared.outside.Sink.{Ghosts as SinkSays}
 use Rattle.machine_core.specs.declared.events.Event.TheVariants.{Stopped}
@@ -45,7 +47,12 @@ module _ {D L K A O : Type 0} (run : OneRun D L K A O) where
       pub reads : IsRead says run.given.disk run.came.ended.disk
       pub left : LeftAll
 
-    -- a run of downloads began or tells why not, or the words ask for a load
+    -- the words ask for a load, for a folder to be served, or for a payload to be checked
+    abbrev pub AskForOther : List (List ℕ) → Type 0
+    AskForOther words =
+        ((n : ℕ) × AskForLoad words n) ⊎ ((line : ServeLine) × AskToServe words line)
+        ⊎ ((line : CheckLine) × AskToCheck words line)
+
+    -- a run of downloads began or tells why not, or the words ask for something else
     abbrev pub BeganOrNot : Type 0
-    BeganOrNot =
-        EndedUnbegun ⊎ ((line : CommandLine) × Began line) ⊎ ((n : ℕ) × AskForLoad run.given.words n)
+    BeganOrNot = EndedUnbegun ⊎ ((line : CommandLine) × Began line) ⊎ AskForOther run.given.words

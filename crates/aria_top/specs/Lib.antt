@@ -3,5 +3,7 @@ pub mod Began
 pub mod Loads
 pub mod Needs
 pub mod OneRun
+pub mod Origins
+pub mod PayloadChecks
 pub mod Promises
 pub mod Went

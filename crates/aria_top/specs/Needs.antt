@@ -2,7 +2,7 @@
 use Rattle.std.specs.Prelude.{◌≡◌, ◌≤◌, ◌*◌, ℕ, List, min, if◌then◌else◌}
 use Rattle.command_meanings.specs.Meanings.{HaveMeaning}
 use Rattle.command_meanings.specs.declared.meanings.Meaning.{Meaning}
-use Rattle.command_meanings.specs.declared.meanings.Meaning.TheVariants.{Download, Load}
+use Rattle.command_meanings.specs.declared.meanings.Meaning.TheVariants.{Check, Download, Load, Serve}
 use Rattle.option_set.specs.Values.{OptionValues, number_value}
 use Rattle.option_set.specs.declared.kinds.Num.TheVariants.{MaxConcurrentDownloads, RpcListenPort, Split}
 use Rattle.run_lifecycle.specs.Consoles.{is_console_on}
@@ -23,7 +23,7 @@ doors_by values = if is_console_on values then CONSOLE_DOORS else 0
 abbrev pub port_by : OptionValues → ℕ
 port_by values = number_value values RpcListenPort
 
--- a load has links of its own in memory
+-- a load has links of its own in memory; a folder is served at as many doors as a console has
 abbrev pub needs_by : Meaning → Needs
 needs_by (Download line) = record {
   links = links_by line.globals;
@@ -31,6 +31,8 @@ needs_by (Download line) = record {
   port = port_by line.globals;
 }
 needs_by (Load n) = record { links = 1; doors = 0; port = 0 }
+needs_by (Serve line) = record { links = 1; doors = CONSOLE_DOORS; port = line.port }
+needs_by (Check line) = record { links = 1; doors = 0; port = 0 }
 
 -- the words mean something that needs this
 pub record AreNeeds (words : List (List ℕ)) (needs : Needs) : Type 0 where

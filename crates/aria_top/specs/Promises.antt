@@ -1,5 +1,5 @@
 -- What is promised of each run of downloads, clause by clause.
-use Rattle.std.specs.Prelude.{◌≡◌, ◌⊎◌, ◌≤◌, ◌++◌, ℕ, true, IsTrue, List, [], length, reverse}
+use Rattle.std.specs.Prelude.{◌≡◌, ◌⊎◌, ◌++◌, ℕ, true, IsTrue, List, [], length, reverse}
 use Rattle.std.specs.Bool.{MatchBool}
 use Rattle.command_call.specs.Sources.{RefusesSource}
 use Rattle.command_call.specs.declared.refusals.SourceErr.{SourceErr}

@@ -2,7 +2,9 @@
 use Rattle.std.specs.Prelude.{◌≡◌, ◌⊎◌, ℕ, true, false, IsTrue, List, length}
 use Rattle.command_line.specs.Lines.{IsLine}
 use Rattle.command_line.specs.declared.line.CommandLine.{CommandLine}
-use Rattle.command_meanings.specs.Meanings.{AskForLoad, LackMeaning}
+use Rattle.command_meanings.specs.Meanings.{AskForLoad, AskToCheck, AskToServe, LackMeaning}
+use Rattle.command_meanings.specs.declared.modes.CheckLine.{CheckLine}
+use Rattle.command_meanings.specs.declared.modes.ServeLine.{ServeLine}
 use Rattle.dl_clock.specs.declared.clock.Clock.{Ghosts as ClockSays}
 use Rattle.dl_clock.specs.declared.memory.MemClock.{MemClock}
 use Rattle.dl_disk.specs.declared.disk.Disk.{Ghosts as DiskSays}
@@ -26,6 +28,8 @@ use Rattle.aria_top.specs.Alone.{RanAlone, is_alone}
 use Rattle.aria_top.specs.Began.{LeftAll}
 use Rattle.aria_top.specs.Loads.{RanLoad}
 use Rattle.aria_top.specs.OneRun.{OneRun}
+use Rattle.aria_top.specs.Origins.{RanOrigin}
+use Rattle.aria_top.specs.PayloadChecks.{RanCheck}
 
 -- the words have no meaning, or memory was wanting to read them
 abbrev pub WhyRefused : List (List ℕ) → RunEnding → Type 0
@@ -80,6 +84,16 @@ module _ {D L K A O : Type 0} (says : DiskSays D) (links : LinkSays L) (clocks :
   abbrev pub WentForDownloads : Type 0
   WentForDownloads = (line : CommandLine) × (WentAlone line ⊎ WentTogether line)
 
+  abbrev pub WentForFolder : Type 0
+  WentForFolder = (line : ServeLine) × AskToServe run.given.words line × RanOrigin says doors run line.dir
+
+  abbrev pub WentForCheck : Type 0
+  WentForCheck =
+      (line : CheckLine) × AskToCheck run.given.words line × RanCheck says sinks run line.file line.dir line.copy
+
+  abbrev pub WentWithoutLoad : Type 0
+  WentWithoutLoad = WasRefused sinks run ⊎ WentForDownloads ⊎ WentForFolder ⊎ WentForCheck
+
   module _ (own_disks : DiskSays SoundDisk) (own_links : LinkSays SoundLinks) (own_clocks : ClockSays MemClock)
       (own_doors : DoorSays MemDoors) (own_sinks : SinkSays UnseenSink) where
     abbrev pub WentForLoad : Type 0
@@ -92,4 +106,4 @@ module _ {D L K A O : Type 0} (says : DiskSays D) (links : LinkSays L) (clocks :
     NoLoad = (n : ℕ) → AskForLoad run.given.words n → ⊥
 
     abbrev pub WentByMeaning : Type 0
-    WentByMeaning = WentForLoad ⊎ (NoLoad × (WasRefused sinks run ⊎ WentForDownloads))
+    WentByMeaning = WentForLoad ⊎ (NoLoad × WentWithoutLoad)

@@ -1,5 +1,5 @@
 //! A run of the program, from the words of its command line to its exit status: of downloads over one link or over many, with a
-//! console or without, or a load that checks itself.
+//! console or without, a load that checks itself, a folder that is served over HTTP, or a check of a version 2 payload.
 #![tactic(auto)]
 
 mod arms;

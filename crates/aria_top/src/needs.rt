@@ -17,9 +17,9 @@ use std::alloc::Global;
 pub struct Needs {
     /// One link for each worker.
     pub links: u16,
-    /// Doors of the console. None without a console.
+    /// Doors of the console, or of a folder that is served. None without one.
     pub doors: u16,
-    /// The port at which a console listens. 0 where the words ask for no downloads.
+    /// The port at which they listen. 0 for a load and for a check.
     pub port: u16,
 }
 
@@ -65,8 +65,13 @@ fn needs_by(meaning: &Meaning) -> Needs
             doors: doors_of(&line.globals),
             port: port_of(&line.globals),
         },
-        // its own links are in memory, and the one that the run asks for isn't used
-        Meaning::Load(_) => Needs {
+        Meaning::Serve(line) => Needs {
+            links: 1,
+            doors: CONSOLE_DOORS,
+            port: line.port,
+        },
+        // the link isn't used: a load has its own in memory, and a check none
+        Meaning::Load(_) | Meaning::Check(_) => Needs {
             links: 1,
             doors: 0,
             port: 0,

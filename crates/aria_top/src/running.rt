@@ -4,12 +4,14 @@ ghost use Rattle.aria_top.specs.Alone.{is_alone_by};
 ghost use Rattle.aria_top.specs.Began.{BeganOrNot};
 ghost use Rattle.aria_top.specs.Loads.{RunsLoads};
 ghost use Rattle.aria_top.specs.OneRun.{one_run};
+ghost use Rattle.aria_top.specs.Origins.{ServesFolders};
+ghost use Rattle.aria_top.specs.PayloadChecks.{ChecksPayloads};
 ghost use Rattle.aria_top.specs.Promises.{BoundsAlone, Completes, CompletesByPieces, CompletesMirrors, Does, HasEnding, HasHistory, HasOutput, LeavesOthers, LeavesUntouched, RefusesFirst, SparesMirrors, Survives, TellsDisk, TellsDoors, TellsLinks, TellsWhyUnfinished};
 ghost use Rattle.aria_top.specs.Went.{WentByMeaning, WentForDownloads};
 ghost use Rattle.command_line.specs.Lines.{IsLine};
 ghost use Rattle.shared_run.specs.declared.limits.TheConstants.{MAX_DOORS, MAX_LINKS};
 
-use crate::arms::{alone, load, refused, together};
+use crate::arms::{alone, check, load, refused, serve, together};
 use command_line::{CommandLine, lines_are_one};
 use command_meanings::{Meaning, load_words_are_no_line, meaning_of};
 use dl_clock::{Clock, MemClock};
@@ -19,6 +21,7 @@ use door_source::{Doors, MemDoors};
 use link_source::Links;
 use load_setup::{SoundDisk, SoundLinks, UnseenSink};
 use option_set::Options;
+use payload_repair::RepairWatch;
 use run_lifecycle::{
     begun_runs_are_stopped, is_console_on, runs_end_as_shown, runs_have_whole_histories,
     runs_leave_other_files, runs_print_one_text, runs_show_their_disk, runs_survive_crashes,
@@ -82,6 +85,7 @@ fn by_meaning<
     A: Doors + Send,
     K: Clock + Send,
     O: Sink,
+    W: RepairWatch,
 >(
     rt: &R,
     alloc: Global,
@@ -92,6 +96,7 @@ fn by_meaning<
     doors: Vec<(A, K)>,
     gids: u64,
     out: &mut O,
+    watch: &mut W,
 ) -> FinishedRun<D, L, K, A>
     requires links { (1 ≤ length links.items) × (length links.items ≤ MAX_LINKS) }
     requires doors { length doors.items ≤ MAX_DOORS }
@@ -105,12 +110,17 @@ fn by_meaning<
         Ok(Some(Meaning::Download(line))) => download(
             rt, alloc, words, &line, disk, over, links, doors, gids, out,
         ),
+        Ok(Some(Meaning::Serve(line))) => serve(rt, alloc, line, disk, links, doors, out),
+        Ok(Some(Meaning::Check(line))) => {
+            check(rt, alloc, &line, disk, links, doors, out, watch)
+        }
         Ok(None) => refused(alloc, RunEnding::NoMeaning, disk, links, doors, out),
         Err(_) => refused(alloc, RunEnding::NoMemory, disk, links, doors, out),
     }
 }
 
-/// The run of these words, which stand behind the program's name: of downloads, or of a load.
+/// The run of these words, which stand behind the program's name: of downloads, of a load, of a folder that is served over
+/// HTTP, or of a check of a version 2 payload.
 ///
 /// For every interleaving of connection workers and console sessions the run's one history is legal: each reply is the queue
 /// machine's at its place, each block is counted once, and Complete is told of a listed download only when every wanted piece
@@ -119,9 +129,10 @@ fn by_meaning<
 ///
 /// Over one link without a console it works on the calling thread, and comes to an end of itself where its link does. Otherwise
 /// each link has a worker, in a thread of its own where one can be started, and, where the words turn the console on, each door
-/// a session, numbered from 1 on; else doors aren't used. A load has a disk and links of its own in memory. `gids` is what the
-/// ids of downloads are made from. `over` is set once a worker's work ended, or a door found the run finished: from then on
-/// nothing is waited for, so an edge may fail a call that would still wait.
+/// a session, numbered from 1 on; else doors aren't used. A load has a disk and links of its own in memory. A folder is served
+/// at all doors until no client comes any more. A check hashes in threads of its own, and tells `watch` what it finds. `gids` is
+/// what the ids of downloads are made from. `over` is set once a worker's work ended, or a door found the run finished: from
+/// then on nothing is waited for, so an edge may fail a call that would still wait.
 ///
 /// What a disk, a link, a door, a clock or the output tells is trusted, and that nobody else writes to the files of a download.
 pub fn run<
@@ -131,6 +142,7 @@ pub fn run<
     A: Doors + Send,
     K: Clock + Send,
     O: Sink,
+    W: RepairWatch,
 >(
     rt: &R,
     alloc: Global,
@@ -141,10 +153,12 @@ pub fn run<
     doors: Vec<(A, K)>,
     gids: u64,
     out: &mut O,
+    watch: &mut W,
 ) -> FinishedRun<D, L, K, A>
     requires links { (1 ≤ length links.items) × (length links.items ≤ MAX_LINKS) }
     requires doors { length doors.items ≤ MAX_DOORS }
-    // The run of a line of downloads began, or it is printed why not and nothing was touched; or the words ask for a load.
+    // The run of a line of downloads began, or it is printed why not and nothing was touched; or the words ask for a load, a
+    // folder or a check.
     ensures began { BeganOrNot (one_run (map string_bytes words.now) gids disk links.items
         doors.items out.old result out.new) D.Disk O.Sink }
     // Words without a meaning, and a named file that is refused, end it so.
@@ -200,6 +214,14 @@ pub fn run<
     ensures load { RunsLoads ⟦<SoundDisk as Disk>⟧ ⟦<SoundLinks as Links>⟧ ⟦<MemClock as Clock>⟧
         ⟦<MemDoors as Doors>⟧ ⟦<UnseenSink as Sink>⟧ O.Sink (one_run (map string_bytes words.now) gids
         disk links.items doors.items out.old result out.new) }
+    // Words that ask for a folder have it served: all that is sent at its doors are replies of the files that it had, or fronts
+    // of them where a call failed, and nothing in it is changed.
+    ensures serves { ServesFolders D.Disk A.Doors (one_run (map string_bytes words.now) gids disk links.items
+        doors.items out.old result out.new) }
+    // Words that ask for a check have the payload checked, and repaired from the copy: what was right stays right, and just the
+    // blocks that differ are written.
+    ensures checks { ChecksPayloads D.Disk O.Sink (one_run (map string_bytes words.now) gids disk links.items
+        doors.items out.old result out.new) }
     // What was done over the links and at the doors, from the words to the summary.
     ensures does { Does D.Disk L.Links K.Clock A.Doors O.Sink (one_run (map string_bytes words.now)
         gids disk links.items doors.items out.old result out.new) }
@@ -219,5 +241,5 @@ pub fn run<
     runs_complete_uris::<D, L, K, O>();
     runs_survive_crashes::<D, O>();
     unbegun_runs_only_read::<D, O>();
-    by_meaning(rt, alloc, words, disk, over, links, doors, gids, out)
+    by_meaning(rt, alloc, words, disk, over, links, doors, gids, out, watch)
 }

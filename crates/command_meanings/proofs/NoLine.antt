@@ -1,6 +1,6 @@
 -- A load's word is no command line of downloads: the command has no option of its name.
 use Rattle.std.proofs.Common.{◌≡◌, ℕ, List, [], ◌∷◌, Option, None, Some, sym, ◌∙◌, ap, drop}
-use Rattle.std.specs.Prelude.{◌<◌, ◌^◌, ◌≢◌, MatchOption}
+use Rattle.std.specs.Prelude.{◌<◌, ◌^◌, MatchOption}
 use Rattle.std.proofs.lemmas.Fmt.{decimal_injective}
 use Rattle.clap.specs.Faults.{defaults_fault, fault_of, flags_fault, walk_fault}
 use Rattle.clap.specs.Takes.{flags_pass, walk_passes}
@@ -9,9 +9,12 @@ use Rattle.command_line.specs.Command.{command_app}
 use Rattle.command_line.specs.Lines.{IsLine}
 use Rattle.command_line.specs.declared.line.CommandLine.{CommandLine}
 use Rattle.load_setup.specs.Words.{asking_word}
-use Rattle.command_meanings.specs.Meanings.{AskForLoad, HaveMeaning}
+use Rattle.command_meanings.specs.Meanings.{AskForLoad, AskForNoRun, HaveMeaning}
+use Rattle.command_meanings.specs.Modes.{AreCheckWords, AreServeWords}
 use Rattle.command_meanings.specs.declared.meanings.Meaning.{Meaning}
-use Rattle.command_meanings.specs.declared.meanings.Meaning.TheVariants.{Download, Load}
+use Rattle.command_meanings.specs.declared.modes.CheckLine.{CheckLine}
+use Rattle.command_meanings.specs.declared.modes.ServeLine.{ServeLine}
+use Rattle.command_meanings.specs.declared.meanings.Meaning.TheVariants.{Check, Download, Load, Serve}
 
 faulty : (n : ℕ) → (fault_of command_app (asking_word n ∷ []) ≡ []) → ⊥
 unfolding walked defaults_fault flags_fault walk_fault flags_pass walk_passes
@@ -30,11 +33,13 @@ same_number m n low small is =
     head_of [] = []
     head_of (word ∷ words) = word
 
--- neither a load nor a line
-pub no_meaning : (words : List (List ℕ)) → ((n : ℕ) → n < 2 ^ 64 → words ≢ asking_word n ∷ [])
-    → ((line : CommandLine) → IsLine words line → ⊥) → (meaning : Meaning) → HaveMeaning words meaning → ⊥
-no_meaning words load line (Download it) means = line it means
-no_meaning words load line (Load n) means = load n means.0 means.1
+-- neither a load nor a line, nor what else may be asked for
+pub no_meaning : (words : List (List ℕ)) → AskForNoRun words → ((line : ServeLine) → AreServeWords words line → ⊥)
+    → ((line : CheckLine) → AreCheckWords words line → ⊥) → (meaning : Meaning) → HaveMeaning words meaning → ⊥
+no_meaning words none serve check (Download it) means = none.line it means
+no_meaning words none serve check (Load n) means = none.load n means
+no_meaning words none serve check (Serve it) means = serve it means.words_are
+no_meaning words none serve check (Check it) means = check it means.words_are
 
 pub none_found : {A P : Type 0} (Q : A → Type 0) (found : Option A) → found ≡ None → MatchOption found P Q → P
 none_found Q None is holds = holds

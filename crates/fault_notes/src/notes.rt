@@ -37,13 +37,7 @@ impl Notes {
         let _left_out = self.push(alloc, count, name, why).is_err();
     }
 
-    fn push(
-        &mut self,
-        alloc: Global,
-        count: u64,
-        name: &str,
-        why: Why,
-    ) -> Result<(), AllocError> {
+    fn push(&mut self, alloc: Global, count: u64, name: &str, why: Why) -> Result<(), AllocError> {
         let name = String::from_str(alloc, name)?;
         self.notes.push(Note { count, name, why })?;
         Ok(())

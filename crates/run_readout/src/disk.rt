@@ -4,6 +4,7 @@ use crate::listed::listed_in;
 use control_file::{CONTROL_SUFFIX, TEMPORARY_SUFFIX};
 use dl_disk::Disk;
 use dl_kinds::IoErr;
+use fault_notes::{Noted, Notes};
 use std::alloc::Global;
 
 /// A disk that shows what is written into payload files, and what control files list.
@@ -39,6 +40,12 @@ impl<'a, D: Disk + Drop> Drop for WatchedDisk<'a, D> {
             alloc: _,
             progress: _,
         } = self;
+    }
+}
+
+impl<'a, D: Disk + Noted> Noted for WatchedDisk<'a, D> {
+    fn notes(&self) -> &Notes {
+        self.inner.notes()
     }
 }
 

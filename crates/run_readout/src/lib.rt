@@ -2,6 +2,7 @@
 //! run is given, and nothing of the run depends on it.
 #![tactic(auto)]
 
+mod check;
 mod disk;
 mod links;
 mod listed;
@@ -9,6 +10,7 @@ mod progress;
 mod sink;
 mod text;
 
+pub use check::CheckReadout;
 pub use disk::WatchedDisk;
 pub use links::{Terminal, WatchedLinks};
 pub use progress::Progress;

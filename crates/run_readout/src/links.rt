@@ -5,6 +5,7 @@ use crate::Progress;
 use crate::text::readout;
 use dl_clock::Clock;
 use dl_kinds::IoErr;
+use fault_notes::{Noted, Notes};
 use link_source::Links;
 use std::alloc::Global;
 use std::io::Write;
@@ -19,7 +20,7 @@ pub struct Terminal<K: Clock, W: Write> {
 
 impl<K: Clock, W: Write> Terminal<K, W> {
     // Once a second at most. A line that can't be made or written is left out.
-    fn draw(&mut self, progress: &Progress) {
+    pub(crate) fn draw(&mut self, progress: &Progress) {
         let now = self.clock.now();
         let Some(speed) = progress.speed_if_due(now.0) else {
             return;
@@ -85,6 +86,12 @@ impl<'a, L: Links, K: Clock, W: Write> WatchedLinks<'a, L, K, W> {
         if let Some(terminal) = &mut self.terminal {
             terminal.draw(self.progress);
         }
+    }
+}
+
+impl<'a, L: Links + Noted, K: Clock, W: Write> Noted for WatchedLinks<'a, L, K, W> {
+    fn notes(&self) -> &Notes {
+        self.inner.notes()
     }
 }
 

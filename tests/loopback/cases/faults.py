@@ -8,7 +8,7 @@ from lib.mirrors import Site
 from lib.payloads import SMALL, served, turned
 from lib.rooms import HEADER, PLAIN, case
 from lib.sevens import HASH, PIECE, SEVEN
-from lib.wants import about, want
+from lib.wants import about, want, want_said
 
 # The first calls read the metainfo file: they look for it, open it and read it.
 AT_METAINFO = 3
@@ -48,7 +48,7 @@ def ended(room, words, shell):
         if started.poll() is None:
             started.kill()
             started.communicate()
-    want(said == b"", f"it wrote to standard error: {said[:200]!r}")
+    want_said(said, started.returncode)
     return started.returncode, wrote
 
 

@@ -2,14 +2,23 @@
 import os
 from contextlib import contextmanager
 
-from cases.faults import STARTS, ended
+from cases.faults import STARTS, begin_anew, ended
+from lib.consoles import steered
 from lib.controls import SUFFIX, TEMPORARY
 from lib.faults import Faults
 from lib.mirrors import Site
-from lib.payloads import SMALL, served
+from lib.payloads import SMALL, noise, served
 from lib.rooms import PLAIN, case
 from lib.wants import Late, Wrong, about, want
 
+# Each way in which an edge may write out too little, with the call without which a run has nothing to write out so.
+WRONG_ORDERS = (
+    ("sync file", "write"),
+    ("sync behind make folder", "make folder"),
+    ("sync behind rename", "rename"),
+    ("sync behind remove", "remove"),
+    ("rename", "rename"),
+)
 # Progress is saved at each chance.
 SAVING = ("--auto-save-interval=1", *PLAIN)
 
@@ -47,9 +56,12 @@ class Written:
         want(not self.folders, f"{when} before the entries of {sorted(self.folders)} were written out")
 
 
-def want_lasting(calls):
-    """Each call tells progress only once what it tells of lasts, and in the end all lasts."""
+def want_lasting(calls, folders=()):
+    """Each call tells progress only once what it tells of lasts, and in the end all lasts. The entries of some folders may not
+    have lasted before.
+    """
     written = Written()
+    written.folders |= set(folders)
     for call in calls:
         written.take(call)
     written.none_left("the run ended")
@@ -92,10 +104,53 @@ def _(room):
             told = {it.does for it in calls}
             want({"create", "cut", "sync"} <= told, f"just {sorted(told)} were seen")
             # the same run with an edge that is wrong
-            want_noticed("files aren't written out", lambda: want_lasting(noted(FAULT_DROPS="sync-file")))
-            want_noticed("folders aren't written out", lambda: want_lasting(noted(FAULT_DROPS="sync-folder")))
-            if "rename" in told:
-                want_noticed("a control file is copied", lambda: want_lasting(noted(FAULT_DROPS="rename")))
+            for wrong, does in WRONG_ORDERS:
+                if does in told:
+                    want_noticed(f"there is no {wrong}", lambda: want_lasting(noted(FAULT_DROPS=wrong)))
+
+
+def folders_above(room):
+    """The folders that hold a folder of the payload, whole."""
+    return {os.path.realpath(f"{at}/..") for at, _, _ in os.walk(room.path("a"))}
+
+
+@case("folders that a run left which couldn't write them out are written out by the next one", "cc")
+def _(room):
+    faults = Faults(room.folder)
+    with served_start(room, STARTS[2]) as (_, begin):
+        begin(room)
+        status, _ = ended(room, SAVING, faults.noting())
+        want(status == 0, f"it ended with {status}")
+        folders = folders_above(room)
+        syncs = [it for it in faults.notes() if it.does == "sync" and it.path in folders]
+        want(len(folders) == 3 and len(syncs) >= 3, f"of {folders} {syncs} were written out")
+        for call in syncs:
+            with about(f"{os.path.basename(call.path)}, call {call.number}"):
+                begin(room)
+                status, _ = ended(room, SAVING, faults.shell(FAULT_AT=call.number, FAULT_DOES="fails"))
+                want(status == 17, f"it ended with {status}")
+                status, _ = ended(room, SAVING, faults.noting())
+                want(status == 0, f"the next one ended with {status}")
+                # what stood may not have lasted
+                want_lasting(faults.notes(), folders)
+
+
+@case("a file that couldn't be written out once isn't trusted any more", "cc", slow=True)
+def _(room):
+    faults = Faults(room.folder)
+    with Site({"/a": noise(100_000)}) as site:
+        room.put("kept", b"")
+        with steered(room, shell=faults.shell(FAULT_SYNC="a")) as (console, ended_with):
+            for _ in range(2):
+                gid = console.call("aria2.addUri", [site.url(target="/a").decode()], {"out": "a"})
+                console.until(gid, {"status": "error", "errorCode": "17"})
+            other = console.call("aria2.addUri", [site.url(target="/a").decode()], {"out": "b"})
+            console.until(other, {"status": "complete"})
+            console.call("aria2.shutdown")
+        want(ended_with[0] == 17, f"it ended with {ended_with[0]}")
+        # another run begins with files that it opens itself
+        room.unlisted()
+        room.fetches(noise(100_000), anew=False, words=[site.url(target="/a").decode()])
 
 
 @case("reads and writes move fewer bytes than they are asked to", "cc")
@@ -111,6 +166,8 @@ def _(room):
 
             whole, short = calls(), calls(FAULT_SHORT=1)
             want(short > whole, f"{short} calls moved half of what {whole} do")
+            for wrong in ("short read", "short write") if payload and begin is begin_anew else ():
+                want_noticed(f"a {wrong} is taken for whole", lambda: calls(FAULT_DROPS=wrong))
 
 
 @case("a file that can't be looked at isn't taken for missing", "cc")

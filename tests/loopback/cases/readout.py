@@ -74,4 +74,5 @@ def _(room):
 @case("no line of progress on a terminal where the words have no meaning")
 def _(room):
     drawn, wrote, status = shown_on_a_terminal(room, "--split=65", "t.torrent")
-    want((drawn, wrote, status) == (b"", b"error 28\n", 28), f"status {status}, output {wrote!r}, drawn {drawn!r}")
+    want((wrote, status) == (b"error 28\n", 28), f"status {status}, output {wrote!r}")
+    want(CLEARED not in drawn, f"it drew {drawn!r}")

@@ -11,7 +11,7 @@ import time
 from lib.killing import Slow
 from lib.mirrors import free_port, head, rest_of
 from lib.rooms import LIMIT
-from lib.wants import Late, Wrong, want, want_in_time
+from lib.wants import Late, Wrong, want, want_in_time, want_said
 
 SECRET = "s ü"
 TOKEN = f"token:{SECRET}"
@@ -149,13 +149,13 @@ def wait_for(port, started):
 
 
 @contextlib.contextmanager
-def steered(room, *words, secret=SECRET):
+def steered(room, *words, secret=SECRET, shell=""):
     """A run with a console, which is to be shut down within. Told are a console and a list, which has the exit status and the output
     behind it.
     """
     port = free_port("127.0.0.1")
     secrets = [f"--rpc-secret={secret}"] if secret else []
-    started = room.start("--enable-rpc", f"--rpc-listen-port={port}", *secrets, *words)
+    started = room.start("--enable-rpc", f"--rpc-listen-port={port}", *secrets, *words, shell=shell)
     console = Console(port, f"token:{secret}" if secret else None)
     ended = []
     try:
@@ -163,7 +163,7 @@ def steered(room, *words, secret=SECRET):
         yield console, ended
         console.close()
         wrote, said = started.communicate(timeout=LIMIT)
-        want(said == b"", f"it wrote to standard error: {said[:200]!r}")
+        want_said(said, started.returncode)
         ended += [started.returncode, wrote]
     except subprocess.TimeoutExpired:
         raise Late(f"the program had not ended after {LIMIT} seconds") from None

@@ -1,5 +1,5 @@
 """A system that fails, or ends the program, at a call of the disk by its number, or refuses memory by a number; that notes the
-calls of the disk that came to pass; and that moves fewer bytes at once than it was asked to."""
+calls of the disk that came to pass; that moves fewer bytes at once than it was asked to; and that acts edges that are wrong."""
 import os
 import subprocess
 from dataclasses import dataclass
@@ -7,9 +7,11 @@ from dataclasses import dataclass
 # What the environment tells: FAULT_AT is the number of the call that doesn't come to pass, from 0 on. By FAULT_DOES it
 # `fails`, or it `tears`: the program ends at it, behind the first half of a write. REFUSED_AT is the number of the
 # request for memory that is refused. FAULT_TOLD is the file that tells in the end how many of each there were. FAULT_NOTES is
-# the file that has a line for each call that came to pass. With FAULT_SHORT each read or write moves half of its bytes. With
-# FAULT_DROPS a wrong edge is acted: `sync-file` and `sync-folder` write nothing out, `rename` copies and removes, `look` takes
-# what can't be looked at for missing.
+# the file that has a line for each call that came to pass. With FAULT_SHORT each read or write moves half of its bytes. Of a file
+# that FAULT_SYNC names the first writing out fails. With FAULT_DROPS a wrong edge is acted: `sync file` writes no file out; `sync
+# behind create`, `sync behind make folder`, `sync behind rename` and `sync behind remove` write no folder out that was changed so;
+# `rename` copies and removes; `short read` and `short write` take half of the bytes for all; `look` takes what can't be looked at
+# for missing.
 SOURCE = r"""
 #define _GNU_SOURCE
 #include <dlfcn.h>
@@ -27,6 +29,8 @@ SOURCE = r"""
 extern void *__libc_malloc(size_t);
 extern void *__libc_realloc(void *, size_t);
 static long calls, requests;
+/* how a folder was changed last */
+static const char *changed = "create";
 
 static int is_at(const char *name, long number) {
     const char *at = getenv(name);
@@ -80,6 +84,23 @@ static int is_folder(int file) {
     return !fstat(file, &about) && S_ISDIR(about.st_mode);
 }
 
+static int drops_sync(int file) {
+    char what[64] = "sync file";
+    if (is_folder(file)) snprintf(what, sizeof what, "sync behind %s", changed);
+    return drops(what);
+}
+
+static int is_named(const char *variable, int file) {
+    const char *named = getenv(variable);
+    char link[64], path[PATH_MAX];
+    if (!named) return 0;
+    snprintf(link, sizeof link, "/proc/self/fd/%d", file);
+    ssize_t length = readlink(link, path, sizeof path - 1);
+    path[length < 0 ? 0 : length] = 0;
+    const char *slash = strrchr(path, '/');
+    return slash && !strcmp(slash + 1, named);
+}
+
 static size_t moved(size_t size) { return getenv("FAULT_SHORT") && size > 1 ? size / 2 : size; }
 
 int open(const char *path, int flags, ...) {
@@ -90,6 +111,7 @@ int open(const char *path, int flags, ...) {
     if (is_due()) return fault();
     int makes = flags & O_CREAT && access(path, F_OK);
     int file = REAL(open)(path, flags, mode);
+    if (file >= 0 && makes) changed = "create";
     if (file >= 0) note(makes ? "create" : "open", path, "");
     return file;
 }
@@ -108,6 +130,7 @@ int statx(int folder, const char *path, int flags, unsigned mask, struct statx *
 ssize_t pread(int file, void *into, size_t size, off_t at) {
     if (is_due()) return fault();
     note_file("read", file);
+    if (drops("short read")) return REAL(pread)(file, into, size / 2, at) < 0 ? -1 : (ssize_t)size;
     return REAL(pread)(file, into, moved(size), at);
 }
 
@@ -117,6 +140,7 @@ ssize_t pwrite(int file, const void *from, size_t size, off_t at) {
         return fault();
     }
     note_file("write", file);
+    if (drops("short write")) return REAL(pwrite)(file, from, size / 2, at) < 0 ? -1 : (ssize_t)size;
     return REAL(pwrite)(file, from, moved(size), at);
 }
 
@@ -127,8 +151,14 @@ int ftruncate(int file, off_t size) {
 }
 
 int fsync(int file) {
+    static int failed = 0;
     if (is_due()) return fault();
-    if (drops(is_folder(file) ? "sync-folder" : "sync-file")) return 0;
+    if (!failed && is_named("FAULT_SYNC", file)) {
+        failed = 1;
+        errno = EIO;
+        return -1;
+    }
+    if (drops_sync(file)) return 0;
     int done = REAL(fsync)(file);
     if (!done) note_file("sync", file);
     return done;
@@ -138,6 +168,7 @@ int rename(const char *from, const char *to) {
     if (is_due()) return fault();
     int done = REAL(rename)(from, to);
     if (done) return done;
+    changed = "rename";
     if (!drops("rename")) {
         note("rename", from, to);
     } else {
@@ -150,14 +181,20 @@ int rename(const char *from, const char *to) {
 int unlink(const char *path) {
     if (is_due()) return fault();
     int done = REAL(unlink)(path);
-    if (!done) note("remove", path, "");
+    if (!done) {
+        changed = "remove";
+        note("remove", path, "");
+    }
     return done;
 }
 
 int mkdir(const char *path, mode_t mode) {
     if (is_due()) return fault();
     int done = REAL(mkdir)(path, mode);
-    if (!done) note("make folder", path, "");
+    if (!done) {
+        changed = "make folder";
+        note("make folder", path, "");
+    }
     return done;
 }
 
@@ -206,7 +243,7 @@ class Faults:
     def shell(self, **told):
         """The line of shell by which a run meets these."""
         words = {"LD_PRELOAD": self.library, "FAULT_TOLD": self.told, **told}
-        return " ".join(["export", *(f"{name}={value}" for name, value in words.items())])
+        return " ".join(["export", *(f"{name}='{value}'" for name, value in words.items())])
 
     def counts(self):
         """How many calls of the disk the last run made that came to its end, and how many requests for memory."""

@@ -9,7 +9,7 @@ import sys
 
 from lib import controls
 from lib.torrents import bencoded, info_of, whole, written
-from lib.wants import Late, Skipped, Wrong, want
+from lib.wants import Late, Skipped, Wrong, want, want_said
 
 TOP = os.path.realpath(f"{os.path.dirname(__file__)}/../../..")
 BUILT = f"{TOP}/crates/aria_cli/out/aria_cli"
@@ -97,6 +97,8 @@ class Room:
         self.is_alone = is_alone
         # The info hash and the length of the pieces that a control file has to tell, where they are known.
         self.right = None
+        # What the last run wrote to standard error.
+        self.said = ""
 
     def path(self, name):
         return f"{self.folder}/{name}"
@@ -189,7 +191,8 @@ class Room:
             if started.poll() is None:
                 started.kill()
                 started.communicate()
-        want(said == b"", f"it wrote to standard error: {said[:200]!r}")
+        want_said(said, started.returncode)
+        self.said = said.decode()
         own = {f"{name}{controls.SUFFIX}", f"{name}{controls.TEMPORARY}"}
         right = stood if leaves is None else stood - own | ({f"{name}.aria2"} if leaves else set())
         stands = self.control_files()

@@ -21,6 +21,17 @@ def want(holds, text):
         raise Wrong(text)
 
 
+def want_said(said, status):
+    """What stands on standard error: nothing where a run ends well, and else lines for people, if any; and that a console has
+    no secret.
+    """
+    lines = [it for it in said.decode().split("\n")[:-1] if not it.startswith("aria_cli: whoever reaches 127.0.0.1:")]
+    want(status or not lines, f"it wrote to standard error: {said[:200]!r}")
+    for line in lines:
+        want(line.startswith("aria_cli: ") and line.isprintable(), f"it wrote to standard error: {line!r}")
+    want(said[-1:] in (b"", b"\n"), f"it wrote to standard error: {said[-200:]!r}")
+
+
 def want_in_time(holds, text):
     """What is so on a machine with nothing else to do, and may come later on a busy one."""
     if not holds:

@@ -1,4 +1,4 @@
-use Rattle.std.proofs.Common.{◌≡◌, List, [], ap, inl, inr, length, map, string_bytes, subst, sym, ◌∙◌}
+use Rattle.std.proofs.Common.{◌≡◌, [], ap, inl, inr, length, map, string_bytes, subst, sym, ◌∙◌}
 use Rattle.std.specs.Prelude.{true, IsTrue}
 use Rattle.run_lifecycle.specs.Results.{ended_of}
 use Rattle.served_runs.specs.Over.{IsRunOver}

@@ -18,8 +18,20 @@ returns-in-Ok-Some-Download g c =
     inr (
       λ n ask. line_not_load _ at.field-0 at.field-0-0 at.line n at.is at.field-0-is at.field-0-0-is
           (c.meaning_of.ensures.load n ask),
-      inr c.download.ensures,
+      inr (inl c.download.ensures),
     )
+
+pub returns-in-Ok-Some-Serve : goal.returns-in-Ok-Some-Serve
+returns-in-Ok-Some-Serve g c =
+    let at = c.in-Ok-Some-Serve in
+    let meant = subst (HaveMeaning _) at.field-0-0-is (has_found _ at.field-0 at.field-0-0 at.field-0-is at.ensures.means) in
+    inr (λ n ask. absurd (meant.alone.load n ask), inr (inr (inl (at.line, meant, c.serve.ensures _ _))))
+
+pub returns-in-Ok-Some-Check : goal.returns-in-Ok-Some-Check
+returns-in-Ok-Some-Check g c =
+    let at = c.in-Ok-Some-Check in
+    let meant = subst (HaveMeaning _) at.field-0-0-is (has_found _ at.field-0 at.field-0-0 at.field-0-is at.ensures.means) in
+    inr (λ n ask. absurd (meant.alone.load n ask), inr (inr (inr (at.line, meant, c.check.ensures _ _))))
 
 pub returns-in-Ok-None : goal.returns-in-Ok-None
 returns-in-Ok-None g c =

@@ -1,5 +1,6 @@
 use Rattle.aria_top.proofs.Begun.{began_or_not, ending_of, of_events, printed_once, words_first}
 use Rattle.aria_top.proofs.Lines.{over, shown, untouched, whole}
+use Rattle.aria_top.proofs.OtherWays.{checked, served}
 use Rattle.aria_top.proofs.Ways.{bounds_so, does_so, loaded, pieces_so}
 use Rattle.aria_top.proofs.running.run.Goals as goal
 
@@ -89,6 +90,12 @@ returns-clause-doors g c line means =
 
 pub returns-clause-load : goal.returns-clause-load
 returns-clause-load g c n ask = loaded c.by_meaning.ensures n ask
+
+pub returns-clause-serves : goal.returns-clause-serves
+returns-clause-serves g c line ask = served c.by_meaning.ensures line ask
+
+pub returns-clause-checks : goal.returns-clause-checks
+returns-clause-checks g c line ask = checked c.by_meaning.ensures line ask
 
 pub returns-clause-does : goal.returns-clause-does
 returns-clause-does g c line begun =
