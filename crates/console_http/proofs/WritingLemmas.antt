@@ -8,7 +8,7 @@ use Rattle.dl_kinds.specs.Causes.{HasCause}
 use Rattle.dl_kinds.specs.declared.outside.IoErr.{IoErr}
 use Rattle.dl_kinds.specs.declared.outside.IoErr.TheVariants.{NoMemory}
 use Rattle.door_source.specs.DoorLaws.{NewestIsOne}
-use Rattle.door_source.specs.Doors.{Connection, DoorState, Becomes, SendsToPeer}
+use Rattle.door_source.specs.Doors.{Connection, DoorState, SendsToPeer}
 use Rattle.door_source.specs.declared.Doors.{Ghosts as DoorSays}
 use Rattle.request_stream.specs.Responses.{response_head, served_response}
 use Rattle.rpc_envelope.specs.Texts.{repeated, passage_text, passages_text}

@@ -1,5 +1,5 @@
 // What comes of a connection.
-ghost use Rattle.std.specs.Prelude.{◌≡◌, ◌<◌, ◌≤◌, ◌+◌, length, drop, false, slice_range, ◌++◌, IfOk, MatchOption, IsTrue, true};
+ghost use Rattle.std.specs.Prelude.{◌≡◌, ◌<◌, ◌≤◌, ◌+◌, ℕ, List, length, drop, false, slice_range, ◌++◌, IfOk, MatchOption, IsTrue, true};
 ghost use Rattle.http_heads.specs.declared.limits.TheConstants.{MAX_HEAD_BYTES};
 ghost use Rattle.request_stream.specs.Next.{IsNextRequest};
 ghost use Rattle.console_http.specs.Readings.{fresh_reading};
@@ -9,7 +9,7 @@ use crate::ends::{ConnectionEnd, end_by_error};
 use dl_kinds::NoMemory;
 use door_source::Doors;
 use http_heads::MAX_HEAD_BYTES;
-use request_stream::{NextRequest, next_request};
+use request_stream::{NextRequest, RequestProgress, next_request, requests_are_one_and_stay};
 use std::alloc::Global;
 use std::marker::Model;
 
@@ -23,12 +23,14 @@ pub struct Intake {
     unread: Vec<u8>,
     piece: Vec<u8>,
     most: u32,
+    progress: RequestProgress,
     is_due: bool,
 }
 
 impl Model for Intake {
     ghost use Rattle.std.specs.Prelude.{◌≡◌, ◌≤◌, ◌+◌, length, vec_len};
     ghost use Rattle.http_heads.specs.declared.limits.TheConstants.{MAX_HEAD_BYTES};
+    ghost use Rattle.request_stream.specs.Progress.{IsReadUpTo};
     ghost use Rattle.console_http.specs.Readings.{Reading};
     ghost use Rattle.console_http.specs.declared.intake.TheConstants.{PIECE_BYTES};
 
@@ -41,7 +43,8 @@ impl Model for Intake {
     } };
 
     ghost invariant = { λ intake. (length intake.piece.items ≡ PIECE_BYTES)
-        × (length intake.unread.items ≤ intake.most + MAX_HEAD_BYTES + PIECE_BYTES) };
+        × (length intake.unread.items ≤ intake.most + MAX_HEAD_BYTES + PIECE_BYTES)
+        × IsReadUpTo intake.most intake.unread.items intake.progress };
 }
 
 // Puts the piece behind the others, or tells that the connection ends.
@@ -65,6 +68,7 @@ fn receive_behind<A: Doors>(
     requires opened { IsTrue A.tells → (A.state door.old).is_open ≡ true }
     ensures stays_open { IsTrue A.tells → (A.state door.new).is_open ≡ true }
     ensures few { length unread.new.items ≤ length unread.old.items + length piece.old }
+    ensures grows { (more : List ℕ) × (unread.new.items ≡ unread.old.items ++ more) }
     ensures received { HasReceived A.Doors door.old unread.old.items
         door.new unread.new.items result }
 {
@@ -84,6 +88,7 @@ impl Intake {
             unread: Vec::new(alloc),
             piece: vec![in alloc; 0; PIECE_BYTES]?,
             most,
+            progress: RequestProgress::Unread,
             is_due: false,
         })
     }
@@ -93,13 +98,16 @@ impl Intake {
         ensures { self.new ≡ fresh_reading self.old.most }
     {
         self.unread.clear();
+        self.progress = RequestProgress::Unread;
         self.is_due = false;
     }
 
-    pub(crate) fn next(&self, alloc: Global) -> NextRequest
-        ensures { IsNextRequest self.now.most self.now.unread result }
+    /// The request at the front, which is read on from where it was read before.
+    pub(crate) fn next(&mut self, alloc: Global) -> NextRequest
+        ensures same { self.new ≡ self.old }
+        ensures next { IsNextRequest self.old.most self.old.unread result }
     {
-        next_request(alloc, self.most, &self.unread)
+        next_request(alloc, self.most, &self.unread, &mut self.progress)
     }
 
     pub(crate) fn between(&self, from: usize, used: usize) -> &[u8]
@@ -117,6 +125,7 @@ impl Intake {
             { unread = drop used self.old.unread; is_due = true } }
     {
         self.unread.drain(..used);
+        self.progress = RequestProgress::Unread;
         self.is_due = true;
     }
 
@@ -142,6 +151,7 @@ impl Intake {
         ensures received { HasReceived A.Doors door.old self.old.unread
             door.new self.new.unread result }
     {
+        requests_are_one_and_stay();
         receive_behind(door, &mut self.unread, &mut self.piece)
     }
 }

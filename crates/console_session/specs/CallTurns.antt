@@ -89,8 +89,9 @@ outcome_by keys (said.Replied place reply starved) = told_of_reply reply keys
 outcome_by keys (said.JournalFull count) = Some (failed JournalFull)
 outcome_by keys other = None
 
--- it was told so, or memory ran out before
+-- it was told so, or memory ran out before; a fault takes no memory to be told
 abbrev pub IsToldOrLost : Option OutcomeData → Option OutcomeData → Type 0
+IsToldOrLost (Some (failed fault)) came = came ≡ Some (failed fault)
 IsToldOrLost told came = (came ≡ told) ⊎ (came ≡ None)
 
 module _ (secret : Option (List ℕ)) (session : ℕ) where

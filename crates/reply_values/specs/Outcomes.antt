@@ -48,6 +48,12 @@ reply_outcome (reply.Stat stat) keys = given (stat_data stat)
 reply_outcome reply.Version keys = given version_data
 reply_outcome (reply.Refused refused) keys = failed (refusal_fault refused)
 
+-- a refusal but for want of memory: it takes no memory to be told
+abbrev pub IsRefusal : Reply → Type 0
+IsRefusal (reply.Refused refusal.NoMemory) = ⊥
+IsRefusal (reply.Refused refused) = Unit {0}
+IsRefusal other = ⊥
+
 -- `system.listMethods`
 abbrev pub methods_outcome : OutcomeData
 methods_outcome = given names_data

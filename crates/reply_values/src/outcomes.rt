@@ -1,5 +1,5 @@
 // What comes of calls by their replies.
-ghost use Rattle.std.specs.Prelude.{◌≡◌, IfOk, IsErr, map};
+ghost use Rattle.std.specs.Prelude.{◌≡◌, IfOk, IsErr, IsOk, map};
 ghost use Rattle.dl_queue.specs.declared.kinds.QueueErr.TheVariants as refusal;
 ghost use Rattle.rpc_envelope.specs.Outcomes.{outcome_view};
 ghost use Rattle.rpc_envelope.specs.Turns.{IsPlain, failed};
@@ -8,7 +8,7 @@ ghost use Rattle.serde_json.specs.Data.{no_members};
 ghost use Rattle.serde_json.specs.View.{view, members_view};
 ghost use Rattle.reply_values.specs.Members.{put_all};
 ghost use Rattle.reply_values.specs.Outcomes as spec;
-ghost use Rattle.reply_values.specs.Outcomes.{named_text, options_data, refusal_fault, reply_outcome, version_data};
+ghost use Rattle.reply_values.specs.Outcomes.{IsRefusal, named_text, options_data, refusal_fault, reply_outcome, version_data};
 
 use crate::files::{files_value, uris_value};
 use crate::laws::outcomes_are_plain;
@@ -27,6 +27,7 @@ use std::alloc::Global;
 fn refusal_outcome(error: QueueErr) -> Result<Outcome, NoMemory>
     ensures told { IfOk result (λ outcome. outcome_view outcome ≡ failed (refusal_fault error)) }
     ensures memory { error ≡ refusal.NoMemory → IsErr result }
+    ensures refused { IsRefusal (reply_cases.Refused error) → IsOk result }
 {
     match error {
         QueueErr::NotFound => Ok(Outcome::Failed(RpcFault::GidUnknown)),
@@ -74,6 +75,7 @@ fn outcome_of(alloc: Global, reply: &Reply, keys: &Keys) -> Result<Outcome, NoMe
     ensures told { IfOk result (λ outcome.
         outcome_view outcome ≡ reply_outcome reply.now keys.now) }
     ensures memory { reply.now ≡ reply_cases.Refused refusal.NoMemory → IsErr result }
+    ensures refused { IsRefusal reply.now → IsOk result }
 {
     match reply {
         Reply::Gid(gid) => Ok(Outcome::Given(gid_value(alloc, *gid)?)),
@@ -91,12 +93,13 @@ fn outcome_of(alloc: Global, reply: &Reply, keys: &Keys) -> Result<Outcome, NoMe
 }
 
 /// What comes of a call by its reply: a value, or the fault of one that changes nothing. Of a status the members are
-/// told that the keys choose. Memory is wanting, too, where it was for the call.
+/// told that the keys choose. Memory is wanting, too, where it was for the call; a refusal takes none.
 pub fn reply_value(alloc: Global, reply: &Reply, keys: &Keys) -> Result<Outcome, NoMemory>
     ensures told { IfOk result (λ outcome.
         outcome_view outcome ≡ reply_outcome reply.now keys.now) }
     ensures plain { IfOk result (λ outcome. IsPlain (outcome_view outcome)) }
     ensures memory { reply.now ≡ reply_cases.Refused refusal.NoMemory → IsErr result }
+    ensures refused { IsRefusal reply.now → IsOk result }
 {
     outcomes_are_plain();
     outcome_of(alloc, reply, keys)

@@ -1,3 +1,4 @@
 mod OneRequest
 mod Streams
 mod ResponseTexts
+mod HeadParts

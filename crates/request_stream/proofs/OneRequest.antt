@@ -1,17 +1,20 @@
 -- A whole request at the front of bytes, by the laws of heads.
-use Rattle.std.proofs.Common.{◌≡◌, ◌⊎◌, inl, inr, ℕ, ◌+◌, ◌-◌, ◌<◌, ◌≤◌, Bool, List, ◌++◌, length, take, drop, ap, sym, ◌∙◌, arith, length-append, length-drop}
+use Rattle.std.proofs.Common.{◌≡◌, ◌⊎◌, inl, inr, ℕ, ◌+◌, ◌-◌, ◌<◌, ◌≤◌, Bool, List, ◌++◌, append_assoc, length, take, drop, ap, sym, subst, ◌∙◌, arith, length-append, length-drop}
 use Rattle.std.proofs.lemmas.List.{take-append-le, drop-append-le}
 use Rattle.std.specs.Prelude.{Some, None, slice_range}
 use Rattle.http_heads.specs.Content.{content_length}
-use Rattle.http_heads.specs.AskHeadLaws.{HasOneAskHead, AskHeadStays, NoAskHeadStays, AskHeadComesWhole}
-use Rattle.http_heads.specs.AskHeads.{IsAskHead}
+use Rattle.http_heads.specs.AskHeadLaws.{HasOneAskHead, AskHeadIsFinished, AskHeadStays, NoAskHeadStays, AskHeadComesWhole}
+use Rattle.http_heads.specs.AskHeads.{IsAskHead, IsAskUnfinished}
 use Rattle.http_heads.specs.Persistence.{hangs_up}
 use Rattle.http_heads.specs.declared.content.ContentLength.TheVariants.{Bytes}
 use Rattle.http_heads.specs.declared.ask_head.AskHead.{AskHead}
 use Rattle.http_heads.specs.declared.limits.TheConstants.{MAX_HEAD_BYTES}
+use Rattle.request_stream.specs.HeadParts.{EndsIn}
 use Rattle.request_stream.specs.Next.{IsUnfinishedRequest}
+use Rattle.request_stream.specs.Progress.{LastsUntil, ProgressStays}
 use Rattle.request_stream.specs.Requests.{Request, served, turned_away, IsAllowed, IsServedAt, IsRefusedHead, NeverHasHead, IsOneRequest, refusal_by_head}
 use Rattle.request_stream.specs.Streams.{HasNoWholeRequest}
+use Rattle.request_stream.specs.declared.progress.RequestProgress.TheVariants.{Unread, InHead, InContent}
 use Rattle.request_stream.specs.declared.refusal.Refusal.{Refusal}
 
 same_length : (m n : ℕ) → Bytes m ≡ Bytes n → m ≡ n
@@ -101,7 +104,36 @@ module _ (one : HasOneAskHead) where
         few = omega (arith, short, fit, few);
       }
 
+  -- .. until all of it has come, whatever it is
+  pub lasts_until : AskHeadStays → (most : ℕ) (bytes : List ℕ) (head : AskHead) (size len : ℕ) → IsAskHead bytes head size
+      → IsAllowed most head len → LastsUntil most bytes (size + len)
+  lasts_until stays most bytes head size len begins allowed more short =
+      unfinished_by_len most (bytes ++ more) head size len (stays bytes more head size begins) allowed short
+
+-- ---- a head that isn't whole
+
+-- no whole request stands where the head is unfinished
+pub unfinished_by_head : AskHeadIsFinished → (most : ℕ) (bytes : List ℕ) → IsAskUnfinished bytes → IsUnfinishedRequest most bytes
+unfinished_by_head finished most bytes front = record { none = none; few = omega (arith, front.short) }
+  where
+    none : HasNoWholeRequest most bytes
+    none (served body last) used a = finished bytes a.head a.size a.begins front
+    none (turned_away r) used (inl b) = finished bytes b.head used b.begins front
+    none (turned_away r) used (inr b) = b.none.no_front front
+
 -- ---- more bytes
+
+-- what is known of bytes is known of them whatever follows
+pub progress_stays : ProgressStays
+progress_stays most bytes more Unread known = tt
+progress_stays most bytes more (InHead read part) known = (
+  omega (arith, known.0, length-append bytes more),
+  subst (EndsIn part) (sym (take-append-le read bytes more known.0)) known.1,
+)
+progress_stays most bytes more (InContent until) known = λ others short.
+    let P : List ℕ → Type 0 = IsUnfinishedRequest most in
+    let one : (bytes ++ more) ++ others ≡ bytes ++ (more ++ others) = append_assoc bytes more others in
+    subst P (sym one) (known (more ++ others) (omega (arith, short, ap (λ text. length text) one)))
 
 served_stays : AskHeadStays → (most : ℕ) (bytes more body : List ℕ) (last : Bool) (used : ℕ) → IsServedAt most bytes body last used
     → IsServedAt most (bytes ++ more) body last used

@@ -1,4 +1,4 @@
-use Rattle.std.proofs.Common.{◌++◌, sym, subst}
+use Rattle.std.proofs.Common.{sym, subst}
 use Rattle.request_stream.specs.Responses.{served_response}
 use Rattle.rpc_envelope.specs.Texts.{passages_text}
 use Rattle.console_http.specs.Writing.{HasSent, writer_at}

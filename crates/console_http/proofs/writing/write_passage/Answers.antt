@@ -1,4 +1,4 @@
-use Rattle.std.proofs.Common.{◌≡◌, ◌+◌, ◌++◌, ◌≤◌, ℕ, sym, subst, arith}
+use Rattle.std.proofs.Common.{◌≡◌, ◌++◌, ℕ, sym, subst, arith}
 use Rattle.std.specs.Prelude.{Ok, Err}
 use Rattle.rpc_envelope.specs.Texts.{repeated}
 use Rattle.console_http.specs.Writing.{WritesBehind, writer_at}

@@ -1,4 +1,4 @@
-use Rattle.std.proofs.Common.{◌≡◌, ◌+◌, ◌++◌, sym, subst, take, drop}
+use Rattle.std.proofs.Common.{◌+◌, ◌++◌, sym, subst, take, drop}
 use Rattle.std.specs.Prelude.{Ok, Err}
 use Rattle.rpc_envelope.specs.Texts.{passage_text, passages_text}
 use Rattle.console_http.specs.Writing.{WritesBehind, writer_at}

@@ -11,4 +11,4 @@ returns-in-Replied-clause-told c =
     λ said. specs.IsToldOrLost (specs.outcome_by c.args.keys.now said) (outcome_if_any c.reply_value.result) in
     subst Told (sym c.in-Replied.is)
     (told_or_lost c.in-Replied.reply c.args.keys.now c.reply_value.result c.reply_value.ensures.told
-    c.reply_value.ensures.memory)
+    c.reply_value.ensures.memory c.reply_value.ensures.refused)

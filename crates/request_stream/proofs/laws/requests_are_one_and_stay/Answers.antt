@@ -1,4 +1,4 @@
-use Rattle.request_stream.proofs.OneRequest.{request_one, request_stays, request_within}
+use Rattle.request_stream.proofs.OneRequest.{progress_stays, request_one, request_stays, request_within}
 use Rattle.request_stream.proofs.Streams.{one_list, front_goes_on, front_takes_more, front_ends, front_ends_with_last}
 use Rattle.request_stream.proofs.laws.requests_are_one_and_stay.Goals as goal
 
@@ -14,4 +14,5 @@ returns c =
       takes_more = front_takes_more heads.stays heads.none_stays heads.whole;
       ends = front_ends;
       ends_with_last = front_ends_with_last;
+      progress = progress_stays;
     }
