@@ -14,9 +14,7 @@ use Rattle.machine_core.specs.MachineViews.{place_in}
 use Rattle.machine_core.specs.OwnParts.{own_of}
 use Rattle.machine_core.specs.Replays.{download_of, is_download, queue_in, replay_of}
 use Rattle.machine_core.specs.Starts.{Download, RunStart}
-use Rattle.machine_core.specs.declared.ends.End.TheVariants as end
 use Rattle.machine_core.specs.declared.events.Event.{Event}
-use Rattle.machine_core.specs.declared.events.Event.TheVariants.{Ended}
 use Rattle.machine_core.proofs.Homes.{place_same}
 use Rattle.rate_limits.specs.Shared.{lesser_credit, levels_taken, longer_wait, shared_answer}
 use Rattle.rate_tokens.specs.declared.bucket.Take.TheVariants.{Go, Hold}
@@ -184,9 +182,6 @@ module _ {D : Type 0} (now : Moment) (mid new : EngineState D) (id want place f 
   place_is : place ≡ added_place gid (queue_in (start_of mid) (past_of mid)).added
   place_is = home.first ∙ sym (place_added (start_of mid) (past_of mid) gid)
 
-  none_count : (g : Gid) (count : ℕ) → Contains [] (Ended g (end.Disk count)) → count ≤ f
-  none_count g count there = absurd (let within = there.1 in omega (arith, within))
-
   pub more_allowed : (bytes : ℕ) → Go bytes ≡ shared_answer mid.limits place (min want MAX_ALLOWANCE) at
       → new.limits ≡ levels_taken place at (Go bytes) mid.limits
       → MakesRow (operation.More id want now) (λ at s. OfClaim at s id (MoreRow at s want)) mid f new f (Allow bytes)
@@ -208,7 +203,7 @@ module _ {D : Type 0} (now : Moment) (mid new : EngineState D) (id want place f 
               (turn_credit (turn_from mid.run from) (standing_of mid) gid).bytes some
               (subst (λ (c : ℕ). 1 ≤ c) same lets.some),
         ),
-      )) (omega arith) none_count (ap (λ h. h.pieces) handed)
+      )) refl (ap (λ h. h.pieces) handed)
       (All-nil (IsUnsettled (start_of mid) (past_of mid))) gid bytes place limits
       (spending_home (start_of mid) (past_of mid) id home.download home.claim home.home.stands home.home.id_is home.home.added
       home.one bytes) home.first (slice_get_within (downloads_of (start_of mid) (past_of mid)) place home.download home.there)
@@ -233,5 +228,5 @@ module _ {D : Type 0} (now : Moment) (mid new : EngineState D) (id want place f 
               ∙ said_hold (turn_from mid.run from) (standing_of mid) gid want
               (turn_credit (turn_from mid.run from) (standing_of mid) gid).bytes some (sym same ∙ holds.0),
         ),
-      )) (omega arith) none_count (ap (λ h. h.pieces) handed)
+      )) refl (ap (λ h. h.pieces) handed)
       (All-nil (IsUnsettled (start_of mid) (past_of mid))) limits refl

@@ -4,6 +4,7 @@ use Rattle.std.specs.Prelude.{Some, slice_get, slice_index_or}
 use Rattle.std.proofs.lemmas.List.{length-append}
 use Rattle.dl_kinds.specs.declared.runs.Moment.{Moment}
 use Rattle.engine_turns.specs.CallRows.{CallRow}
+use Rattle.engine_turns.specs.Faults.{CountsFaults}
 use Rattle.engine_turns.specs.Levels.{downloads_of, overall_rate, own_rate, with_new_rate}
 use Rattle.engine_turns.specs.Phases.{TurnStart}
 use Rattle.engine_turns.specs.RunTurns.{IsAnswered, answer_before}
@@ -180,7 +181,7 @@ module _ {D : Type 0} (session : ℕ) (call : Call) (now : Moment) (old mid : En
     abbrev op : Operation
     op = operation.Call session call now
 
-    pub call_performed : (run : StoredView D) (before f f' : ℕ) (new : EngineState D) (said : Said) → before ≤ f
+    pub call_performed : (run : StoredView D) (before f f' : ℕ) (new : EngineState D) (said : Said) → f ≡ before
         → HasRates (start_of old) (past_of old) old.limits → answer_before (start_of old) (past_of old) op ≡ None
         → DoesRow (λ at s. UnlessStarved (CallRow at s session call)) mid.run f run f' said
         → run.machine.start ≡ mid.run.machine.start → run.now ≡ mid.run.now
@@ -190,7 +191,7 @@ module _ {D : Type 0} (session : ℕ) (call : Call) (now : Moment) (old mid : En
     call_performed run before f f' new said more rates front row start_is now_is run_is handed_is follow =
         let at : TurnStart = turn_from mid.run before in
         let s = standing_of old in
-        let here = row.is before s more (sym begins.machine.past_is) in
+        let here = row.is before s (omega (arith, more)) (sym begins.machine.past_is) in
         let none = starved_lets_none at s session call row.events said here in
         let same_start : start_of new ≡ start_of old =
         ap (λ r. r.machine.start) run_is ∙ (start_is ∙ begins.machine.start_is) in
@@ -215,7 +216,7 @@ module _ {D : Type 0} (session : ℕ) (call : Call) (now : Moment) (old mid : En
                 (⊎_elim (λ starved. inl (refl, starved)) (λ (is : CallRow _ s session call row.events said). inr is)
                 (subst (λ (a : TurnStart). UnlessStarved (CallRow a s session call) row.events said) turn_is here));
             later = omega (arith, more, row.later);
-            counts = row.counts;
+            counts = subst (λ (n : ℕ). CountsFaults n row.events f') more row.counts;
             levels = subst (λ sp. LevelsGoOn (start_of old) (past_of old) (past_of new) sp new.run.now.0 old.limits new.limits)
                 (sym (nothing_spent (start_of old) (past_of old) op said none))
                 (levels_called (start_of old) (past_of old) (past_of new) new.run.now.0 old.limits new.limits grows rates follows);

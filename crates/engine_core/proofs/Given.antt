@@ -1,19 +1,19 @@
 -- What is given in a turn, and what that leaves.
 use Rattle.std.proofs.Common.{◌≡◌, inr, ⊎_elim, ◌≤◌, ◌<◌, ℕ, Bool, true, false, Some, None, List, ◌++◌, length, refl, sym, ap, ◌∙◌, subst, arith}
-use Rattle.std.specs.Prelude.{◌&&◌, All, Contains, max, not}
+use Rattle.std.specs.Prelude.{◌&&◌, All, max, not}
 use Rattle.std.proofs.lemmas.List.Elements.{All-append}
 use Rattle.dl_kinds.specs.declared.gid.Gid.{Gid}
 use Rattle.dl_kinds.specs.declared.runs.Moment.{Moment}
 use Rattle.machine_core.specs.MachineViews.{place_in}
 use Rattle.machine_core.specs.RunLegal.{is_listed}
 use Rattle.machine_core.specs.Starts.{Download, RunStart}
-use Rattle.machine_core.specs.declared.ends.End.TheVariants as end
 use Rattle.machine_core.specs.declared.events.Event.{Event}
-use Rattle.machine_core.specs.declared.events.Event.TheVariants.{Ended}
 use Rattle.machine_core.specs.declared.handed.Handed.{Handed}
 use Rattle.machine_core.specs.declared.offers.Offer.TheVariants as offer
 use Rattle.rate_limits.specs.Shared.{levels_taken}
 use Rattle.rate_tokens.specs.declared.bucket.Take.TheVariants.{Go}
+use Rattle.engine_turns.proofs.Faults.{counts_later}
+use Rattle.engine_turns.specs.Faults.{CountsFaults}
 use Rattle.engine_turns.specs.Levels.{downloads_of, spent_by}
 use Rattle.engine_turns.specs.NextRows.{IsFaulted, whole_row}
 use Rattle.engine_turns.specs.Phases.{TurnStart}
@@ -54,13 +54,13 @@ module _ {D : Type 0} (old mid : EngineState D) (now : Moment) (begins : Begins 
 
   module _ (op : Operation) (unsealed : (h : Handed) → seals_handed h op ≡ false)
       (Row : TurnStart → RunStanding → List Event → Said → Type 0) (new : EngineState D) (before f f' : ℕ) (said : Said)
-      (brings : moment_of_operation op ≡ now.0) (more : before ≤ f) (rates : KeepsRates old)
+      (brings : moment_of_operation op ≡ now.0) (more : f ≡ before) (rates : KeepsRates old)
       (front : answer_before (start_of old) (past_of old) op ≡ None) (gives : MakesRow op Row mid f new f' said)
       (answers : (at : TurnStart) (s : RunStanding) (events : List Event) → Row at s events said
       → IsAnswered at s op events said None)
       (calm : (at : TurnStart) (s : RunStanding) (events : List Event) → Row at s events said → AreCalm events) where
     abbrev here : Row (turn_from mid.run before) (standing_of mid) gives.events said
-    here = gives.is before more
+    here = gives.is before (omega (arith, more))
 
     start_then : start_of new ≡ start_of old
     start_then = gives.start ∙ begins.machine.start_is
@@ -119,7 +119,7 @@ module _ {D : Type 0} (old mid : EngineState D) (now : Moment) (begins : Begins 
         answered = subst (IsAnswered (record { start = start_of old; now = new.run.now; faults = before }) (standing_of old) op gives.events said)
             (sym front) answered_then;
         later = omega (arith, more, gives.later);
-        counts = gives.counts;
+        counts = subst (λ (n : ℕ). CountsFaults n gives.events f') more gives.counts;
         levels = levels_then;
       };
       handed = gives.handed ∙ (ap (λ h. handed_by said ++ h.pieces) begins.handed
@@ -135,8 +135,8 @@ module _ {D : Type 0} (op : Operation) (Row : TurnStart → RunStanding → List
     (f f' : ℕ) (said : Said) (events : List Event) (calm : AreCalm events) (rates : KeepsRates old)
     (start : start_of new ≡ start_of old) (now : new.run.now ≡ old.run.now)
     (grown : past_of new ≡ history_after (past_of old) events)
-    (row : (from : ℕ) → from ≤ f → Row (turn_from old.run from) (standing_of old) events said) (later : f ≤ f')
-    (counts : (gid : Gid) (count : ℕ) → Contains events (Ended gid (end.Disk count)) → count ≤ f')
+    (row : (from : ℕ) → from ≤ f → Row (turn_from old.run from) (standing_of old) events said)
+    (counts : CountsFaults f events f')
     (handed : new.handed.pieces ≡ handed_by said ++ old.handed.pieces)
     (out : All (IsUnsettled (start_of old) (past_of old)) (handed_by said)) where
   abbrev stays_then : StaysUncalled (start_of old) (past_of old) (past_of new)
@@ -152,7 +152,7 @@ module _ {D : Type 0} (op : Operation) (Row : TurnStart → RunStanding → List
     events = events;
     grown = grown;
     is = row;
-    later = later;
+    later = counts_later f f' events counts;
     counts = counts;
     handed = handed;
     out = out;
@@ -174,7 +174,7 @@ module _ {D : Type 0} (op : Operation) (Row : TurnStart → RunStanding → List
     events = events;
     grown = grown;
     is = row;
-    later = later;
+    later = counts_later f f' events counts;
     counts = counts;
     handed = handed;
     out = out;

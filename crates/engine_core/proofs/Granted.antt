@@ -1,6 +1,6 @@
 -- What was offered is given.
 use Rattle.std.proofs.Common.{◌≡◌, inl, inr, ⊎_elim, ◌≤◌, ◌<◌, ℕ, Bool, true, false, Option, Some, None, List, [], ◌∷◌, ◌++◌, length, refl, sym, ap, ◌∙◌, subst, arith}
-use Rattle.std.specs.Prelude.{Contains, IfNone, IfSome, IsSome, map, min, All}
+use Rattle.std.specs.Prelude.{IfNone, IfSome, IsSome, map, min, All}
 use Rattle.std.specs.Option.{is_some}
 use Rattle.std.proofs.lemmas.Option.{slice_get_within}
 use Rattle.dl_kinds.specs.declared.gid.Gid.{Gid}
@@ -13,9 +13,8 @@ use Rattle.machine_core.specs.Reads.{lengths_of_gid}
 use Rattle.machine_core.specs.Replays.{queue_in}
 use Rattle.machine_core.specs.RunLegal.{download_in, is_listed, known_lengths}
 use Rattle.machine_core.specs.Starts.{Download, RunStart}
-use Rattle.machine_core.specs.declared.ends.End.TheVariants as end
 use Rattle.machine_core.specs.declared.events.Event.{Event}
-use Rattle.machine_core.specs.declared.events.Event.TheVariants.{Claimed, Ended}
+use Rattle.machine_core.specs.declared.events.Event.TheVariants.{Claimed}
 use Rattle.machine_core.specs.declared.handed.Handed.{Handed}
 use Rattle.machine_core.specs.declared.offers.Offer.{Offer}
 use Rattle.machine_core.specs.declared.offers.Offer.TheVariants as offer
@@ -24,6 +23,7 @@ use Rattle.machine_core.proofs.Here.{told_some}
 use Rattle.rate_limits.specs.Shared.{RunLevels, lesser_credit, levels_taken}
 use Rattle.rate_tokens.specs.declared.bucket.Take.TheVariants.{Go}
 use Rattle.span_map.specs.declared.jobs.Job.{Job}
+use Rattle.engine_turns.specs.Faults.{CountsFaults}
 use Rattle.engine_turns.specs.Levels.{downloads_of, spent_by}
 use Rattle.engine_turns.specs.NextRows.{IsJobOf, OfferRow, mirror_url, offers_in, whole_row}
 use Rattle.engine_turns.specs.Phases.{TurnStart}
@@ -40,7 +40,6 @@ use Rattle.stored_run.specs.Beginnings.{IsRoomier}
 use Rattle.stored_run.specs.Granting.{MakesClaim, IsLongAsPiece, MayBeGiven, UngivenRow}
 use Rattle.stored_run.specs.Settlings.{IsToBeSettled, OfDownload}
 use Rattle.stored_run.specs.Steps.{DoesRow, turn_from}
-use Rattle.stored_run.proofs.Doing.{fault_in}
 use Rattle.stored_run.proofs.PlainEvents.{gid_added}
 use Rattle.engine_core.specs.Buckets.{HasRates, LevelsGoOn}
 use Rattle.engine_core.specs.Engines.{KeepsRates, past_of, standing_of, start_of}
@@ -79,10 +78,7 @@ module _ (m seen : MachineView) (same : seen ≡ m) (gid : Gid) where
         subst (λ (v : MachineView). place < length (downloads_of v.start v.past)) same
         (slice_get_within (downloads_of seen.start seen.past) place there.download there.added)
 
-none_count : (f : ℕ) (g : Gid) (count : ℕ) → Contains [] (Ended g (end.Disk count)) → count ≤ f
-none_count f g count there = absurd (let within = there.1 in omega (arith, within))
-
-module _ {D : Type 0} (worker : ℕ) (now : Moment) (old new : EngineState D) (gid : Gid) (f f' : ℕ) (later : f ≤ f')
+module _ {D : Type 0} (worker : ℕ) (now : Moment) (old new : EngineState D) (gid : Gid) (f f' : ℕ)
     (rates : KeepsRates old) (added : is_added_in old.run.machine gid ≡ true) where
   abbrev start : RunStart
   start = start_of old
@@ -107,13 +103,13 @@ module _ {D : Type 0} (worker : ℕ) (now : Moment) (old new : EngineState D) (g
     is = (refl, ap (λ (g : Gid). Grant (Hash g piece bytes)) (sym its_gid));
   })
 
-  pub hash_given : (piece : ℕ) (bytes : List ℕ) → IsToBeSettled old.run gid piece
+  pub hash_given : f' ≡ f → (piece : ℕ) (bytes : List ℕ) → IsToBeSettled old.run gid piece
       → OfDownload old.run gid (λ download. is_listed download.subject ≡ true)
       → IsLongAsPiece (lengths_of_gid old.run.machine gid) piece bytes → new.run.machine ≡ old.run.machine
       → new.run.now ≡ old.run.now → new.handed.pieces ≡ record { gid = gid; piece = piece } ∷ old.handed.pieces
       → new.limits ≡ old.limits
       → MakesRow (Next worker now) (GivenRow gid worker (offer.Whole piece)) old f new f' (Grant (Hash gid piece bytes))
-  hash_given piece bytes to listed long machine now_is handed limits =
+  hash_given still piece bytes to listed long machine now_is handed limits =
       let unsettled : IsUnsettled start past (record { gid = gid; piece = piece }) = record {
         download = its.0;
         added = its.1;
@@ -127,7 +123,7 @@ module _ {D : Type 0} (worker : ℕ) (now : Moment) (old new : EngineState D) (g
         its.0,
         its.1,
         hash_row (is_listed its.0.subject) piece from bytes (listed its.0 its.1) long,
-      )) later (none_count f') handed
+      )) still handed
       (All-cons (IsUnsettled start past) (record { gid = gid; piece = piece }) [] unsettled (All-nil (IsUnsettled start past)))
       limits refl
 
@@ -141,16 +137,16 @@ module _ {D : Type 0} (worker : ℕ) (now : Moment) (old new : EngineState D) (g
       gives_unspent (Next worker now) (GivenRow gid worker (offer.Whole piece)) old new f f' said row.events quiet.0 rates
       start_is now_is row.grown
       (λ from below. given_of_ungiven gid worker piece (turn_from old.run from) (standing_of old) row.events said
-      (row.is from (standing_of old) below refl)) later row.counts
+      (row.is from (standing_of old) below refl)) row.counts
       (ap (λ h. h.pieces) handed ∙ ap (λ (hs : List Handed). hs ++ old.handed.pieces) (sym (nothing_handed said quiet.1)))
       (none_out (IsUnsettled start past) said quiet.1) limits (nothing_spent start past (Next worker now) said quiet.1)
 
   -- a mirror is to be asked for the length
-  pub probe_given : (mirror id : ℕ) (url : List ℕ) → MakesClaim gid worker mirror no_blocks None id old.run new.run
+  pub probe_given : f' ≡ f → (mirror id : ℕ) (url : List ℕ) → MakesClaim gid worker mirror no_blocks None id old.run new.run
       → OfDownload old.run gid (λ download. url ≡ mirror_url download.subject mirror) → new.handed ≡ old.handed
       → new.limits ≡ old.limits
       → MakesRow (Next worker now) (GivenRow gid worker (offer.Probe mirror)) old f new f' (Grant (Probe id gid url))
-  probe_given mirror id url claims url_is handed limits =
+  probe_given still mirror id url claims url_is handed limits =
       let claim = offered_claim mirror no_blocks None id worker old.run.now.0 in
       gives_unspent (Next worker now) (GivenRow gid worker (offer.Probe mirror)) old new f f' (Grant (Probe id gid url))
       (Claimed gid claim ∷ []) (one_event (Claimed gid claim) (Claimed gid claim ∷ []) refl refl) rates claims.start claims.now
@@ -164,11 +160,11 @@ module _ {D : Type 0} (worker : ℕ) (now : Moment) (old new : EngineState D) (g
           is = ap (λ (g : Gid). Grant (Probe id g url)) (sym its_gid)
               ∙ ap (λ (u : List ℕ). Grant (Probe id its.0.gid u)) (url_is its.0 its.1);
         },
-      )) later (fault_in (Claimed gid claim) f' tt) (ap (λ h. h.pieces) handed)
+      )) (tt, still) (ap (λ h. h.pieces) handed)
       (All-nil (IsUnsettled start past)) limits refl
 
   -- blocks are claimed
-  pub blocks_given : (mirror : ℕ) (run : Run) (victim : Option ℕ) (id : ℕ) (job : Job) (place bytes : ℕ)
+  pub blocks_given : f' ≡ f → (mirror : ℕ) (run : Run) (victim : Option ℕ) (id : ℕ) (job : Job) (place bytes : ℕ)
       → MakesClaim gid worker mirror run victim id old.run new.run
       → OfDownload old.run gid (λ download. IsJobOf (lengths_of_gid old.run.machine gid) download.subject mirror run job)
       → bytes ≡ min MAX_ALLOWANCE (lesser_credit old.limits place old.run.now.0) → place ≡ place_in start past gid
@@ -176,7 +172,7 @@ module _ {D : Type 0} (worker : ℕ) (now : Moment) (old new : EngineState D) (g
       → new.limits ≡ levels_taken place old.run.now.0 (Go bytes) old.limits
       → MakesRow (Next worker now) (GivenRow gid worker (offer.Blocks mirror run victim)) old f new f'
       (Grant (Fetch (record { claim = id; gid = gid; job = job; allow = bytes })))
-  blocks_given mirror run victim id job place bytes claims job_is bytes_is first within handed limits =
+  blocks_given still mirror run victim id job place bytes claims job_is bytes_is first within handed limits =
       let claim = offered_claim mirror run victim id worker old.run.now.0 in
       let grant : FetchGrant = record { claim = id; gid = gid; job = job; allow = bytes } in
       let place_is = first ∙ (ap (place_in start past) (sym its_gid) ∙ sym (place_added start past its.0.gid)) in
@@ -196,19 +192,19 @@ module _ {D : Type 0} (worker : ℕ) (now : Moment) (old new : EngineState D) (g
           allow_is = omega (arith, bytes_is, credit);
           is = refl;
         },
-      )) later (fault_in (Claimed gid claim) f' tt) (ap (λ h. h.pieces) handed) (All-nil (IsUnsettled start past)) gid bytes place
+      )) (tt, still) (ap (λ h. h.pieces) handed) (All-nil (IsUnsettled start past)) gid bytes place
       limits refl first within
 
 -- ---- nothing is given
 
 -- nothing came, and nothing is let go
 pub gives_nothing : {D : Type 0} (op : Operation) (Row : TurnStart → RunStanding → List Event → Said → Type 0)
-    (old new : EngineState D) (f f' : ℕ) (said : Said) → f ≤ f' → KeepsRates old → start_of new ≡ start_of old
+    (old new : EngineState D) (f f' : ℕ) (said : Said) → f' ≡ f → KeepsRates old → start_of new ≡ start_of old
     → new.run.now ≡ old.run.now → past_of new ≡ past_of old → new.handed.pieces ≡ old.handed.pieces
     → new.limits ≡ old.limits → lets_go said ≡ false
     → ((from : ℕ) → from ≤ f → Row (turn_from old.run from) (standing_of old) [] said) → MakesRow op Row old f new f' said
-gives_nothing op Row old new f f' said later rates start now past handed limits none row =
-    gives_unspent op Row old new f f' said [] (no_events [] refl) rates start now past row later (none_count f')
+gives_nothing op Row old new f f' said still rates start now past handed limits none row =
+    gives_unspent op Row old new f f' said [] (no_events [] refl) rates start now past row still
     (handed ∙ ap (λ (hs : List Handed). hs ++ old.handed.pieces) (sym (nothing_handed said none)))
     (none_out (IsUnsettled (start_of old) (past_of old)) said none) limits
     (nothing_spent (start_of old) (past_of old) op said none)
@@ -255,7 +251,7 @@ may_give old mid gid o handed roomier limits rates room hands is may =
 
 -- ---- from a state that differs in room alone
 
-module _ {D : Type 0} (worker : ℕ) (old mid new : EngineState D) (f f1 f' : ℕ) (said : Said) (below : f ≤ f1)
+module _ {D : Type 0} (worker : ℕ) (old mid new : EngineState D) (f f1 f' : ℕ) (said : Said) (below : f1 ≡ f)
     (start : start_of mid ≡ start_of old) (now : mid.run.now ≡ old.run.now) (past : past_of mid ≡ past_of old)
     (handed : mid.handed.pieces ≡ old.handed.pieces) (limits : mid.limits ≡ old.limits) where
   standing_is : standing_of mid ≡ standing_of old
@@ -299,7 +295,7 @@ module _ {D : Type 0} (worker : ℕ) (old mid new : EngineState D) (f f1 f' : �
               row = one.2;
             }))) there;
         later = omega (arith, below, given.later);
-        counts = given.counts;
+        counts = subst (λ (n : ℕ). CountsFaults n given.events f') below given.counts;
         handed = given.handed ∙ ap (λ (hs : List Handed). handed_by said ++ hs) handed;
         out =
             subst (λ (s : RunStart). All (IsUnsettled s (past_of old)) (handed_by said)) start

@@ -37,6 +37,7 @@ pub mod ReadTurns
 pub mod LandingRows
 pub mod WrittenTurns
 pub mod KeptPayloads
+pub mod GoingPayloads
 pub mod Unchecking
 pub mod FindingsRead
 pub mod GoingOn

@@ -107,7 +107,7 @@ first_given op gid old new f f' said is row start now handed limits rates =
     let here = row.is f (standing_of old) (omega arith) refl in
     let quiet = calm_opens gid (turn_from old.run f) (standing_of old) row.events said here in
     gives_unspent op (FirstRow gid) old new f f' said row.events quiet.0 rates start now row.grown
-    (λ from below. (is, row.is from (standing_of old) below refl)) row.later row.counts
+    (λ from below. (is, row.is from (standing_of old) below refl)) row.counts
     (ap (λ h. h.pieces) handed ∙ ap (λ (hs : List Handed). hs ++ old.handed.pieces) (sym (nothing_handed said quiet.1)))
     (none_out (IsUnsettled (start_of old) (past_of old)) said quiet.1) limits (nothing_spent (start_of old) (past_of old) op said quiet.1)
 

@@ -22,7 +22,7 @@ use Rattle.machine_core.specs.RunLegal.{IsLegal}
 use Rattle.machine_core.specs.Starts.{RunStart}
 use Rattle.machine_core.specs.declared.events.Event.{Event}
 use Rattle.machine_core.specs.declared.events.Event.TheVariants.{Opened}
-use Rattle.resume_core.specs.Openings.{OpensJust, is_compared}
+use Rattle.resume_core.specs.Openings.{FitsPayload, OpensJust, is_compared}
 use Rattle.resume_core.specs.Sharing.{share_names}
 use Rattle.resume_core.specs.Steps.{SameFor}
 use Rattle.stored_run.proofs.Doing.{opened_grown, own_grows_on}
@@ -35,10 +35,11 @@ use Rattle.stored_run.specs.declared.run.StoredView.{StoredView}
 use Rattle.engine_core.specs.Askings.{AreAsked, Asks, HasFailedIn, IsNext, is_opened_in}
 use Rattle.engine_core.specs.Disks.{IsAlike, LeavesTurn, LeavesUnopened, OpensNext}
 use Rattle.engine_core.specs.Engines.{past_of, start_of}
-use Rattle.engine_core.specs.TurnReads.{IsUntouched, OpensAsRead}
+use Rattle.engine_core.specs.TurnReads.{IsUntouched, OfItsWant, OpensAsRead}
 use Rattle.engine_core.specs.declared.state.EngineState.{EngineState}
 use Rattle.engine_core.proofs.Gone.{IsOpenedNext, newly_opened}
 use Rattle.engine_core.proofs.Promising.{legal_front, want_later}
+use Rattle.engine_core.proofs.ReadTurns.{fits_alike, same_cut}
 use Rattle.engine_core.proofs.Turned.{keeps_apart}
 
 -- ---- the opening among the own events of a download
@@ -232,6 +233,13 @@ module _ {D : Type 0} (laws : RunFollows) (handed : HandedAreActive) (state : D 
                 (subst (λ (c : Bool). OpensJust (is_compared asks.want c) asks.want d.seen came.opened) checked came.just);
           }
 
+      fits_read : (verified blocks : List Bool) (now : Moment) → Contains t.events (Opened gid verified blocks now)
+          → OfItsWant S (history_of told) gid (λ want. FitsPayload want d.seen after.seen)
+      fits_read verified blocks now there want has =
+          let opened = opened_now gid verified blocks now there in
+          let came = asks.tries.opened (open_then (is_open gid verified blocks now opened)) in
+          fits_alike asks.want want d.seen after.seen (same_cut S (history_of told) gid asks.want want has_then has) came.fits
+
       -- the store was asked
       asks_then : IsNext t.op → next_to_open S (history_of told) ≡ Some gid → Asks S told t gid
       asks_then is next = record {
@@ -274,9 +282,11 @@ module _ {D : Type 0} (laws : RunFollows) (handed : HandedAreActive) (state : D 
   next_was : (gid : Gid) → next_to_open old.run.machine.start old.run.machine.past ≡ Some gid → next_to_open S (history_of told) ≡ Some gid
   next_was gid next = ap (next_to_open S) (sym past_is) ∙ next
 
-  pub opened_read : (gid : Gid) (verified blocks : List Bool) (now : Moment)
-      → Contains t.events (Opened gid verified blocks now) → OpensAsRead S (history_of told) gid verified blocks d.seen
-  opened_read gid verified blocks now there =
+  -- the store was asked to open it
+  asked_for : (gid : Gid) (verified blocks : List Bool) (now : Moment)
+      → Contains t.events (Opened gid verified blocks now)
+      → (mid : StoredView D) × IsAlike old.run mid × AsksStore gid mid new.run t.answer.said d after
+  asked_for gid verified blocks now there =
       let next = next_then gid verified blocks now there in
       let opened = opened_now gid verified blocks now there in
       ⊎_elim
@@ -299,8 +309,20 @@ module _ {D : Type 0} (laws : RunFollows) (handed : HandedAreActive) (state : D 
       absurd (let is : is_opened (own_of S (history_of (t ∷ told)) gid) ≡ false =
       (λ i. is_opened (own_of (sym start_is i) (sym past_after i) gid)) ∙ still.1 in
       let never : true ≡ false = sym (is_open gid verified blocks now opened) ∙ is in cc))
-      (λ (asks : AsksStore gid opens.mid new.run t.answer.said d after).
-      opens_read opens.mid opens.alike gid asks verified blocks now there) its.came) more) turn
+      (λ (asks : AsksStore gid opens.mid new.run t.answer.said d after). (opens.mid, opens.alike, asks)) its.came) more) turn
+
+  pub opened_read : (gid : Gid) (verified blocks : List Bool) (now : Moment)
+      → Contains t.events (Opened gid verified blocks now) → OpensAsRead S (history_of told) gid verified blocks d.seen
+  opened_read gid verified blocks now there =
+      let asks = asked_for gid verified blocks now there in
+      opens_read asks.0 asks.1 gid asks.2 verified blocks now there
+
+  pub fitted_read : (gid : Gid) (verified blocks : List Bool) (now : Moment)
+      → Contains t.events (Opened gid verified blocks now)
+      → OfItsWant S (history_of told) gid (λ want. FitsPayload want d.seen after.seen)
+  fitted_read gid verified blocks now there =
+      let asks = asked_for gid verified blocks now there in
+      fits_read asks.0 asks.1 gid asks.2 verified blocks now there
 
   pub untouched_read : (want : Want) → IsUntouched S (t ∷ told) want → SameFor want d.seen after.seen
   untouched_read want apart = ⊎_elim

@@ -7,6 +7,7 @@ use Rattle.machine_core.specs.TurnRooms.{IsRoomierRun}
 use Rattle.machine_core.specs.Starts.{RunStart}
 use Rattle.machine_core.specs.declared.events.Event.{Event}
 use Rattle.machine_core.specs.declared.handed.Handed.{Handed}
+use Rattle.engine_turns.specs.Faults.{CountsFaults}
 use Rattle.engine_turns.specs.Levels.{spent_by}
 use Rattle.engine_turns.specs.Phases.{TurnStart}
 use Rattle.engine_turns.specs.RunTurns.{IsAnswered, OperationRow, answer_before, answer_to, takes_memory}
@@ -54,7 +55,7 @@ module _ {D : Type 0} (op : Operation) (now : Moment) (brings : moment_of_operat
       (stays_uncalled (start_of old) (past_of old) events calm) old.limits rates)))
 
   -- nothing came
-  pub nothing_came : (f f' : ℕ) (asks needs : Bool) (said : Said) → f ≤ f' → HasRates (start_of old) (past_of old) old.limits
+  pub nothing_came : (f f' : ℕ) (asks needs : Bool) (said : Said) → f' ≡ f → HasRates (start_of old) (past_of old) old.limits
       → (answer_to asks needs (start_of old) (past_of old) ≡ None → takes_memory op ≡ true)
       → answer_before (start_of old) (past_of old) op ≡ answer_to asks needs (start_of old) (past_of old)
       → IsBrokenOff (answer_to asks needs (start_of old) (past_of old)) said
@@ -71,8 +72,8 @@ module _ {D : Type 0} (op : Operation) (now : Moment) (brings : moment_of_operat
               (sym front)
               (by (record { start = start_of old; now = mid.run.now; faults = f })
               (answer_to asks needs (start_of old) (past_of old)) refl is);
-          later = more;
-          counts = λ gid count there. absurd (let within = there.1 in omega arith);
+          later = omega (arith, more);
+          counts = more;
           levels = subst (λ l. LevelsGoOn (start_of old) (past_of old) (past_of mid) (spent_by (start_of old) (past_of old) op said) mid.run.now.0 old.limits l)
               (sym begins.limits)
               (subst (λ s. LevelsGoOn (start_of old) (past_of old) (past_of mid) s mid.run.now.0 old.limits old.limits)
@@ -93,7 +94,7 @@ module _ {D : Type 0} (op : Operation) (now : Moment) (brings : moment_of_operat
 
   -- a row of the run, with no call and nothing that is let go
   pub row_came : (Row : TurnStart → RunStanding → List Event → Said → Type 0) (run : StoredView D) (before f f' : ℕ)
-      (new : EngineState D) (said : Said) → before ≤ f → HasRates (start_of old) (past_of old) old.limits
+      (new : EngineState D) (said : Said) → f ≡ before → HasRates (start_of old) (past_of old) old.limits
       → answer_before (start_of old) (past_of old) op ≡ None → DoesRow Row mid.run f run f' said
       → run.machine.start ≡ mid.run.machine.start → run.now ≡ mid.run.now
       → new.run ≡ run → new.limits ≡ mid.limits
@@ -105,7 +106,7 @@ module _ {D : Type 0} (op : Operation) (now : Moment) (brings : moment_of_operat
   row_came Row run before f f' new said more rates front row start_is now_is run_is limits_is gives calm handed out =
       let at : TurnStart = turn_from mid.run before in
       let s = standing_of old in
-      let here = row.is before s more (sym begins.machine.past_is) in
+      let here = row.is before s (omega (arith, more)) (sym begins.machine.past_is) in
       let quiet = calm at s row.events here in
       let past_is : past_of new ≡ history_after (past_of old) row.events =
       ap (λ r. r.machine.past) run_is ∙ (row.grown ∙ ap (λ (p : List Event). history_after p row.events) begins.machine.past_is) in
@@ -120,7 +121,7 @@ module _ {D : Type 0} (op : Operation) (now : Moment) (brings : moment_of_operat
           answered = subst (IsAnswered (record { start = start_of old; now = new.run.now; faults = before }) s op row.events said)
               (sym front) (inr (subst (λ (a : TurnStart). OperationRow a s op row.events said) turn_is (gives row.events here)));
           later = omega (arith, more, row.later);
-          counts = row.counts;
+          counts = subst (λ (n : ℕ). CountsFaults n row.events f') more row.counts;
           levels = subst (λ l. LevelsGoOn (start_of old) (past_of old) (past_of new) (spent_by (start_of old) (past_of old) op said) new.run.now.0 old.limits l)
               (sym (limits_is ∙ begins.limits))
               (subst (λ sp. LevelsGoOn (start_of old) (past_of old) (past_of new) sp new.run.now.0 old.limits old.limits)
@@ -139,7 +140,7 @@ module _ {D : Type 0} (op : Operation) (now : Moment) (brings : moment_of_operat
 
 module _ {D : Type 0} (op : Operation) (unsealed : (h : Handed) → seals_handed h op ≡ false) (now : Moment)
     (brings : moment_of_operation op ≡ now.0) (old mid : EngineState D) (begins : Begins now old mid) where
-  pub broken_off : (f f' : ℕ) (asks needs : Bool) (said : Said) → f ≤ f' → HasRates (start_of old) (past_of old) old.limits
+  pub broken_off : (f f' : ℕ) (asks needs : Bool) (said : Said) → f' ≡ f → HasRates (start_of old) (past_of old) old.limits
       → (answer_to asks needs (start_of old) (past_of old) ≡ None → takes_memory op ≡ true)
       → answer_before (start_of old) (past_of old) op ≡ answer_to asks needs (start_of old) (past_of old)
       → IsBrokenOff (answer_to asks needs (start_of old) (past_of old)) said → Performs op old f mid f' said
@@ -148,7 +149,7 @@ module _ {D : Type 0} (op : Operation) (unsealed : (h : Handed) → seals_handed
       (handed_stay op said old.handed.pieces unsealed (front_lets_none asks needs (start_of old) (past_of old) said is))
 
   pub row_performed : (Row : TurnStart → RunStanding → List Event → Said → Type 0) (run : StoredView D) (before f f' : ℕ)
-      (new : EngineState D) (said : Said) → before ≤ f → HasRates (start_of old) (past_of old) old.limits
+      (new : EngineState D) (said : Said) → f ≡ before → HasRates (start_of old) (past_of old) old.limits
       → answer_before (start_of old) (past_of old) op ≡ None → DoesRow Row mid.run f run f' said
       → run.machine.start ≡ mid.run.machine.start → run.now ≡ mid.run.now
       → new.run ≡ run → new.handed ≡ mid.handed → new.limits ≡ mid.limits
@@ -157,7 +158,7 @@ module _ {D : Type 0} (op : Operation) (unsealed : (h : Handed) → seals_handed
       → Performs op old before new f' said
   row_performed Row run before f f' new said more rates front row start_is now_is run_is handed_is limits_is gives calm =
       let same = ap (λ h. h.pieces) (handed_is ∙ begins.handed) in
-      let here = row.is before (standing_of old) more (sym begins.machine.past_is) in
+      let here = row.is before (standing_of old) (omega (arith, more)) (sym begins.machine.past_is) in
       row_came op now brings old mid begins Row run before f f' new said more rates front row start_is now_is run_is limits_is
       (λ events is. gives (turn_from mid.run before) (standing_of old) events is) calm
       (same ∙ handed_stay op said old.handed.pieces unsealed (calm (turn_from mid.run before) (standing_of old) row.events here).1)

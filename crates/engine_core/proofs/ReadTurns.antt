@@ -36,8 +36,9 @@ use Rattle.machine_core.specs.declared.handed.Handed.{Handed}
 use Rattle.option_set.specs.Values.{text_of_word}
 use Rattle.option_set.specs.declared.kinds.Word.TheVariants.{Out}
 use Rattle.payload_files.specs.Names.{name_of}
-use Rattle.payload_files.specs.Payload.{payload_in}
+use Rattle.payload_files.specs.Payload.{AreResized, payload_in}
 use Rattle.piece_table.specs.declared.giver.Giver.{Giver}
+use Rattle.resume_core.specs.Openings.{FitsPayload}
 use Rattle.resume_core.specs.Resume.{byte_at}
 use Rattle.resume_core.specs.Runs.{ReadsPiece}
 use Rattle.resume_core.specs.Steps.{SameFor}
@@ -47,7 +48,7 @@ use Rattle.stored_run.specs.Leavings.{AnyChange}
 use Rattle.stored_run.specs.Refused.{IsRefusalEnd, RefusesAsRead}
 use Rattle.stored_run.specs.Settlings.{CameBetween, IsTruly}
 use Rattle.stored_run.specs.Stored.{AreWantsKept}
-use Rattle.stored_run.specs.Views.{kept_want}
+use Rattle.stored_run.specs.Views.{GoesOpened, kept_want}
 use Rattle.stored_run.proofs.Between.{after_front}
 use Rattle.url_names.specs.UrlNames.{IsNameBy, IsNameOfUrl}
 use Rattle.verify_piece.specs.Hashes.{digest_by}
@@ -159,6 +160,17 @@ pub truly_alike : (v w : Want) (right : Bool) (check : ChecksumView) (seen : Fil
     → IsTruly right check v seen → IsTruly right check w seen
 truly_alike v w right check seen same is =
     subst (λ (p : Payload). IsTrue right ↔ (digest_by check.hash (payload_at seen p) ≡ check.digest)) same is
+
+abbrev FitsIn : (old new : Files) → Payload → Type 0
+FitsIn old new p =
+    AreResized p.dir p.layout old new × ((piece : ℕ) → ReachesIn piece old p → ReachesIn piece new p)
+    × ((piece : ℕ) → ReachesIn piece old p → bytes_in piece new p ≡ bytes_in piece old p)
+
+pub fits_alike : (v w : Want) (old new : Files) → payload_cut v ≡ payload_cut w → FitsPayload v old new
+    → FitsPayload w old new
+fits_alike v w old new same is =
+    let all = subst (FitsIn old new) same (is.resized, is.reaches, is.bytes) in
+    record { resized = all.0; reaches = all.1; bytes = all.2 }
 
 -- ---- what is kept of a download is its want
 
@@ -298,6 +310,12 @@ module _ {D : Type 0} (state : D → DiskState) (old new : EngineState D) (told 
       → Contains t.events (Opened gid verified blocks now) → OpensAsRead S (history_of told) gid verified blocks seen)
       → ((want : Want) → IsUntouched S (t ∷ told) want → SameFor want seen (state new.run.disk).seen)
       → WritesAsTold S (history_of told) t t.op (state new.run.disk).seen
+      → ((gid : Gid) (verified blocks : List Bool) (now : Moment)
+      → Contains t.events (Opened gid verified blocks now)
+      → OfItsWant S (history_of told) gid (λ want. FitsPayload want seen (state new.run.disk).seen))
+      → ((gid : Gid) → GoesOpened S (history_of told) gid
+      → OfItsWant S (history_of told) gid
+      (λ want. KeepsUnwritten S (history_of told) t want seen (state new.run.disk).seen))
       → ((want : Want) → IsWrittenAlone S (t ∷ told) want → HasFiles want.dir want.layout seen
       → KeepsUnwritten S (history_of told) t want seen (state new.run.disk).seen)
       → HaveLengths S (t ∷ told) (state new.run.disk)
@@ -306,10 +324,12 @@ module _ {D : Type 0} (state : D → DiskState) (old new : EngineState D) (told 
       → ((gid : Gid) (right : Bool) → Contains t.events (Checked gid right)
       → ChecksAsRead S (history_of told) gid right (state new.run.disk).seen)
       → FitsFiles S told t seen (state new.run.disk).seen
-  fits_files may takes opened untouched written payload lengths refused checked = record {
+  fits_files may takes opened untouched written fitted going payload lengths refused checked = record {
     takes = takes_then t.op takes may.answered;
     opened = opened;
     written = written;
+    fitted = fitted;
+    going = going;
     payload = payload;
     lengths = lengths;
     untouched = untouched;

@@ -1,14 +1,12 @@
 -- An operation that is performed is the next turn, and what is kept stands for all turns with it.
 use Rattle.std.proofs.Common.{◌≡◌, ◌≤◌, ℕ, Bool, true, false, List, [], ◌∷◌, ◌++◌, drop, length, map, reverse, refl, sym, ap, ◌∙◌, subst, arith}
-use Rattle.std.specs.Prelude.{◌&&◌, ◌||◌, IsTrue, All, Contains, filter, max, not}
+use Rattle.std.specs.Prelude.{◌&&◌, ◌||◌, IsTrue, All, filter, max, not}
 use Rattle.std.specs.List.{list_any}
 use Rattle.std.proofs.lemmas.List.{length-reverse, reverse-append}
 use Rattle.std.proofs.lemmas.List.Elements.{All-weaker, filter_agree}
 use Rattle.machine_core.specs.Replays.{is_active_in}
 use Rattle.machine_core.specs.Starts.{Download, RunStart}
-use Rattle.machine_core.specs.declared.ends.End.TheVariants as end
 use Rattle.machine_core.specs.declared.events.Event.{Event}
-use Rattle.machine_core.specs.declared.events.Event.TheVariants.{Ended}
 use Rattle.machine_core.specs.declared.handed.Handed.{Handed}
 use Rattle.rate_tokens.specs.Level.{Level}
 use Rattle.turn_desk.specs.Turns.{IsLater, ServesTurn, StartsWith, turn_of}
@@ -25,12 +23,14 @@ use Rattle.engine_core.specs.Durable.{KeepsPromises}
 use Rattle.engine_core.proofs.DiskTaken.{keeps_promises}
 use Rattle.engine_core.proofs.ReadTurns.{fits_files, fits_more, turn_passes}
 use Rattle.engine_core.proofs.WrittenTurns.{written_read}
-use Rattle.engine_core.proofs.OpenedRead.{opened_read, untouched_read}
+use Rattle.engine_core.proofs.GoingPayloads.{going_read}
+use Rattle.engine_core.proofs.OpenedRead.{fitted_read, opened_read, untouched_read}
 use Rattle.engine_core.specs.Readings.{TakesRead}
 use Rattle.engine_core.specs.Findings.{FindsRead}
 use Rattle.engine_core.proofs.FindingsRead.{checked_read, refused_read}
 use Rattle.engine_core.specs.TurnReads.{TurnsFitDisk}
 use Rattle.turn_desk.specs.declared.turn.Stamp.{Stamp}
+use Rattle.engine_turns.specs.Faults.{CountsFaults}
 use Rattle.engine_turns.specs.Levels.{downloads_of, level_of_download, level_on, overall_rate, own_levels, spent_by}
 use Rattle.engine_turns.specs.Phases.{TurnStart}
 use Rattle.engine_turns.specs.RunTurns.{IsAnswered, IsTurnAnswered, MayComeAfter, answer_before, brought_bytes, ties_turn, turn_start}
@@ -108,9 +108,10 @@ module _ {D : Type 0} (tells : Bool) (state : D → DiskState) (op : Operation) 
   may_come = record {
     back = back_is;
     answered = answered;
-    counts = λ gid count there. subst (λ (n : ℕ). count ≤ n) (sym faults_after)
-        (done.answers.counts gid count
-        (subst (λ (es : List Event). Contains es (Ended gid (end.Disk count))) events_are there));
+    counts =
+        subst (λ (n : ℕ). CountsFaults n t.events m'.faults) (sym faults)
+        (subst (λ (n : ℕ). CountsFaults f t.events n) (sym faults_after)
+        (subst (λ (es : List Event). CountsFaults f es f') (sym events_are) done.answers.counts));
   }
 
   -- ---- after it
@@ -316,6 +317,10 @@ module _ {D : Type 0} (tells : Bool) (state : D → DiskState) (faults : D → �
             (untouched_read laws active state old new told turn (left_since told_is) legal_was legal_then may was.wants_are asked past_was
             start_is past_then)
             (written_read state old new told turn (left_since told_is) was.wants_are past_was past_then may)
+            (fitted_read laws active state old new told turn (left_since told_is) legal_was legal_then may was.wants_are asked past_was
+            start_is past_then)
+            (λ gid goes want has.
+            going_read state old new told turn (left_since told_is) was.wants_are past_was past_then gid goes want has)
             (payload_read laws state old new told turn (left_since told_is) legal_then was.wants_are asked past_was start_is past_then)
             (keeps_promises laws active tells told_is state faults old new told turn (left_since told_is) was past_was past_then start_is
             legal may (ap (λ (b : Bool). moment_told b (state old.run.disk)) told_is) (is.disk told_is)).lengths

@@ -1,7 +1,8 @@
 -- What a worker is given.
-use Rattle.std.specs.Prelude.{◌≡◌, ◌≤◌, ◌⊎◌, ℕ, Bool, IsTrue, true, All, Contains, List, Some, ◌++◌}
+use Rattle.std.specs.Prelude.{◌≡◌, ◌≤◌, ◌⊎◌, ℕ, Bool, IsTrue, true, All, List, Some, ◌++◌}
 use Rattle.dl_disk.specs.State.{DiskState}
 use Rattle.dl_kinds.specs.declared.gid.Gid.{Gid}
+use Rattle.engine_turns.specs.Faults.{CountsFaults}
 use Rattle.engine_turns.specs.Levels.{spent_by}
 use Rattle.engine_turns.specs.NextRows.{IsHolding, IsIdling, IsOfferGiven, OfferRow}
 use Rattle.engine_turns.specs.Phases.{TurnStart}
@@ -15,9 +16,7 @@ use Rattle.machine_core.specs.Offers.{Credit, affords, gid_credit}
 use Rattle.machine_core.specs.Replays.{queue_in}
 use Rattle.machine_core.specs.RunLegal.{download_in}
 use Rattle.machine_core.specs.Starts.{Download}
-use Rattle.machine_core.specs.declared.ends.End.TheVariants as end
 use Rattle.machine_core.specs.declared.events.Event.{Event}
-use Rattle.machine_core.specs.declared.events.Event.TheVariants.{Ended}
 use Rattle.machine_core.specs.declared.offers.Offer.{Offer}
 use Rattle.machine_core.specs.declared.offers.Offered.TheVariants.{Next}
 use Rattle.stored_run.specs.Granting.{MayBeGiven}
@@ -73,7 +72,7 @@ module _ {D : Type 0} where
     pub grown : past_of new ≡ history_after (past_of old) events
     pub is : (from : ℕ) → from ≤ faults → Row (turn_from old.run from) (standing_of old) events said
     pub later : faults ≤ faults_after
-    pub counts : (gid : Gid) (count : ℕ) → Contains events (Ended gid (end.Disk count)) → count ≤ faults_after
+    pub counts : CountsFaults faults events faults_after
     pub handed : new.handed.pieces ≡ handed_by said ++ old.handed.pieces
     pub out : All (IsUnsettled (start_of old) (past_of old)) (handed_by said)
     pub levels : LevelsGoOn (start_of old) (past_of old) (past_of new)

@@ -1,11 +1,9 @@
 -- What an operation does to a run, and what is answered.
-use Rattle.std.specs.Prelude.{◌≡◌, ◌≤◌, ◌&&◌, ℕ, Bool, IsTrue, max, not, All, Contains, List, ◌++◌, filter}
+use Rattle.std.specs.Prelude.{◌≡◌, ◌≤◌, ◌&&◌, ℕ, Bool, IsTrue, max, not, All, List, ◌++◌, filter}
 use Rattle.dl_disk.specs.State.{DiskState}
-use Rattle.dl_kinds.specs.declared.gid.Gid.{Gid}
-use Rattle.machine_core.specs.declared.ends.End.TheVariants as end
 use Rattle.machine_core.specs.declared.events.Event.{Event}
-use Rattle.machine_core.specs.declared.events.Event.TheVariants.{Ended}
 use Rattle.machine_core.specs.declared.handed.Handed.{Handed}
+use Rattle.engine_turns.specs.Faults.{CountsFaults}
 use Rattle.engine_turns.specs.Levels.{spent_by}
 use Rattle.engine_turns.specs.RunTurns.{IsAnswered, answer_before}
 use Rattle.engine_turns.specs.Told.{handed_by, history_after, is_taken, moment_of_operation, seals_handed}
@@ -34,7 +32,7 @@ module _ {D : Type 0} where
     pub answered : IsAnswered (record { start = start_of old; now = new.run.now; faults = faults }) (standing_of old)
         op events said (answer_before (start_of old) (past_of old) op)
     pub later : faults ≤ faults_after
-    pub counts : (gid : Gid) (count : ℕ) → Contains events (Ended gid (end.Disk count)) → count ≤ faults_after
+    pub counts : CountsFaults faults events faults_after
     pub levels : LevelsGoOn (start_of old) (past_of old) (past_of new)
         (spent_by (start_of old) (past_of old) op said) new.run.now.0 old.limits new.limits
 

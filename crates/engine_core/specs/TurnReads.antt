@@ -22,7 +22,7 @@ use Rattle.machine_core.specs.declared.events.Event.{Event}
 use Rattle.machine_core.specs.declared.events.Event.TheVariants.{Checked, Ended, Opened, Settled}
 use Rattle.payload_files.specs.Payload.{HasFiles}
 use Rattle.piece_table.specs.declared.giver.Giver.{Giver}
-use Rattle.resume_core.specs.Openings.{OpensJust, is_compared}
+use Rattle.resume_core.specs.Openings.{FitsPayload, OpensJust, is_compared}
 use Rattle.resume_core.specs.Refusals.{open_refusal}
 use Rattle.resume_core.specs.Resume.{HasDigest}
 use Rattle.resume_core.specs.Runs.{ReadsPiece}
@@ -32,6 +32,7 @@ use Rattle.resume_core.specs.Wants.{files_in}
 use Rattle.stored_run.specs.Opening.{is_checked_in}
 use Rattle.stored_run.specs.Refused.{IsRefusalEnd, RefusesAsRead}
 use Rattle.stored_run.specs.Settlings.{IsTruly, SpellsCheckOf}
+use Rattle.stored_run.specs.Views.{GoesOpened}
 use Rattle.verify_piece.specs.Seals.{PieceBytes}
 use Rattle.engine_core.specs.Askings.{IsAsked, IsOpenedWant, IsWrittenAlone}
 use Rattle.engine_core.specs.Writings.{WritesAsTold, KeepsUnwritten}
@@ -112,12 +113,18 @@ IsUntouched start told want =
     → share_names other want ≡ false
 
 -- The turn is as the files say that the disk read at the mark before it, and at the mark behind it: in what it takes, opens
--- and writes. Behind it the files of each want that is opened have their lengths.
+-- and writes. What it doesn't write of the payload of a download that went on is the same, and an opening leaves each piece
+-- that stood. Behind it the files of each want that is opened have their lengths.
 pub record FitsFiles (start : RunStart) (before : List RunTurn) (t : RunTurn) (old new : Files) : Type 0 where
   pub takes : TakesAsRead start before t t.op old
   pub opened : (gid : Gid) (verified blocks : List Bool) (now : Moment)
       → Contains t.events (Opened gid verified blocks now) → OpensAsRead start (history_of before) gid verified blocks old
   pub written : WritesAsTold start (history_of before) t t.op new
+  pub fitted : (gid : Gid) (verified blocks : List Bool) (now : Moment)
+      → Contains t.events (Opened gid verified blocks now)
+      → OfItsWant start (history_of before) gid (λ want. FitsPayload want old new)
+  pub going : (gid : Gid) → GoesOpened start (history_of before) gid
+      → OfItsWant start (history_of before) gid (λ want. KeepsUnwritten start (history_of before) t want old new)
   pub payload : (want : Want) → IsWrittenAlone start (t ∷ before) want → HasFiles want.dir want.layout old
       → KeepsUnwritten start (history_of before) t want old new
   pub lengths : (want : Want) (gid : Gid) → IsWrittenAlone start (t ∷ before) want

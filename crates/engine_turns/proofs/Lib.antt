@@ -4,3 +4,4 @@ pub mod Going
 pub mod Idle
 pub mod Worked
 pub mod Gone
+pub mod Faults

@@ -1,6 +1,5 @@
 -- The worked turns.
-use Rattle.std.proofs.Common.{◌≡◌, ◌≢◌, ◌<◌, ◌∙◌, ℕ, zero, suc, List, None, Some, [], ◌∷◌, get_or, refl, ap, inl, inr, arith}
-use Rattle.std.specs.Prelude.{Contains}
+use Rattle.std.proofs.Common.{◌≡◌, ◌≢◌, ◌∙◌, ℕ, List, None, Some, [], refl, ap, inl, inr, arith}
 use Rattle.std.proofs.lemmas.List.Elements.{All-nil}
 use Rattle.dl_kinds.specs.declared.claims.Claim.{Claim}
 use Rattle.dl_kinds.specs.declared.gid.Gid.{Gid}
@@ -8,9 +7,6 @@ use Rattle.dl_queue.specs.declared.kinds.QueueErr.TheVariants.{NotFound}
 use Rattle.machine_core.specs.WorkedRuns.{key_of_first, one_at_once}
 use Rattle.machine_core.specs.declared.calls.Call.{Call}
 use Rattle.machine_core.specs.declared.calls.Call.TheVariants.{GetVersion, Pause}
-use Rattle.machine_core.specs.declared.ends.End.TheVariants as end
-use Rattle.machine_core.specs.declared.events.Event.{Event}
-use Rattle.machine_core.specs.declared.events.Event.TheVariants.{Called, Ended, Stopped}
 use Rattle.run_report.specs.Replies.{reply_of}
 use Rattle.run_report.specs.Subjects.{AreNames}
 use Rattle.run_report.specs.declared.kinds.Reply.{Reply}
@@ -26,17 +22,6 @@ use Rattle.engine_turns.specs.declared.operations.Said.TheVariants.{Allow, Repli
 pub worked_turns : WorkedTurns
 worked_turns =
     record { out = refl; paused = refl; again = refl; sealed = refl; void = refl; starved = refl; latest = refl }
-
--- no fault of the disk is told
-no_fault : (gid : Gid) (count : ℕ) → Contains [] (Ended gid (end.Disk count)) → ⊥
-no_fault gid count there = let w = there.1 in omega arith
-
-one_at : (e x : Event) (i : ℕ) → i < 1 → get_or (e ∷ []) i x ≡ x → e ≡ x
-one_at e x zero within is = is
-one_at e x (suc i) within is = absurd (omega arith)
-
-one_is : (e x : Event) → Contains (e ∷ []) x → e ≡ x
-one_is e x there = one_at e x there.0 there.1 there.2
 
 -- what is answered on no claim
 no_grant : OfClaim (turn_start one_at_once [] more_granted) (standing_after one_at_once []) 7
@@ -69,22 +54,22 @@ replied_as call reply (inr row) = ap reply_in row.answer ∙ row.is_reply unname
 pub worked_rows : WorkedRows
 worked_rows =
     record {
-      rests = record { back = refl; answered = (refl, refl); counts = λ gid count there. absurd (no_fault gid count there) };
-      no_work = record { back = refl; answered = (refl, refl); counts = λ gid count there. absurd (no_fault gid count there) };
+      rests = record { back = refl; answered = (refl, refl); counts = refl };
+      no_work = record { back = refl; answered = (refl, refl); counts = refl };
       goes_on = record {
         back = refl;
         answered = inr (refl, refl);
-        counts = λ gid count there. absurd (no_fault gid count there);
+        counts = refl;
       };
       no_claim = record {
         back = refl;
         answered = inr (inl ((λ gid. All-nil (λ (claim : Claim). claim.id ≢ 7)), (refl, refl)));
-        counts = λ gid count there. absurd (no_fault gid count there);
+        counts = refl;
       };
       no_door = record {
         back = refl;
         answered = inr (refl, refl);
-        counts = λ gid count there. absurd (no_fault gid count there);
+        counts = refl;
       };
       refused = record {
         back = refl;
@@ -99,8 +84,7 @@ worked_rows =
           is_reply = λ names are. refl;
           answer = refl;
         });
-        counts = λ gid count there.
-            absurd (let is = one_is (Called 0 (Pause key_of_first) (moment_at 6)) (Ended gid (end.Disk count)) there in cc);
+        counts = (tt, refl);
       };
       told = record {
         back = refl;
@@ -115,8 +99,7 @@ worked_rows =
           is_reply = λ names are. refl;
           answer = refl;
         });
-        counts = λ gid count there.
-            absurd (let is = one_is (Called 0 GetVersion (moment_at 6)) (Ended gid (end.Disk count)) there in cc);
+        counts = (tt, refl);
       };
       stops = record {
         back = refl;
@@ -129,11 +112,12 @@ worked_rows =
           saved = (refl, refl);
           answer = refl;
         });
-        counts = λ gid count there. absurd (let is = one_is Stopped (Ended gid (end.Disk count)) there in cc);
+        counts = (tt, refl);
       };
-      is_over = record { back = refl; answered = (refl, refl); counts = λ gid count there. absurd (no_fault gid count there) };
+      is_over = record { back = refl; answered = (refl, refl); counts = refl };
       not_idle = λ m. absurd (let said = m.answered.1 in cc);
       not_granted = λ m. more_refused m.answered;
       not_carried_out = λ m. absurd (let is = replied_as (Pause key_of_first) Fine m.answered in cc);
       not_told = λ m. absurd (let is = replied_as GetVersion Fine m.answered in cc);
+      not_passed_over = λ m. absurd (let is : 5 ≡ 0 = m.counts in cc);
     }

@@ -1,5 +1,6 @@
 pub mod Told
 pub mod Levels
+pub mod Faults
 pub mod Phases
 pub mod Standings
 pub mod ClaimRows

@@ -1,5 +1,5 @@
 -- What the events of a turn are made of, in order.
-use Rattle.std.specs.Prelude.{◌≡◌, ◌≢◌, ◌⊎◌, ℕ, ◌-◌, ◌^◌, ◌<◌, ◌≤◌, Bool, true, false, Contains, List, [], ◌∷◌, ◌++◌, slice_index_or}
+use Rattle.std.specs.Prelude.{◌≡◌, ◌≢◌, ◌⊎◌, ℕ, ◌-◌, ◌^◌, ◌<◌, ◌≤◌, Bool, true, false, List, [], ◌∷◌, ◌++◌, slice_index_or}
 use Rattle.dl_kinds.specs.declared.gid.Gid.{Gid}
 use Rattle.dl_kinds.specs.declared.marks.Mark.{Mark}
 use Rattle.dl_kinds.specs.declared.runs.Moment.{Moment}
@@ -17,6 +17,7 @@ use Rattle.machine_core.specs.declared.ends.End.{End}
 use Rattle.machine_core.specs.declared.ends.End.TheVariants as end
 use Rattle.machine_core.specs.declared.events.Event.{Event}
 use Rattle.machine_core.specs.declared.events.Event.TheVariants.{Opened, Landed, Settled, Cleared, Checked, Saved, Ended}
+use Rattle.engine_turns.specs.Faults.{CountsFaults}
 use Rattle.engine_turns.specs.Told.{history_after}
 use Rattle.engine_turns.specs.declared.outcome.Outcome.{Outcome}
 use Rattle.engine_turns.specs.declared.outcome.Outcome.TheVariants.{Went, Over, Starved}
@@ -223,4 +224,4 @@ pub record Did (P : ℕ → Phase) (old : List Event) (faults : ℕ) (new : List
   pub grown : new ≡ history_after old events
   pub is : (from : ℕ) → from ≤ faults → P from old events outcome
   pub later : faults ≤ faults_after
-  pub counts : (gid : Gid) (count : ℕ) → Contains events (Ended gid (end.Disk count)) → count ≤ faults_after
+  pub counts : CountsFaults faults events faults_after

@@ -1,15 +1,13 @@
 -- Which turn of a run may come after which, in all that doesn't speak of what the disk holds.
-use Rattle.std.specs.Prelude.{◌≡◌, ◌⊎◌, ℕ, ◌-◌, ◌≤◌, ◌&&◌, nat_lt, Bool, true, false, Option, Some, None, List, [], Contains, if◌then◌else◌, length, reverse}
-use Rattle.dl_kinds.specs.declared.gid.Gid.{Gid}
+use Rattle.std.specs.Prelude.{◌≡◌, ◌⊎◌, ℕ, ◌-◌, ◌&&◌, nat_lt, Bool, true, false, Option, Some, None, List, [], if◌then◌else◌, length, reverse}
 use Rattle.machine_core.specs.LawfulCalls.{IsLawful}
 use Rattle.machine_core.specs.Reads.{is_finished_in}
 use Rattle.machine_core.specs.Starts.{RunStart}
-use Rattle.machine_core.specs.declared.ends.End.TheVariants as end
 use Rattle.machine_core.specs.declared.events.Event.{Event}
-use Rattle.machine_core.specs.declared.events.Event.TheVariants.{Ended}
 use Rattle.machine_core.specs.declared.journal.TheConstants.{TURN_EVENTS}
 use Rattle.engine_turns.specs.CallRows.{CallRow, LeaveRow, StopRow}
 use Rattle.engine_turns.specs.ClaimRows.{DeliverRow, LoseRow, MoreRow, SizedRow}
+use Rattle.engine_turns.specs.Faults.{CountsFaults}
 use Rattle.engine_turns.specs.NextRows.{NextRow}
 use Rattle.engine_turns.specs.Phases.{TurnStart}
 use Rattle.engine_turns.specs.SealRows.{SealRow}
@@ -101,7 +99,7 @@ IsTurnAnswered start told t before =
 pub record MayComeAfter (start : RunStart) (told : List RunTurn) (t : RunTurn) : Type 0 where
   pub back : t.answer.back ≡ brought_bytes t.op
   pub answered : IsTurnAnswered start told t (answer_before start (history_of told) t.op)
-  pub counts : (gid : Gid) (count : ℕ) → Contains t.events (Ended gid (end.Disk count)) → count ≤ t.after.faults
+  pub counts : CountsFaults t.before.faults t.events t.after.faults
 
 -- .. with the oldest turn first, as a desk lists them
 abbrev pub ties_turn : RunStart → List RunTurn → RunTurn → Type 0

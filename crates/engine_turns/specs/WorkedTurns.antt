@@ -41,6 +41,10 @@ turn_with op said events =
       after = no_stamp;
     }
 
+-- the same, and the disk failed so often by its end
+abbrev pub failing : ℕ → RunTurn → RunTurn
+failing count t = record t { after = record { time = 0; faults = count } }
+
 abbrev pub call_turn : Call → ℕ → RunTurn
 call_turn call ms = turn_with (operation.Call 0 call (moment_at ms)) Idle (Called 0 call (moment_at ms) ∷ [])
 
@@ -109,3 +113,4 @@ pub record WorkedRows : Type 0 where
   pub not_granted : ¬ MayComeAfter one_at_once [] more_granted
   pub not_carried_out : ¬ MayComeAfter one_at_once [] (replied_turn (Pause key_of_first) Fine)
   pub not_told : ¬ MayComeAfter one_at_once [] (replied_turn GetVersion Fine)
+  pub not_passed_over : ¬ MayComeAfter one_at_once (adding_turn ∷ []) (failing 5 (turn_with Pulse Idle []))

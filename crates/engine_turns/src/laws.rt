@@ -1,4 +1,5 @@
 // What holds of the turns of every run.
+ghost use Rattle.engine_turns.specs.Faults.{CountsNeverFall, RisesAreTold};
 ghost use Rattle.engine_turns.specs.RunLaws.{ActiveAreGoing, EndedAreGone, GoneStay, InactiveAreIdle};
 ghost use Rattle.engine_turns.specs.TurnLaws.{HandedAreActive, MomentsNeverFall, TurnsAppend};
 ghost use Rattle.engine_turns.specs.WorkedTurns.{WorkedRows, WorkedTurns};
@@ -29,6 +30,13 @@ pub fn active_downloads_are_going()
 pub fn downloads_go_on_once()
     ensures gone { GoneStay }
     ensures ended { EndedAreGone }
+{}
+
+/// A fault of the disk isn't passed over: where the disk's count of faults rose in a turn, the end of a download tells the
+/// count as it is behind it. None is told above it. It does nothing when it runs.
+pub fn faults_are_told()
+    ensures rises { RisesAreTold }
+    ensures within { CountsNeverFall }
 {}
 
 /// The most events of a run, the most blocks of a delivery, and the most bytes let go at once. It does nothing when it runs.

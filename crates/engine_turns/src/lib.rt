@@ -7,8 +7,8 @@ mod operations;
 mod outcome;
 
 pub use laws::{
-    active_downloads_are_going, downloads_go_on_once, limits_are_told, turns_tell_runs,
-    worked_turns_are_told,
+    active_downloads_are_going, downloads_go_on_once, faults_are_told, limits_are_told,
+    turns_tell_runs, worked_turns_are_told,
 };
 pub use limits::{MAX_ALLOWANCE, MAX_DELIVERY, MAX_ENTRIES};
 pub use operations::{Answer, FetchGrant, Grant, Operation, Said};

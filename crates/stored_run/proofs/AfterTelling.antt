@@ -14,7 +14,6 @@ use Rattle.stored_run.specs.Steps.{DoesRow, RunStays}
 use Rattle.stored_run.specs.Stored.{IsStoredRun}
 use Rattle.stored_run.specs.Views.{IsGoing}
 use Rattle.stored_run.specs.declared.run.StoredView.{StoredView}
-use Rattle.stored_run.proofs.Doing.{no_counts}
 use Rattle.stored_run.proofs.EachSaved.{HaltsBetween, savable_still, stored_apart_still}
 
 pub same_view : {D : Type 0} (r : StoredView D) → TellsOnly [] r r
@@ -29,7 +28,7 @@ row_starved Row F old mid same = record {
   grown = same.past;
   is = λ from s below standing. inl (refl, refl);
   later = let is = ap F same.disk in omega arith;
-  counts = no_counts (F mid.disk);
+  counts = ap F same.disk;
 }
 
 module _ {D : Type 0} (laws : RunFollows) (tells : Bool) (F : D → ℕ) (S : D → DiskState) (old mid : StoredView D)

@@ -1,9 +1,9 @@
 -- Parts of turns put together: one after the other, and broken off.
 use Rattle.std.proofs.Common.{◌≡◌, ◌≢◌, inl, inr, ⊎_elim, ◌≤◌, ◌<◌, ◌+◌, ◌-◌, ◌^◌, ℕ, zero, suc, get_or, Bool, true, false, cond, Option, Some, None, List, [], ◌∷◌, ◌++◌, refl, sym, ap, ◌∙◌, subst, arith}
-use Rattle.std.specs.Prelude.{◌||◌, Contains, IfSome, IsSome}
+use Rattle.std.specs.Prelude.{◌||◌, IfSome, IsSome}
+use Rattle.std.specs.Option.{unwrap_or}
 use Rattle.std.proofs.lemmas.Bool.{cases_lt}
 use Rattle.std.proofs.lemmas.List.{append_assoc}
-use Rattle.std.proofs.lemmas.List.Elements.{Contains-append_cases}
 use Rattle.dl_kinds.specs.Counts.{Rose}
 use Rattle.dl_disk.specs.Files.{Files}
 use Rattle.dl_disk.specs.Passes.{present, since_split}
@@ -26,6 +26,8 @@ use Rattle.resume_core.specs.Resume.{AreSound}
 use Rattle.resume_core.specs.Steps.{SameBesides}
 use Rattle.resume_core.specs.Wants.{control_name}
 use Rattle.resume_core.proofs.Openings.{besides_none, besides_on}
+use Rattle.engine_turns.proofs.Faults.{counts_later, counts_on}
+use Rattle.engine_turns.specs.Faults.{CountsFaults}
 use Rattle.engine_turns.specs.Phases.{AndThen, ByHistory, Did, IfElse, IsRisen, NoEvent, Phase, TurnStart}
 use Rattle.engine_turns.specs.Standings.{RunStanding}
 use Rattle.engine_turns.specs.Told.{history_after}
@@ -53,9 +55,11 @@ risen at before now below rose fits = ⊎_elim
     (λ most. inr (omega (arith, most, fits)))
     (cases_lt now (2 ^ 64 - 1))
 
--- no count is told by what isn't a fault of the disk
-pub no_counts : (faults : ℕ) (gid : Gid) (count : ℕ) → Contains [] (Ended gid (end.Disk count)) → count ≤ faults
-no_counts faults gid count there = absurd (let within = there.1 in omega arith)
+-- a fault of the disk ended a download with the count that it made
+pub fault_counts : (gid : Gid) (before count now : ℕ) → before ≤ now → Rose before now → count ≡ now
+    → CountsFaults before (Ended gid (end.Disk count) ∷ []) now
+fault_counts gid before count now later rose is =
+    (record { later = omega (arith, is, later); rose = subst (Rose before) (sym is) rose }, sym is)
 
 -- ---- two parts
 
@@ -87,11 +91,7 @@ module _ (P Q : ℕ → Phase) where
           (back.is from (omega (arith, below, front.later)));
     });
     later = omega (arith, front.later, back.later);
-    counts = λ gid count there. ⊎_elim
-        (λ (early : Contains front.events (Ended gid (end.Disk count))).
-        omega (arith, front.counts gid count early, back.later))
-        (λ (late : Contains back.events (Ended gid (end.Disk count))). back.counts gid count late)
-        (Contains-append_cases front.events back.events (Ended gid (end.Disk count)) there);
+    counts = counts_on f f' f'' front.events back.events front.counts back.counts;
   }
 
 -- a part that the history before it decides
@@ -133,42 +133,36 @@ did_wider P Q a f b f' o wider did = record {
 }
 
 -- no event
-pub did_nothing : (a : List Event) (f f' : ℕ) → f ≤ f' → Did (λ n. NoEvent) a f a f' Went
-did_nothing a f f' later = record {
+pub did_nothing : (a : List Event) (f f' : ℕ) → f' ≡ f → Did (λ n. NoEvent) a f a f' Went
+did_nothing a f f' same = record {
   events = [];
   grown = refl;
   is = λ from below. refl;
-  later = later;
-  counts = no_counts f';
+  later = omega (arith, same);
+  counts = same;
 }
 
 -- ---- one event
 
-one_at : (e x : Event) (i : ℕ) → i < 1 → get_or (e ∷ []) i x ≡ x → e ≡ x
-one_at e x zero within is = is
-one_at e x (suc i) within is = absurd (omega arith)
-
-contains_one : (e x : Event) → Contains (e ∷ []) x → e ≡ x
-contains_one e x there = one_at e x there.0 there.1 there.2
-
--- its count of a fault, if it tells one
-pub fault_in : (e : Event) (faults : ℕ) → IfSome (disk_fault_of e) (λ count. count ≤ faults) → (gid : Gid) (count : ℕ)
-    → Contains (e ∷ []) (Ended gid (end.Disk count)) → count ≤ faults
-fault_in e faults within gid count there =
-    subst (λ (x : Event). IfSome (disk_fault_of x) (λ n. n ≤ faults))
-    (contains_one e (Ended gid (end.Disk count)) there) within
+-- its count, if it tells one, is the count then
+pub count_low : (e : Event) (f f' : ℕ) → CountsFaults f (e ∷ []) f' → IfSome (disk_fault_of e) (λ count. count ≤ f')
+count_low e f f' counts = by (disk_fault_of e) counts.1
+  where
+    by : (o : Option ℕ) → f' ≡ unwrap_or o f → IfSome o (λ count. count ≤ f')
+    by None is = tt
+    by (Some count) is = omega (arith, is)
 
 pub part_event : {D : Type 0} (P : TurnStart → Phase) (e : Event) (old new : StoredView D) (f f' : ℕ) (o : Outcome)
-    → new.machine.past ≡ e ∷ old.machine.past → f ≤ f' → IfSome (disk_fault_of e) (λ count. count ≤ f')
+    → new.machine.past ≡ e ∷ old.machine.past → CountsFaults f (e ∷ []) f'
     → ((n : ℕ) → n ≤ f → P (turn_from old n) old.machine.past (e ∷ []) o) → DoesPart P old f new f' o
-part_event P e old new f f' o grown later within is =
-    record { events = e ∷ []; grown = grown; is = is; later = later; counts = fault_in e f' within }
+part_event P e old new f f' o grown counts is =
+    record { events = e ∷ []; grown = grown; is = is; later = counts_later f f' (e ∷ []) counts; counts = counts }
 
 pub part_none : {D : Type 0} (P : TurnStart → Phase) (old new : StoredView D) (f f' : ℕ) (o : Outcome)
-    → new.machine.past ≡ old.machine.past → f ≤ f' → ((n : ℕ) → n ≤ f → P (turn_from old n) old.machine.past [] o)
+    → new.machine.past ≡ old.machine.past → f' ≡ f → ((n : ℕ) → n ≤ f → P (turn_from old n) old.machine.past [] o)
     → DoesPart P old f new f' o
-part_none P old new f f' o same later is =
-    record { events = []; grown = same; is = is; later = later; counts = no_counts f' }
+part_none P old new f f' o same still is =
+    record { events = []; grown = same; is = is; later = omega (arith, still); counts = still }
 
 -- ---- two parts of a run
 
@@ -227,7 +221,7 @@ row_of_none Row r f said is = record {
   grown = refl;
   is = λ from s below standing. is from s standing;
   later = omega arith;
-  counts = no_counts f;
+  counts = refl;
 }
 
 -- ---- a download's own history grows

@@ -123,16 +123,16 @@ settled_stored want own disk piece right giver digest is = record {
 
 -- what an equal machine tells
 pub find_did : {D : Type 0} (old new : StoredView D) (gid : Gid) (piece : ℕ) (right : Bool) (f f' : ℕ)
-    → Appends old.machine new.machine (IsFindingOf gid piece right) → f ≤ f'
+    → Appends old.machine new.machine (IsFindingOf gid piece right) → f' ≡ f
     → DoesPart (λ at. FindingPhase at gid piece right) old f new f' Went
-find_did old new gid piece right f f' came later =
+find_did old new gid piece right f f' came still =
     let giver = came.is.0 in
     let may : MayBeSettled old.machine.start old.machine.past gid (Settles piece right giver) right =
     subst (λ (e : Event). MayFollow old.machine.start old.machine.past e) came.is.1 came.may in
     did_one (λ n. FindingPhase (turn_from old n) gid piece right) old.machine.past f new.machine.past f' Went
     (Settled gid piece right giver)
-    (came.past_is ∙ ap (λ (e : Event). e ∷ old.machine.past) came.is.1) later
-    (λ from below. (giver, may.own.may.givers, refl)) (λ g count is. absurd cc)
+    (came.past_is ∙ ap (λ (e : Event). e ∷ old.machine.past) came.is.1) (tt, still)
+    (λ from below. (giver, may.own.may.givers, refl))
 
 pub find_kept : RunFollows → (tells : Bool) (f : ℕ) (disk : DiskState) (start start' : RunStart) (past past' : List Event)
     (wants : List (Option Want)) (now : Moment) (gid : Gid) (piece : ℕ) (right : Bool) (giver : Giver)

@@ -15,7 +15,7 @@ use Rattle.engine_turns.specs.declared.outcome.Outcome.{Outcome}
 use Rattle.engine_turns.specs.declared.outcome.Outcome.TheVariants.{Over, Starved, Went}
 use Rattle.machine_core.specs.declared.events.Event.TheVariants.{Opened as OpenedEvent}
 use Rattle.resume_core.proofs.Openings.{besides_on}
-use Rattle.resume_core.specs.Openings.{KeepsBesides}
+use Rattle.resume_core.specs.Openings.{FitsPayload, KeepsBesides}
 use Rattle.resume_core.specs.Refusals.{open_refusal}
 use Rattle.resume_core.specs.Sharing.{share_names}
 use Rattle.resume_core.specs.Steps.{SameBesides}
@@ -32,7 +32,7 @@ use Rattle.stored_run.proofs.Endings.{unended}
 use Rattle.stored_run.proofs.Keeps.{keeps_beside, keeps_none}
 use Rattle.stored_run.proofs.Kept.{own_beside}
 use Rattle.stored_run.proofs.Leaving.{kept_ends}
-use Rattle.stored_run.proofs.Left.{any_none, any_of, for_none, held_stored, left_beside, left_of, not_complete}
+use Rattle.stored_run.proofs.Left.{any_none, any_of, for_none, held_stored, keeps_for, left_beside, left_of, not_complete}
 use Rattle.stored_run.proofs.OfOne.{AllowsOnly, Each, HoldsOfOwn, IsOwnEvent}
 use Rattle.stored_run.proofs.Openings.{apart_opening}
 use Rattle.stored_run.proofs.Tried.{tries_opened, tries_unopened}
@@ -90,6 +90,7 @@ module _ {D : Type 0} (laws : RunFollows) (tells : Bool) (faults : ℕ) (old new
     time = any_none a;
     each = λ g w goes kept. ends_as a g w goes (kept_going g w goes kept);
     left = λ g w goes kept. left_as a g w goes (held_going g w goes kept);
+    payloads = λ g goes w kept. refl;
     came = inl (λ other. for_none other a, unopened);
   }
 
@@ -121,6 +122,7 @@ module _ {D : Type 0} (laws : RunFollows) (tells : Bool) (faults : ℕ) (old new
       time = any_of (SameBesides want) a b besides.passes;
       each = each_asked;
       left = left_asked;
+      payloads = λ g goes w kept. (keeps_for laws want w a b (apart g w goes kept) besides).seen.files;
       came = ⊎_elim (λ (still : StaysUnopened gid new a b). inl still)
           (λ (asked : IsTouched new gid said × TriesWant gid want old new a b). inr (record {
             want = want;
@@ -183,6 +185,7 @@ module _ {D : Type 0} (laws : RunFollows) (tells : Bool) (faults : ℕ) (old : S
   -- it is opened, and may end then
   module _ (mid new : StoredView D) (m z : DiskState) (own : (g : Gid) → IsGoing old g → own_in new g ≡ own_in old g)
       (mid_faults : ℕ) (mid_run : IsStoredRun tells mid_faults m mid) (on : OpensOn want (is_checked_of old gid) a m)
+      (fits : FitsPayload want a.seen m.seen)
       (opens : OpensWhere (λ opened. IsTrue tells → FindsJust old gid want a opened) gid want old mid) (n : ℕ)
       (rest : Continues n mid new) (grown : IsGrown (own_in mid gid) (own_in new gid)) (ends : EndsGid gid mid new m z)
       (payload : KeepsPayload gid mid m z) (left : IsLeftOf new gid z) where
@@ -201,7 +204,7 @@ module _ {D : Type 0} (laws : RunFollows) (tells : Bool) (faults : ℕ) (old : S
         (besides_on want a m z on.besides (ends want opens.2.kept).besides) said
         (inr (
           inl opened_then,
-          tries_opened gid want old new a m z on (opens.1 told).allowed opens.0 (opens.1 told).just grown.0
+          tries_opened gid want old new a m z on fits (opens.1 told).allowed opens.0 (opens.1 told).just grown.0
               (grown.1 ∙ ap (λ (ys : List OwnEvent). grown.0 ++ ys) opens.2.own) kept_then opened_then is.apart
               (ends want opens.2.kept).besides (payload want opens.2.kept)
               (subst (λ (ys : List OwnEvent). EndsStored want (IsDoneOf new gid) ys (own_in new gid) m z) opens.2.own end_on)

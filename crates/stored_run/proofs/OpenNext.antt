@@ -1,6 +1,6 @@
 -- The download that is opened next, what its store may refuse, and what comes of it.
-use Rattle.std.proofs.Common.{◌≡◌, ◌≤◌, ◌<◌, ◌^◌, ◌⊎◌, inl, inr, ℕ, Bool, true, false, Option, Some, None, List, [], ◌∷◌, refl, sym, ap, ◌∙◌, subst}
-use Rattle.std.specs.Prelude.{◌&&◌, ◌||◌, Err, IfErr, IfOk, IfSome, IsSome, Ok, OnOk, Result, find, is_err, not}
+use Rattle.std.proofs.Common.{◌≡◌, ◌≢◌, ◌≤◌, ◌<◌, ◌^◌, ◌⊎◌, inl, inr, ℕ, Bool, true, false, Option, Some, None, List, [], ◌∷◌, refl, sym, ap, ◌∙◌, subst}
+use Rattle.std.specs.Prelude.{◌&&◌, ◌||◌, Err, IfErr, IfNone, IfOk, IfSome, IsSome, Ok, OnOk, Result, find, is_err, not}
 use Rattle.std.specs.List.{list_any}
 use Rattle.std.specs.Option.{is_some, option_and_then}
 use Rattle.std.proofs.lemmas.Bool.{eq-eqb}
@@ -14,6 +14,7 @@ use Rattle.dl_kinds.specs.Plan.{IsPlan}
 use Rattle.dl_kinds.specs.declared.gid.Gid.{Gid}
 use Rattle.dl_kinds.specs.declared.runs.Moment.{Moment}
 use Rattle.dl_kinds.specs.Counts.{Rose}
+use Rattle.engine_turns.specs.Faults.{CountsFaults}
 use Rattle.machine_core.specs.Claiming.{is_to_open, next_to_open}
 use Rattle.machine_core.specs.Clashes.{IsBeforeOpening}
 use Rattle.machine_core.specs.DownloadWants.{HasWant}
@@ -37,7 +38,7 @@ use Rattle.stored_run.specs.RunFollows.{RunFollows}
 use Rattle.stored_run.specs.Stored.{AreFaultsWithin}
 use Rattle.stored_run.specs.Views.{own_in}
 use Rattle.stored_run.specs.declared.run.StoredView.{StoredView}
-use Rattle.stored_run.proofs.Doing.{risen}
+use Rattle.stored_run.proofs.Doing.{fault_counts, risen}
 use Rattle.stored_run.proofs.Own.{lengths_known}
 use Rattle.stored_run.proofs.PlainEvents.{gid_added}
 use Rattle.stored_run.proofs.Touching.{new_fault}
@@ -189,26 +190,44 @@ since_by before n (refusal.Unreadable place) rose fits = λ at below. tt
 since_by before n refusal.Disk rose fits = λ at below. risen at before n below (rose refl) fits
 since_by before n refusal.NoMemory rose fits = tt
 
-count_by : (gid : Gid) (after n : ℕ) (err : OpenErr) → n ≤ after
-    → IfSome (end_by_refusal err n) (λ how. IfSome (disk_fault_of (Ended gid how)) (λ count. count ≤ after))
-count_by gid after n (refusal.Exists length) within = tt
-count_by gid after n (refusal.PieceLength have want) within = tt
-count_by gid after n (refusal.Length have want) within = tt
-count_by gid after n refusal.InfoHash within = tt
-count_by gid after n (refusal.Unreadable place) within = tt
-count_by gid after n refusal.Disk within = within
-count_by gid after n refusal.NoMemory within = tt
+counts_by : (gid : Gid) (before n after : ℕ) (err : OpenErr) → before ≤ after → n ≡ after
+    → (err ≡ refusal.Disk → Rose before n) → (err ≢ refusal.Disk → after ≡ before)
+    → IfSome (end_by_refusal err n) (λ how. CountsFaults before (Ended gid how ∷ []) after)
+counts_by gid before n after (refusal.Exists length) later is rose same = (tt, same (λ is. absurd cc))
+counts_by gid before n after (refusal.PieceLength have want) later is rose same = (tt, same (λ is. absurd cc))
+counts_by gid before n after (refusal.Length have want) later is rose same = (tt, same (λ is. absurd cc))
+counts_by gid before n after refusal.InfoHash later is rose same = (tt, same (λ is. absurd cc))
+counts_by gid before n after (refusal.Unreadable place) later is rose same = (tt, same (λ is. absurd cc))
+counts_by gid before n after refusal.Disk later is rose same =
+    fault_counts gid before n after later (subst (Rose before) is (rose refl)) is
+counts_by gid before n after refusal.NoMemory later is rose same = tt
+
+starved_by : (before n after : ℕ) (err : OpenErr) → (err ≢ refusal.Disk → after ≡ before)
+    → IfNone (end_by_refusal err n) (after ≡ before)
+starved_by before n after (refusal.Exists length) same = tt
+starved_by before n after (refusal.PieceLength have want) same = tt
+starved_by before n after (refusal.Length have want) same = tt
+starved_by before n after refusal.InfoHash same = tt
+starved_by before n after (refusal.Unreadable place) same = tt
+starved_by before n after refusal.Disk same = tt
+starved_by before n after refusal.NoMemory same = same (λ is. absurd cc)
 
 pub refusal_since : (before n : ℕ) (err : OpenErr) (o : Option End) → o ≡ end_by_refusal err n
     → (err ≡ refusal.Disk → Rose before n) → n < 2 ^ 64 → IfSome o (IsRefusedSince before)
 refusal_since before n err o o_is rose fits =
     subst (λ (x : Option End). IfSome x (IsRefusedSince before)) (sym o_is) (since_by before n err rose fits)
 
-pub refusal_count : (gid : Gid) (after n : ℕ) (err : OpenErr) (o : Option End) → o ≡ end_by_refusal err n → n ≤ after
-    → IfSome o (λ how. IfSome (disk_fault_of (Ended gid how)) (λ count. count ≤ after))
-refusal_count gid after n err o o_is within =
-    subst (λ (x : Option End). IfSome x (λ how. IfSome (disk_fault_of (Ended gid how)) (λ count. count ≤ after))) (sym o_is)
-    (count_by gid after n err within)
+pub refusal_counts : (gid : Gid) (before n after : ℕ) (err : OpenErr) (o : Option End) → o ≡ end_by_refusal err n
+    → before ≤ after → n ≡ after → (err ≡ refusal.Disk → Rose before n) → (err ≢ refusal.Disk → after ≡ before)
+    → IfSome o (λ how. CountsFaults before (Ended gid how ∷ []) after)
+refusal_counts gid before n after err o o_is later is rose same =
+    subst (λ (x : Option End). IfSome x (λ how. CountsFaults before (Ended gid how ∷ []) after)) (sym o_is)
+    (counts_by gid before n after err later is rose same)
+
+pub refusal_starved : (before n after : ℕ) (err : OpenErr) (o : Option End) → o ≡ end_by_refusal err n
+    → (err ≢ refusal.Disk → after ≡ before) → IfNone o (after ≡ before)
+refusal_starved before n after err o o_is same =
+    subst (λ (x : Option End). IfNone x (after ≡ before)) (sym o_is) (starved_by before n after err same)
 
 -- it ends for a fault of the disk, or for a reason that there is
 reason_by : {Tells P : Type 0} (n : ℕ) (err : OpenErr) → (Tells → IsRefusal err → P)
@@ -244,6 +263,11 @@ pub err_some : {A E : Type 0} (P : E → Type 0) (r : Result A (Option E)) (o : 
     → IfErr r (λ x. IfSome x P) → P e
 err_some P r o e is some holds =
     subst (λ (x : Option _). IfSome x P) some (subst (λ (x : Result _ (Option _)). IfErr x (λ y. IfSome y P)) is holds)
+
+pub err_none : {A E : Type 0} (P : Type 0) (r : Result A (Option E)) (o : Option E) → r ≡ Err o → o ≡ None
+    → IfErr r (λ x. IfNone x P) → P
+err_none P r o is none holds =
+    subst (λ (x : Option _). IfNone x P) none (subst (λ (x : Result _ (Option _)). IfErr x (λ y. IfNone y P)) is holds)
 
 pub ok_some : {A E : Type 0} (P : A → Type 0) (r : Result (Option A) E) (o : Option A) (x : A) → r ≡ Ok o → o ≡ Some x
     → IfOk r (λ y. IfSome y P) → P x

@@ -9,6 +9,8 @@ use Rattle.dl_disk.specs.State.{DiskState}
 use Rattle.dl_history.specs.OwnEvents.{OwnEvent, Opens}
 use Rattle.dl_kinds.specs.declared.gid.Gid.{Gid}
 use Rattle.dl_kinds.specs.declared.runs.Moment.{Moment}
+use Rattle.engine_turns.proofs.Faults.{counts_still}
+use Rattle.engine_turns.specs.Faults.{CountsFaults}
 use Rattle.engine_turns.specs.Phases.{AndThen, EndingOr, NoEvent, OpeningPhase, Phase, TurnStart}
 use Rattle.engine_turns.specs.Standings.{AnswersUnlessStarved}
 use Rattle.engine_turns.specs.Told.{history_after}
@@ -35,7 +37,6 @@ use Rattle.stored_run.specs.Steps.{Continues, DoesPart, DoesRow, turn_from}
 use Rattle.stored_run.specs.Telling.{TellsEvent}
 use Rattle.stored_run.specs.Views.{own_in}
 use Rattle.stored_run.specs.declared.run.StoredView.{StoredView}
-use Rattle.stored_run.proofs.Doing.{fault_in, no_counts}
 use Rattle.stored_run.proofs.PlainEvents.{gid_added}
 
 -- ---- its place
@@ -75,18 +76,18 @@ module _ {D : Type 0} (old mid : StoredView D) (still : StandsStill old mid) whe
         wants = λ gid want kept. on.wants gid want (still.wants gid ∙ kept);
       }
 
-  pub part_still : (P : TurnStart → Phase) (new : StoredView D) (f f' f'' : ℕ) (o : Outcome) → f ≤ f'
+  pub part_still : (P : TurnStart → Phase) (new : StoredView D) (f f' f'' : ℕ) (o : Outcome) → f' ≡ f
       → DoesPart P mid f' new f'' o → DoesPart P old f new f'' o
-  part_still P new f f' f'' o later did = record {
+  part_still P new f f' f'' o same did = record {
     events = did.events;
     grown = did.grown ∙ ap (λ (m : MachineView). history_after m.past did.events) still.machine;
     is = λ from below.
         subst (λ (t : Moment). P (record { start = old.machine.start; now = t; faults = from }) old.machine.past did.events o)
         still.now
         (subst (λ (m : MachineView). P (record { start = m.start; now = mid.now; faults = from }) m.past did.events o)
-        still.machine (did.is from (omega (arith, below, later))));
-    later = omega (arith, later, did.later);
-    counts = did.counts;
+        still.machine (did.is from (omega (arith, below, same))));
+    later = omega (arith, same, did.later);
+    counts = subst (λ (n : ℕ). CountsFaults n did.events f'') same did.counts;
   }
 
   pub opens_still : (gid : Gid) (want : Want) (opened : Opened) (new : StoredView D) → OpensWith gid want opened mid new
@@ -175,10 +176,10 @@ pub clash_count : (m : MachineView) (gid : Gid) (how : End) (faults : ℕ) → H
     → IfSome (disk_fault_of (Ended gid how)) (λ count. count ≤ faults)
 clash_count m gid how faults has = rw (clash_faults m.start m.past has.download gid how has.clash) tt
 
-pub clash_row : {D : Type 0} (old new : StoredView D) (gid : Gid) (how : End) (f f' : ℕ) → f ≤ f'
+pub clash_row : {D : Type 0} (old new : StoredView D) (gid : Gid) (how : End) (f f' : ℕ) → f' ≡ f
     → HasClash old.machine gid how → TellsEvent (Ended gid how) old new
     → DoesRow (OpenNextRow gid) old f new f' Done
-clash_row old new gid how f f' later has told = record {
+clash_row old new gid how f f' still has told = record {
   events = Ended gid how ∷ [];
   grown = told.past;
   is = λ from s below standing. inr (
@@ -191,8 +192,9 @@ clash_row old new gid how f f' later has told = record {
       refl,
     ),
   );
-  later = later;
-  counts = fault_in (Ended gid how) f' (clash_count old.machine gid how f' has);
+  later = omega (arith, still);
+  counts = counts_still (Ended gid how) f f'
+      (clash_faults old.machine.start old.machine.past has.download gid how has.clash) still;
 }
 
 pub starved_row : {D : Type 0} (r : StoredView D) (gid : Gid) (f : ℕ) → DoesRow (OpenNextRow gid) r f r f NoMemory
@@ -201,7 +203,7 @@ starved_row r gid f = record {
   grown = refl;
   is = λ from s below standing. inl (refl, refl);
   later = omega arith;
-  counts = no_counts f;
+  counts = refl;
 }
 
 pub opened_row : {D : Type 0} (old new : StoredView D) (gid : Gid) (download : Download) (f f' : ℕ) (o : Outcome) (said : Said)

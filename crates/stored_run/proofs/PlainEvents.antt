@@ -16,6 +16,7 @@ use Rattle.machine_core.specs.Starts.{Download, RunStart}
 use Rattle.machine_core.specs.declared.events.Event.{Event}
 use Rattle.stored_run.specs.RunFollows.{RunFollows}
 use Rattle.stored_run.specs.Stored.{AreWantsKept, IsStored, IsStoredWith}
+use Rattle.engine_turns.proofs.Faults.{counts_still}
 use Rattle.engine_turns.specs.Phases.{Phase, TurnStart}
 use Rattle.engine_turns.specs.declared.outcome.Outcome.{Outcome}
 use Rattle.stored_run.specs.Steps.{Continues, DoesPart, turn_from}
@@ -108,8 +109,8 @@ module _ {D : Type 0} (laws : RunFollows) (e : Event) (old new : StoredView D) (
         (kept_then laws old.machine.start old.machine.past e old.wants.items gid want (kept.has gid want is) is);
   }
 
-  pub part_told : (P : TurnStart → Phase) (f f' : ℕ) (o : Outcome) → f ≤ f' → disk_fault_of e ≡ None
+  pub part_told : (P : TurnStart → Phase) (f f' : ℕ) (o : Outcome) → f' ≡ f → disk_fault_of e ≡ None
       → ((at : TurnStart) → at.start ≡ old.machine.start → at.now ≡ old.now → P at old.machine.past (e ∷ []) o)
       → DoesPart P old f new f' o
-  part_told P f f' o later none is =
-      part_event P e old new f f' o told.past later (rw none tt) (λ n below. is (turn_from old n) refl refl)
+  part_told P f f' o still none is =
+      part_event P e old new f f' o told.past (counts_still e f f' none still) (λ n below. is (turn_from old n) refl refl)

@@ -10,6 +10,8 @@ use Rattle.dl_history.specs.OwnEvents.{OwnEvent, Halts, Saves}
 use Rattle.dl_history.specs.OwnLegal.{MaySave}
 use Rattle.dl_kinds.specs.declared.gid.Gid.{Gid}
 use Rattle.dl_kinds.specs.declared.runs.Moment.{Moment}
+use Rattle.engine_turns.proofs.Faults.{counts_on}
+use Rattle.engine_turns.specs.Faults.{CountsFaults}
 use Rattle.engine_turns.specs.Phases.{IsSaveOrFault, SavePhase, SavesPhase, TurnStart}
 use Rattle.engine_turns.specs.Told.{history_after}
 use Rattle.engine_turns.specs.declared.outcome.Outcome.{Outcome}
@@ -98,7 +100,7 @@ pub record SavesTold {D : Type 0} (gids : List Gid) (n : ℕ) (old now : StoredV
       → SavesPhase (turn_from old from) (drop n gids) now.machine.past rest o
       → SavesPhase (turn_from old from) gids old.machine.past (events ++ rest) o
   pub later : f ≤ f'
-  pub counts : (gid : Gid) (count : ℕ) → Contains events (Ended gid (end.Disk count)) → count ≤ f'
+  pub counts : CountsFaults f events f'
 
 pub told_none : {D : Type 0} (gids : List Gid) (r : StoredView D) (f : ℕ) → SavesTold gids 0 r r f f
 told_none gids r f = record {
@@ -106,7 +108,7 @@ told_none gids r f = record {
   grown = refl;
   is = λ from below rest o is. is;
   later = omega arith;
-  counts = λ gid count there. absurd (let within = there.1 in omega arith);
+  counts = refl;
 }
 
 drop_at : (gids : List Gid) (n : ℕ) (gid : Gid) → slice_get gids n ≡ Some gid → drop n gids ≡ gid ∷ drop (suc n) gids
@@ -162,12 +164,8 @@ module _ {D : Type 0} (gids : List Gid) (n : ℕ) (old now : StoredView D) (f f'
         did.grown ∙ (ap (λ (past : List Event). history_after past did.events) told.grown
         ∙ sym (history_on old.machine.past told.events did.events))
 
-    counts_on : (g : Gid) (count : ℕ) → Contains (told.events ++ did.events) (Ended g (end.Disk count)) → count ≤ f''
-    counts_on g count has = ⊎_elim
-        (λ (early : Contains told.events (Ended g (end.Disk count))).
-        omega (arith, told.counts g count early, did.later))
-        (λ (late : Contains did.events (Ended g (end.Disk count))). did.counts g count late)
-        (Contains-append_cases told.events did.events (Ended g (end.Disk count)) has)
+    counts_both : CountsFaults f (told.events ++ did.events) f''
+    counts_both = counts_on f f' f'' told.events did.events told.counts did.counts
 
     -- one more
     pub told_more : o ≢ Starved → SavesTold gids (n + 1) old new f f''
@@ -196,7 +194,7 @@ module _ {D : Type 0} (gids : List Gid) (n : ℕ) (old now : StoredView D) (f f'
           (subst (λ (gs : List Gid). SavesPhase (turn_from old from) gs now.machine.past (one.0 ∷ rest) out)
           (sym (drop_at gids n gid there)) here));
       later = omega (arith, told.later, did.later);
-      counts = counts_on;
+      counts = counts_both;
     }
 
     -- want of memory
@@ -214,7 +212,7 @@ module _ {D : Type 0} (gids : List Gid) (n : ℕ) (old now : StoredView D) (f f'
           (subst (λ (gs : List Gid). SavesPhase (turn_from old from) gs now.machine.past [] Starved)
           (sym (drop_at gids n gid there)) here));
       later = omega (arith, told.later, did.later);
-      counts = counts_on;
+      counts = counts_both;
     }
 
 -- ---- what stands between two saves

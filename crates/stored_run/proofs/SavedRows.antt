@@ -9,6 +9,8 @@ use Rattle.dl_kinds.specs.declared.gid.Gid.{Gid}
 use Rattle.dl_kinds.specs.declared.runs.Moment.{Moment}
 use Rattle.dl_kinds.specs.declared.status.Status.{Status}
 use Rattle.engine_turns.specs.CallRows.{AreThose, CallRow, IsSavedLast, IsSavedOff, IsTakenOff, StopRow, gids_in, is_starved, stop_events}
+use Rattle.engine_turns.proofs.Faults.{counts_on}
+use Rattle.engine_turns.specs.Faults.{CountsFaults}
 use Rattle.engine_turns.specs.Phases.{SavesPhase, TurnStart}
 use Rattle.engine_turns.specs.Standings.{AnswersUnlessStarved}
 use Rattle.engine_turns.specs.Told.{history_after}
@@ -33,7 +35,7 @@ use Rattle.stored_run.specs.Steps.{DoesPart, DoesRow, turn_from}
 use Rattle.stored_run.specs.Stored.{AreWantsKept}
 use Rattle.stored_run.specs.Views.{GoesOpened}
 use Rattle.stored_run.specs.declared.run.StoredView.{StoredView}
-use Rattle.stored_run.proofs.Doing.{fault_in, history_on, no_counts, part_none}
+use Rattle.stored_run.proofs.Doing.{history_on, part_none}
 use Rattle.stored_run.proofs.Dues.{active_status, off_by_active, off_by_going, off_ways, off_went, opened_added, status_had}
 use Rattle.stored_run.proofs.EachSaved.{HaltsEach, halts_ended, halts_opened}
 use Rattle.stored_run.proofs.Endings.{unended}
@@ -51,7 +53,7 @@ run_once r =
 pub saves_starved : {D : Type 0} (r : StoredView D) (f : ℕ) (those : List Gid) → (those ≡ [] → ⊥)
     → DoesPart (λ at. SavesPhase at those) r f r f Starved
 saves_starved r f those some =
-    part_none (λ at. SavesPhase at those) r r f f Starved refl (omega arith) (λ n below. by those some n)
+    part_none (λ at. SavesPhase at those) r r f f Starved refl refl (λ n below. by those some n)
   where
     by : (those : List Gid) → (those ≡ [] → ⊥) → (n : ℕ) → SavesPhase (turn_from r n) those r.machine.past [] Starved
     by [] some n = absurd (some refl)
@@ -175,13 +177,6 @@ module _ {D : Type 0} (P : List Gid → TurnStart → List Event → List Event 
       did.grown ∙ (ap (λ (past : List Event). history_after past did.events) came.past
       ∙ sym (history_on old.machine.past first did.events))
 
-  counts_old : ((gid : Gid) (count : ℕ) → Contains first (Ended gid (end.Disk count)) → count ≤ f') → (gid : Gid)
-      (count : ℕ) → Contains (first ++ did.events) (Ended gid (end.Disk count)) → count ≤ f'
-  counts_old none gid count there =
-      ⊎_elim (λ (a : Contains first (Ended gid (end.Disk count))). none gid count a)
-      (λ (b : Contains did.events (Ended gid (end.Disk count))). did.counts gid count b)
-      (Contains-append_cases first did.events (Ended gid (end.Disk count)) there)
-
 pub call_row : {D : Type 0} (old mid new : StoredView D) (session : ℕ) (asked : Call) (f f' : ℕ) (o : Outcome)
     (place : ℕ) (reply : Reply) (starved : Bool) (those : List Gid)
     → TellsOnly (Called session asked old.now ∷ []) old mid
@@ -213,14 +208,13 @@ call_row old mid new session asked f f' o place reply starved those came are did
         ∙ ap (λ (p : List Event). Replied (length p) reply (is_starved o)) (sym standing));
   });
   later = did.later;
-  counts = counts_old (λ gids at. SavesPhase at gids) (Called session asked old.now ∷ []) old mid new f f' o came those did
-      (λ gid count there. fault_in (Called session asked old.now) f' tt gid count there);
+  counts = (tt, did.counts);
 }
 
-no_stop_fault : (stopped : Bool) (f : ℕ) (gid : Gid) (count : ℕ)
-    → Contains (stop_events stopped) (Ended gid (end.Disk count)) → count ≤ f
-no_stop_fault true f gid count there = no_counts f gid count there
-no_stop_fault false f gid count there = fault_in Stopped f tt gid count there
+-- a stop leaves the count of faults
+stop_counts : (stopped : Bool) (f : ℕ) → CountsFaults f (stop_events stopped) f
+stop_counts true f = refl
+stop_counts false f = (tt, refl)
 
 pub stop_row : {D : Type 0} (old mid new : StoredView D) (f f' : ℕ) (o : Outcome) (said : Said) (those : List Gid)
     → TellsOnly (stop_events (list_any is_stop old.machine.past)) old mid
@@ -249,6 +243,5 @@ stop_row old mid new f f' o said those came are did answer =
         answer = answer;
       };
       later = did.later;
-      counts = counts_old (λ gids at. SavesPhase at gids) stops old mid new f f' o came those did
-          (no_stop_fault (list_any is_stop old.machine.past) f');
+      counts = counts_on f f f' stops did.events (stop_counts (list_any is_stop old.machine.past) f) did.counts;
     }

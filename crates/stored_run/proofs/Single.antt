@@ -12,6 +12,8 @@ use Rattle.dl_history.specs.PayloadParts.{is_opened, is_opening}
 use Rattle.dl_kinds.specs.declared.gid.Gid.{Gid}
 use Rattle.dl_kinds.specs.declared.runs.Moment.{Moment}
 use Rattle.durable_progress.specs.Held.{IsHeld}
+use Rattle.engine_turns.proofs.Faults.{counts_later}
+use Rattle.engine_turns.specs.Faults.{CountsFaults}
 use Rattle.engine_turns.specs.Phases.{Did, Phase}
 use Rattle.engine_turns.specs.declared.outcome.Outcome.{Outcome}
 use Rattle.machine_core.specs.OwnParts.{own_of, with_own}
@@ -35,32 +37,24 @@ use Rattle.stored_run.proofs.Kept.{OpensNone, after_event, own_at, own_where}
 -- ---- what is done by one event or none
 
 pub did_one : (P : ℕ → Phase) (past : List Event) (faults : ℕ) (new : List Event) (faults_after : ℕ) (outcome : Outcome)
-    (e : Event) → new ≡ e ∷ past → faults ≤ faults_after
-    → ((from : ℕ) → from ≤ faults → P from past (e ∷ []) outcome)
-    → ((gid : Gid) (count : ℕ) → e ≡ Ended gid (end.Disk count) → count ≤ faults_after)
-    → Did P past faults new faults_after outcome
-did_one P past faults new faults_after outcome e grown later is counts = record {
+    (e : Event) → new ≡ e ∷ past → CountsFaults faults (e ∷ []) faults_after
+    → ((from : ℕ) → from ≤ faults → P from past (e ∷ []) outcome) → Did P past faults new faults_after outcome
+did_one P past faults new faults_after outcome e grown counts is = record {
   events = e ∷ [];
   grown = grown;
   is = is;
-  later = later;
-  counts = λ gid count has. one_has e gid count faults_after counts has;
+  later = counts_later faults faults_after (e ∷ []) counts;
+  counts = counts;
 }
-  where
-    one_has : (e : Event) (gid : Gid) (count faults_after : ℕ)
-        → ((gid : Gid) (count : ℕ) → e ≡ Ended gid (end.Disk count) → count ≤ faults_after)
-        → Contains (e ∷ []) (Ended gid (end.Disk count)) → count ≤ faults_after
-    one_has e gid count faults_after counts (zero, within, is) = counts gid count is
-    one_has e gid count faults_after counts (suc n, within, is) = absurd (omega (arith, within))
 
-pub did_none : (P : ℕ → Phase) (past : List Event) (faults faults_after : ℕ) (outcome : Outcome) → faults ≤ faults_after
+pub did_none : (P : ℕ → Phase) (past : List Event) (faults faults_after : ℕ) (outcome : Outcome) → faults_after ≡ faults
     → ((from : ℕ) → from ≤ faults → P from past [] outcome) → Did P past faults past faults_after outcome
-did_none P past faults faults_after outcome later is = record {
+did_none P past faults faults_after outcome still is = record {
   events = [];
   grown = refl;
   is = is;
-  later = later;
-  counts = λ gid count has. absurd (omega (arith, has.1));
+  later = omega (arith, still);
+  counts = still;
 }
 
 -- ---- one event of a download

@@ -8,13 +8,12 @@ use Rattle.dl_disk.specs.Passes.{Passes}
 use Rattle.dl_disk.specs.State.{DiskState}
 use Rattle.dl_history.specs.OwnEvents.{OwnEvent}
 use Rattle.dl_kinds.specs.declared.gid.Gid.{Gid}
+use Rattle.engine_turns.specs.Faults.{CountsFaults}
 use Rattle.engine_turns.specs.Phases.{Did, Phase}
 use Rattle.engine_turns.specs.declared.outcome.Outcome.{Outcome}
 use Rattle.machine_core.specs.OwnParts.{own_of}
 use Rattle.machine_core.specs.Starts.{RunStart}
-use Rattle.machine_core.specs.declared.ends.End.TheVariants as end
 use Rattle.machine_core.specs.declared.events.Event.{Event}
-use Rattle.machine_core.specs.declared.events.Event.TheVariants.{Ended}
 use Rattle.resume_core.proofs.Filed.{files_kept}
 use Rattle.resume_core.specs.States.{SamePayload}
 use Rattle.stored_run.specs.RunFollows.{RunFollows}
@@ -30,21 +29,20 @@ use Rattle.stored_run.proofs.Single.{did_none, did_one, moved, read_stores}
 module _ {D : Type 0} (u v : StoredView D) (same : u ≡ v) where
   -- an event
   pub one_did : (F : D → ℕ) (P : StoredView D → ℕ → Phase) (past' : List Event) (f' : ℕ) (e : Event) (o : Outcome)
-      → past' ≡ e ∷ u.machine.past → F u.disk ≤ f'
+      → past' ≡ e ∷ u.machine.past → CountsFaults (F u.disk) (e ∷ []) f'
       → ((from : ℕ) → from ≤ F u.disk → P u from u.machine.past (e ∷ []) o)
-      → ((gid : Gid) (count : ℕ) → e ≡ Ended gid (end.Disk count) → count ≤ f')
       → Did (P v) v.machine.past (F v.disk) past' f' o
-  one_did F P past' f' e o grown later is counts =
+  one_did F P past' f' e o grown counts is =
       subst (λ (w : StoredView D). Did (P w) w.machine.past (F w.disk) past' f' o) same
-      (did_one (P u) u.machine.past (F u.disk) past' f' o e grown later is counts)
+      (did_one (P u) u.machine.past (F u.disk) past' f' o e grown counts is)
 
   -- no event
-  pub none_did : (F : D → ℕ) (P : StoredView D → ℕ → Phase) (f' : ℕ) (o : Outcome) → F u.disk ≤ f'
+  pub none_did : (F : D → ℕ) (P : StoredView D → ℕ → Phase) (f' : ℕ) (o : Outcome) → f' ≡ F u.disk
       → ((from : ℕ) → from ≤ F u.disk → P u from u.machine.past [] o)
       → Did (P v) v.machine.past (F v.disk) u.machine.past f' o
-  none_did F P f' o later is =
+  none_did F P f' o still is =
       subst (λ (w : StoredView D). Did (P w) w.machine.past (F w.disk) u.machine.past f' o) same
-      (did_none (P u) u.machine.past (F u.disk) f' o later is)
+      (did_none (P u) u.machine.past (F u.disk) f' o still is)
 
   -- its payload reads as it did, where the disk was at most read
   pub payload_read : (S : D → DiskState) (gid : Gid) (b : DiskState) → Stays (S u.disk) b → KeepsPayload gid v (S v.disk) b

@@ -11,9 +11,9 @@ use Rattle.dl_history.specs.PayloadParts.{is_opened}
 use Rattle.dl_kinds.specs.declared.gid.Gid.{Gid}
 use Rattle.durable_progress.specs.Held.{IsHeld, IsHeldByEither}
 use Rattle.machine_core.specs.Clashes.{SharesNoName}
-use Rattle.resume_core.proofs.Fitted.{has_same}
+use Rattle.resume_core.proofs.Fitted.{fits_to, has_same}
 use Rattle.resume_core.proofs.Saving.{agrees_finished}
-use Rattle.resume_core.specs.Openings.{ComesOfBefore, GivesSeen, KeepsBesides, is_compared}
+use Rattle.resume_core.specs.Openings.{ComesOfBefore, FitsPayload, GivesSeen, KeepsBesides, is_compared}
 use Rattle.resume_core.specs.Refusals.{open_refusal}
 use Rattle.resume_core.specs.Resume.{Agrees, AreSound}
 use Rattle.resume_core.specs.States.{SamePayload}
@@ -62,7 +62,8 @@ module _ {D : Type 0} (gid : Gid) (want : Want) (old new : StoredView D) (a b : 
 -- ---- it is opened, and may end then
 
 module _ {D : Type 0} (gid : Gid) (want : Want) (old new : StoredView D) (a m z : DiskState)
-    (on : OpensOn want (is_checked_of old gid) a m) (none : open_refusal want a.seen ≡ None) (opened : Opened)
+    (on : OpensOn want (is_checked_of old gid) a m) (fits : FitsPayload want a.seen m.seen)
+    (none : open_refusal want a.seen ≡ None) (opened : Opened)
     (just : OpensJustIn old gid want a opened) (later : List OwnEvent)
     (own : own_in new gid ≡ later ++ own_opened old gid opened) (kept : kept_want_of new gid ≡ Some want)
     (is_open : is_opened (own_in new gid) ≡ true) (apart : SharesNoName old.machine gid) (besides : KeepsBesides want m z)
@@ -125,7 +126,15 @@ module _ {D : Type 0} (gid : Gid) (want : Want) (old new : StoredView D) (a m z 
     agrees = λ were image now. agrees_now image now;
     files = λ has. left.files;
     payload = λ has. payload ∙ (on.over_whole has).payload;
-    opened = λ is.
-        record { opened = opened; just = just; later = later; own = own; kept = kept; left = left; apart = apart };
+    opened = λ is. record {
+      opened = opened;
+      just = just;
+      later = later;
+      own = own;
+      kept = kept;
+      left = left;
+      fits = fits_to want a.seen m.seen z.seen payload fits;
+      apart = apart;
+    };
     right = λ is lacks were. ends.right lacks (then_sound want (is_checked_of old gid) a m on were);
   }

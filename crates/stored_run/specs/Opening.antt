@@ -28,7 +28,7 @@ use Rattle.machine_core.specs.declared.events.Event.TheVariants.{Ended, Opened a
 use Rattle.option_set.specs.Values.{number_value}
 use Rattle.option_set.specs.declared.kinds.Num.TheVariants.{CheckIntegrity}
 use Rattle.payload_files.specs.Payload.{HasFiles}
-use Rattle.resume_core.specs.Openings.{ComesOfBefore, GivesPieces, GivesSeen, HasControl, KeepsBesides, KeepsGiven, KeepsPieces, LacksControl, OpensJust, OpensWhole, is_compared}
+use Rattle.resume_core.specs.Openings.{ComesOfBefore, FitsPayload, GivesPieces, GivesSeen, HasControl, KeepsBesides, KeepsGiven, KeepsPieces, LacksControl, OpensJust, OpensWhole, is_compared}
 use Rattle.resume_core.specs.Refusals.{open_refusal}
 use Rattle.resume_core.specs.Resume.{Agrees, AreSound, GivesAtLeast, HasDigest, Sound}
 use Rattle.resume_core.specs.States.{KeepsFor, SamePayload, StaysSound}
@@ -38,6 +38,7 @@ use Rattle.resume_core.specs.declared.refusing.OpenErr.TheVariants as refusal
 use Rattle.stored_run.specs.Leavings.{AnyChange, IsLeft}
 use Rattle.stored_run.specs.Steps.{EndsStored, IsLeftStored, IsLeftWhole}
 use Rattle.stored_run.specs.Views.{IsDoneOf, IsGoing, kept_want_of, own_in}
+use Rattle.stored_run.specs.Writings.{KeepsPayloads}
 use Rattle.stored_run.specs.declared.run.StoredView.{StoredView}
 
 -- ---- refusals
@@ -161,8 +162,8 @@ module _ {D : Type 0} where
       ⊎ GivesSeen (is_compared want (is_checked_of old gid)) want before.seen image
       ⊎ IsLeftEnded gid want old new before after image
 
-  -- The download is opened, with just what its files gave, and is left as its saves say. No other that goes on shares a
-  -- name with it.
+  -- The download is opened, with just what its files gave, and is left as its saves say. Each of its files has its length,
+  -- and the bytes that it had. No other that goes on shares a name with it.
   pub record OpensAs (gid : Gid) (want : Want) (old new : StoredView D) (before after : DiskState) : Type 0 where
     pub opened : Opened
     pub just : OpensJustIn old gid want before opened
@@ -170,6 +171,7 @@ module _ {D : Type 0} where
     pub own : own_in new gid ≡ later ++ own_opened old gid opened
     pub kept : kept_want_of new gid ≡ Some want
     pub left : IsLeft new gid want after
+    pub fits : FitsPayload want before.seen after.seen
     pub apart : SharesNoName old.machine gid
 
   -- The store was asked to open the download. No image gives less than one gave before, and whole files stay so, with the
@@ -215,12 +217,14 @@ module _ {D : Type 0} where
     pub besides : KeepsBesides want before after
     pub tries : TriesWant gid want old new before after
 
-  -- No file changed, or the store was asked. Each download that went on goes on, and is stored.
+  -- No file changed, or the store was asked. Each download that went on goes on, and is stored, and its payload reads as it
+  -- did.
   pub record OpensDisk (gid : Gid) (old new : StoredView D) (said : Said) (before after : DiskState) : Type 0 where
     pub time : Passes AnyChange before after
     pub each : (g : Gid) (want : Want) → IsGoing old g → kept_want_of old g ≡ Some want
         → EndsStored want (IsDoneOf new g) (own_in old g) (own_in new g) before after
     pub left : (g : Gid) (want : Want) → IsGoing old g → kept_want_of old g ≡ Some want → IsLeft new g want after
+    pub payloads : KeepsPayloads old before after
     pub came : StaysUnopened gid new before after ⊎ AsksStore gid old new said before after
 
 -- ---- the operation

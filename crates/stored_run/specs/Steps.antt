@@ -1,5 +1,5 @@
 -- What the parts of a turn do, from one state of a run and its disk to the next.
-use Rattle.std.specs.Prelude.{◌≡◌, ◌≢◌, ◌⊎◌, ◌+◌, ◌≤◌, ℕ, false, true, Contains, List, ◌++◌, Some}
+use Rattle.std.specs.Prelude.{◌≡◌, ◌≢◌, ◌⊎◌, ◌+◌, ◌≤◌, ℕ, false, true, List, ◌++◌, Some}
 use Rattle.control_file.specs.Wants.{IsListedWant}
 use Rattle.control_file.specs.declared.want.Want.{Want}
 use Rattle.dl_disk.specs.Files.{Files}
@@ -9,14 +9,13 @@ use Rattle.dl_history.specs.OwnEvents.{OwnEvent}
 use Rattle.dl_history.specs.PayloadParts.{is_verified_in}
 use Rattle.dl_kinds.specs.declared.gid.Gid.{Gid}
 use Rattle.durable_progress.specs.Held.{GivesListing}
+use Rattle.engine_turns.specs.Faults.{CountsFaults}
 use Rattle.engine_turns.specs.Phases.{Did, Phase, TurnStart}
 use Rattle.engine_turns.specs.Standings.{RunStanding}
 use Rattle.engine_turns.specs.Told.{history_after}
 use Rattle.engine_turns.specs.declared.operations.Said.{Said}
 use Rattle.engine_turns.specs.declared.outcome.Outcome.{Outcome}
-use Rattle.machine_core.specs.declared.ends.End.TheVariants as end
 use Rattle.machine_core.specs.declared.events.Event.{Event}
-use Rattle.machine_core.specs.declared.events.Event.TheVariants.{Ended}
 use Rattle.resume_core.specs.Openings.{HasControl, KeepsBesides, LacksControl}
 use Rattle.resume_core.specs.Resume.{AreSound, HasDigest, Sound}
 use Rattle.resume_core.specs.Sharing.{share_names}
@@ -149,4 +148,4 @@ module _ {D : Type 0} where
     pub grown : new.machine.past ≡ history_after old.machine.past events
     pub is : (from : ℕ) (s : RunStanding) → from ≤ faults → IsStandingOf old s → Row (turn_from old from) s events said
     pub later : faults ≤ faults_after
-    pub counts : (gid : Gid) (count : ℕ) → Contains events (Ended gid (end.Disk count)) → count ≤ faults_after
+    pub counts : CountsFaults faults events faults_after

@@ -1,6 +1,7 @@
 // The opening of downloads.
-ghost use Rattle.std.specs.Prelude.{◌≡◌, ◌≢◌, ◌<◌, ◌≤◌, ◌⊎◌, [], false, IfErr, IfOk, IfSome, IsSome, IsTrue, OnErr, OnOk, Some, length, slice_set};
+ghost use Rattle.std.specs.Prelude.{◌≡◌, ◌≢◌, ◌<◌, ◌≤◌, ◌⊎◌, ◌∷◌, [], false, IfErr, IfNone, IfOk, IfSome, IsSome, IsTrue, OnErr, OnOk, Some, length, slice_set};
 ghost use Rattle.dl_history.specs.PayloadParts.{is_opened};
+ghost use Rattle.engine_turns.specs.Faults.{CountsFaults};
 ghost use Rattle.engine_turns.specs.Phases.{AndThen, EndingOr, NoEvent, OpeningPhase};
 ghost use Rattle.engine_turns.specs.Standings.{AnswersUnlessStarved};
 ghost use Rattle.engine_turns.specs.declared.operations.Said.{Said as Answer};
@@ -11,7 +12,7 @@ ghost use Rattle.machine_core.specs.MachineViews.{place_in};
 ghost use Rattle.machine_core.specs.Reads.{downloads_in};
 ghost use Rattle.machine_core.specs.RunLegal.{MayFollow, disk_fault_of};
 ghost use Rattle.machine_core.specs.declared.events.Event.TheVariants.{Ended};
-ghost use Rattle.resume_core.specs.Openings.{AreOpenedIn, AreOpenedRows};
+ghost use Rattle.resume_core.specs.Openings.{AreOpenedIn, AreOpenedRows, FitsPayload};
 ghost use Rattle.resume_core.specs.Refusals.{open_refusal};
 ghost use Rattle.stored_run.specs.Checks.{ChecksOnly, ChecksTruly};
 ghost use Rattle.stored_run.specs.Opening.{FindsJust, HasFailed, HoldsPlace, IsDiskEnd, IsRefusedSince, IsToResume, OpenNextRow, OpensDisk, OpensOn, OpensWhere, OpensWith, StandsStill, end_by_refusal, is_checked_of};
@@ -98,6 +99,8 @@ impl<D: Disk> StoredRun<D> {
         ensures disk { IsTrue D.tells → OpensOn want.now (is_checked_of self.old gid)
             (D.state self.old.disk) (D.state self.new.disk) }
         ensures rows { IfOk result (AreOpenedRows want.now) }
+        ensures fits { OnOk result (IsTrue D.tells → FitsPayload want.now
+            (D.state self.old.disk).seen (D.state self.new.disk).seen) }
         ensures opened { IfOk result (λ opened. IsTrue D.tells
             → FindsJust self.old gid want.now (D.state self.old.disk) opened) }
         ensures listed { IfOk result (λ opened. IsTrue D.tells → AreOpenedIn want.now opened
@@ -108,9 +111,11 @@ impl<D: Disk> StoredRun<D> {
             (IsRefusedSince (D.faults self.old.disk))) }
         ensures reason { IfErr result (λ end. IfSome end (λ how. IsTrue D.tells → IsDiskEnd how
             ⊎ IsSome (open_refusal want.now (D.state self.old.disk).seen))) }
-        ensures fault { IfErr result (λ end. IfSome end (λ how.
-            IfSome (disk_fault_of (Ended gid how)) (λ count. count ≤ D.faults self.new.disk))) }
-        ensures later { D.faults self.old.disk ≤ D.faults self.new.disk }
+        ensures counts { IfErr result (λ end. IfSome end (λ how. CountsFaults
+            (D.faults self.old.disk) (Ended gid how ∷ []) (D.faults self.new.disk))) }
+        ensures unfailed { OnOk result (D.faults self.new.disk ≡ D.faults self.old.disk) }
+        ensures starved { IfErr result (λ end. IfNone end
+            (D.faults self.new.disk ≡ D.faults self.old.disk)) }
         ensures ends { IfErr result (λ end. IfSome end (λ how. IsTrue D.tells
             → IsEndAsRead self.old gid (D.state self.old.disk).seen how)) }
     {
@@ -175,6 +180,8 @@ impl<D: Disk> StoredRun<D> {
         ensures opened { result ≡ Went → OpensWhere (λ opened. IsTrue D.tells
             → FindsJust self.old gid want (D.state self.old.disk) opened)
             gid want self.old self.new }
+        ensures fits { result ≡ Went → IsTrue D.tells → FitsPayload want
+            (D.state self.old.disk).seen (D.state self.new.disk).seen }
         ensures shut { result ≢ Went → is_opened (own_in self.new gid) ≡ false }
         ensures reason { result ≡ Over → IsTrue D.tells → HasFailed self.new gid
             ⊎ IsSome (open_refusal want (D.state self.old.disk).seen) }

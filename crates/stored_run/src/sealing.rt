@@ -241,7 +241,7 @@ impl<D: Disk> StoredRun<D> {
         ensures read { IfOk result (λ bytes. IsTrue D.tells
             → ReadsPieceOf self.old gid piece (D.state self.old.disk).seen bytes) }
         ensures len { IfOk result (IsLongAsPiece (lengths_of_gid self.old.machine gid) piece) }
-        ensures later { D.faults self.old.disk ≤ D.faults self.new.disk }
+        ensures unfailed { OnOk result (D.faults self.new.disk ≡ D.faults self.old.disk) }
         ensures same { OnOk result (self.new.machine ≡ self.old.machine) }
         ensures row { IfErr result (DoesRow (UnreadRow gid)
             self.old (D.faults self.old.disk) self.new (D.faults self.new.disk)) }

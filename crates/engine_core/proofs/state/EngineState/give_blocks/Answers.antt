@@ -83,8 +83,8 @@ returns g c = record {
       c.place.ensures.found in
       let same = ap (λ r. faults r.disk) c.let_go-allow.ensures.run ∙ ap faults c.in-Ok.ensures.event.disk in
       let now = c.in-Ok.ensures.event.now in
-      blocks_given a.worker old.run.now old new a.gid (faults old.run.disk) (faults new.run.disk) (omega (arith, same))
-      c.requires.rates c.requires.added a.mirror a.run a.victim c.in-Ok.claim c.in-Ok.job place c.let_go-allow.result
+      blocks_given a.worker old.run.now old new a.gid (faults old.run.disk) (faults new.run.disk)
+      c.requires.rates c.requires.added same a.mirror a.run a.victim c.in-Ok.claim c.in-Ok.job place c.let_go-allow.result
       (subst (MakesClaim a.gid a.worker a.mirror a.run a.victim c.in-Ok.claim old.run) (sym c.let_go-allow.ensures.run) c.in-Ok.ensures.event)
       c.in-Ok.ensures.job
       (c.let_go-allow.ensures.bytes ∙ λ i. min MAX_ALLOWANCE (lesser_credit old.limits place (now i).0)) first within

@@ -18,8 +18,8 @@ returns-in-Ok g c = record {
       let given = c.in-Ok.ensures in
       let same = ap g.D.Disk.faults given.event.disk in
       probe_given a.worker old.run.now old (record old { run = c.claim_probe.new.self }) a.gid
-      (g.D.Disk.faults old.run.disk) (g.D.Disk.faults c.claim_probe.new.self.disk) (omega (arith, same)) c.requires.rates
-      c.requires.added a.mirror c.in-Ok.claim c.in-Ok.url given.event given.url refl refl
+      (g.D.Disk.faults old.run.disk) (g.D.Disk.faults c.claim_probe.new.self.disk) c.requires.rates
+      c.requires.added same a.mirror c.in-Ok.claim c.in-Ok.url given.event given.url refl refl
       );
   disk = λ told. inr (record {
     leaves = record {

@@ -15,7 +15,7 @@ returns-in-Ok g c = record {
       let old = a.self.now in
       let given = c.in-Ok.ensures in
       hash_given a.worker old.run.now old (record old { run = c.give_whole.new.self; handed = c.hand_out.new.self }) a.gid
-      (g.D.Disk.faults old.run.disk) (g.D.Disk.faults c.give_whole.new.self.disk) given.later c.requires.rates c.requires.added
+      (g.D.Disk.faults old.run.disk) (g.D.Disk.faults c.give_whole.new.self.disk) c.requires.rates c.requires.added given.unfailed
       a.piece c.in-Ok.bytes c.requires.may.1 given.listed given.len given.same given.on.now
       (ap (λ (h : HandedList). h.pieces) c.hand_out.ensures) refl
       );
@@ -38,7 +38,7 @@ returns-in-Err g c = record {
       let old = a.self.now in
       let not_given = c.in-Err.ensures in
       whole_ungiven a.worker old.run.now old (record old { run = c.give_whole.new.self }) a.gid
-      (g.D.Disk.faults old.run.disk) (g.D.Disk.faults c.give_whole.new.self.disk) not_given.row.later c.requires.rates
+      (g.D.Disk.faults old.run.disk) (g.D.Disk.faults c.give_whole.new.self.disk) c.requires.rates
       c.requires.added a.piece c.in-Err.said not_given.row not_given.on.start not_given.on.now refl refl
       );
   disk = λ told. inr (record {

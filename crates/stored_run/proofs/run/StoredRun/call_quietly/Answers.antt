@@ -31,7 +31,7 @@ returns-in-Ok-clause-row g c =
     (call_row v mid mid a.session a.call f f Went c.in-Ok.place c.in-Ok.reply false [] came
     (none_saved v.machine.start v.machine.past a.session a.call v.now c.requires.quiet
     (gids_in v.machine.start (Called a.session a.call v.now ∷ v.machine.past)))
-    (part_none (λ at. SavesPhase at []) mid mid f f Went refl (omega arith) (λ n below. (refl, refl)))
+    (part_none (λ at. SavesPhase at []) mid mid f f Went refl refl (λ n below. (refl, refl)))
     c.in-Ok.ensures.place c.in-Ok.ensures.reply refl)
 
 pub returns-in-Ok-clause-on : goal.returns-in-Ok-clause-on

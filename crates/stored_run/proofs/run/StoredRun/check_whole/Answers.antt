@@ -18,7 +18,7 @@ use Rattle.stored_run.proofs.Completing.{may_check}
 use Rattle.stored_run.specs.Steps.{turn_from}
 use Rattle.stored_run.specs.Views.{IsGoing, kept_want_of}
 use Rattle.stored_run.specs.declared.run.StoredView.{StoredView}
-use Rattle.stored_run.proofs.Doing.{grown_none}
+use Rattle.stored_run.proofs.Doing.{fault_counts, grown_none}
 use Rattle.stored_run.proofs.Endings.{checked_own, ended_own, fault_ends, going_facts, may_fail, plain_kept, rose_of, same_of, unended}
 use Rattle.stored_run.proofs.Kept.{checks, halts}
 use Rattle.stored_run.proofs.Left.{ended_left, going_left, held_stored}
@@ -116,11 +116,11 @@ returns-in-Err-Disk-clause-did g c =
     one_did _ _ c.self.view_is d.faults (λ v n. AfterDisk (turn_from v n) c.args.gid (Checked c.args.gid false ∷ [])) c.ended.new.self.past
     (d.faults c.check_payload.new.disk) (Ended c.args.gid (end.Disk count)) Over
     (came.past_is ∙ ap (λ (x : Event). x ∷ m.past) came.is)
-    c.check_payload.ensures.cause.later
+    (fault_counts c.args.gid (d.faults u.disk) count (d.faults c.check_payload.new.disk) c.check_payload.ensures.cause.later rose
+    c.faults-count.ensures)
     (λ from below. fault_ends (record { start = m.start; now = u.now; faults = from }) c.args.gid
     (d.faults u.disk) count below (subst (λ n. Rose (d.faults u.disk) n) (sym c.faults-count.ensures) rose)
     c.faults-count.type_inv)
-    (λ h n is. let same : count ≡ n = cc in omega (arith, c.faults-count.ensures, same))
 
 pub returns-in-Err-Disk-clause-disk : goal.returns-in-Err-Disk-clause-disk
 returns-in-Err-Disk-clause-disk g c told =
@@ -189,7 +189,7 @@ returns-in-Ok-clause-did g c =
     (λ v n. AfterDisk (turn_from v n) c.args.gid (Checked c.args.gid c.in-Ok.right ∷ [])) c.checked.new.self.past
     (d.faults c.check_payload.new.disk) (Checked c.args.gid c.in-Ok.right) Went
     (came.past_is ∙ ap (λ (x : Event). x ∷ m.past) came.is)
-    c.check_payload.ensures.cause.later (λ from below. refl) (λ h n is. absurd cc)
+    (tt, c.in-Ok.ensures.cause.done) (λ from below. refl)
 
 pub returns-in-Ok-clause-disk : goal.returns-in-Ok-clause-disk
 returns-in-Ok-clause-disk g c told =

@@ -46,7 +46,7 @@ returns-clause-did g c download added =
     (d.faults c.self.inside.disk) (Cleared download.gid c.args.piece) Went
     (came.past_is ∙ (ap (λ (x : Event). x ∷ m.past) came.is
     ∙ ap (λ h. Cleared h c.args.piece ∷ m.past) (sym gid_is)))
-    (omega arith) (λ from below. refl) (λ h count is. absurd cc)
+    (tt, refl) (λ from below. refl)
 
 pub returns-clause-disk : goal.returns-clause-disk
 returns-clause-disk g c told =

@@ -29,6 +29,6 @@ returns-then-sole-clause-did g c =
     (record a.self.now { machine = c.cleared.new.self }) _ _ Went
     (came.past_is ∙ (ap (λ (e : Event). e ∷ c.self.inside.machine.past) came.is
     ∙ ap (λ w. Cleared a.gid a.piece ∷ w.machine.past) c.self.view_is))
-    (omega (arith, same)) tt
+    (tt, same)
     (λ n below. subst (λ (b : Bool). sole_phase a.gid a.piece b a.self.now.machine.past (Cleared a.gid a.piece ∷ []) Went)
     (sym c.if-sole.true) refl)

@@ -49,14 +49,14 @@ returns-in-Some-clause-did g c download added =
     Over
     (came.past_is ∙ (ap (λ (x : Event). x ∷ c.self.inside.machine.past) came.is
     ∙ ap (λ w. e ∷ w.machine.past) c.self.view_is))
-    (omega (arith, same)) tt
+    (tt, same)
     (λ n below. dead_over (turn_from a.self.now n) a.self.now.machine a.gid a.piece c.in-Some.mark download refl added dead)
 
 pub returns-in-None-clause-did : goal.returns-in-None-clause-did
 returns-in-None-clause-did g c download added =
     let a = c.args in
     let none = subst (λ w. HasNoDeadMark w.machine a.gid a.piece) c.self.view_is c.in-None.ensures.none in
-    part_none (λ at. DeadPhase at download a.piece) a.self.now a.self.now _ _ Went refl (omega arith)
+    part_none (λ at. DeadPhase at download a.piece) a.self.now a.self.now _ _ Went refl refl
     (λ n below. dead_none (turn_from a.self.now n) a.self.now.machine a.gid a.piece download refl added none)
 
 pub returns-in-None-clause-stores : goal.returns-in-None-clause-stores

@@ -52,7 +52,7 @@ returns-in-Some-clause-did g c download added =
     let number = c.number-piece_len.ensures.value ∙ ap (λ (o : OptionValues). number_value o PieceLength) begun in
     let plan : IsPlan a.total (number_value download.options PieceLength) =
     subst (λ (n : ℕ). IsPlan a.total n) number (c.in-Some.ensures.found.0 refl) in
-    part_none (λ at. too_long_phase download a.total) a.self.now a.self.now _ _ Went refl (omega arith)
+    part_none (λ at. too_long_phase download a.total) a.self.now a.self.now _ _ Went refl refl
     (λ n below. inr ((λ long. long plan), refl))
 
 pub returns-in-None-clause-did : goal.returns-in-None-clause-did
@@ -71,6 +71,6 @@ returns-in-None-clause-did g c download added =
     Over
     (came.past_is ∙ (ap (λ (x : Event). x ∷ c.self.inside.machine.past) came.is
     ∙ ap (λ w. e ∷ w.machine.past) c.self.view_is))
-    (omega (arith, same)) tt
+    (tt, same)
     (λ n below. too_long_over a.gid download a.total a.self.now.machine.past
     (gid_added a.self.now.machine.start a.self.now.machine.past a.gid download added) long)

@@ -38,7 +38,7 @@ returns-clause-did g c =
     one_did _ _ c.self.view_is d.faults (λ v n. JustEnd (Ended c.args.gid end.Checksum)) c.ended.new.self.past
     (d.faults c.self.inside.disk) (Ended c.args.gid end.Checksum) Over
     (came.past_is ∙ ap (λ (x : Event). x ∷ m.past) came.is)
-    (omega arith) (λ from below. refl) (λ h count is. absurd cc)
+    (tt, refl) (λ from below. refl)
 
 pub returns-clause-disk : goal.returns-clause-disk
 returns-clause-disk g c told want kept =

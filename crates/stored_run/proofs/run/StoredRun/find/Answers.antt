@@ -37,7 +37,7 @@ returns-clause-did g c =
     one_did _ _ c.self.view_is d.faults (λ v n. FindingPhase (turn_from v n) c.args.gid c.args.piece c.args.right)
     c.settled.new.self.past (d.faults c.self.inside.disk) (Settled c.args.gid c.args.piece c.args.right giver) Went
     (came.past_is ∙ ap (λ (x : Event). x ∷ m.past) came.is.1)
-    (omega arith) (λ from below. (giver, may.own.may.givers, refl)) (λ h count is. absurd cc)
+    (tt, refl) (λ from below. (giver, may.own.may.givers, refl))
 
 pub returns-clause-disk : goal.returns-clause-disk
 returns-clause-disk g c told =

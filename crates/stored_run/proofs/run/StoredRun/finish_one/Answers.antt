@@ -19,7 +19,7 @@ use Rattle.stored_run.specs.Steps.{turn_from}
 use Rattle.stored_run.specs.Stored.{saved_listing}
 use Rattle.stored_run.specs.Views.{IsGoing}
 use Rattle.stored_run.specs.declared.run.StoredView.{StoredView}
-use Rattle.stored_run.proofs.Doing.{grown_none}
+use Rattle.stored_run.proofs.Doing.{fault_counts, grown_none}
 use Rattle.stored_run.proofs.Endings.{end_kept, fault_ends, finish_ends, going_facts, may_fail, rose_of, same_of, unmade_kept}
 use Rattle.stored_run.proofs.Left.{complete_left, done_by, done_then, going_left, unfinished_left, verified_before}
 use Rattle.stored_run.proofs.Own.{own_legal}
@@ -145,7 +145,7 @@ returns-in-Ok-clause-did g c =
     one_did _ _ c.self.view_is d.faults (λ v n. EndAfterDisk (turn_from v n) c.args.gid end.Complete) c.ended.new.self.past
     (d.faults c.finish_held.new.disk) (Ended c.args.gid end.Complete) Over
     (came.past_is ∙ ap (λ (x : Event). x ∷ m.past) came.is)
-    c.finish_held.ensures.cause.later (λ from below. inl refl) (λ h count is. absurd cc)
+    (tt, c.in-Ok.ensures.cause.done) (λ from below. inl refl)
 
 pub returns-in-Err-Disk-clause-did : goal.returns-in-Err-Disk-clause-did
 returns-in-Err-Disk-clause-did g c =
@@ -159,11 +159,11 @@ returns-in-Err-Disk-clause-did g c =
     one_did _ _ c.self.view_is d.faults (λ v n. EndAfterDisk (turn_from v n) c.args.gid end.Complete) c.ended-in-Err-Disk.new.self.past
     (d.faults c.finish_held.new.disk) (Ended c.args.gid (end.Disk count)) Over
     (came.past_is ∙ ap (λ (x : Event). x ∷ m.past) came.is)
-    c.finish_held.ensures.cause.later
+    (fault_counts c.args.gid (d.faults u.disk) count (d.faults c.finish_held.new.disk) c.finish_held.ensures.cause.later rose
+    c.faults-faults.ensures)
     (λ from below. inr (fault_ends (record { start = m.start; now = u.now; faults = from }) c.args.gid
     (d.faults u.disk) count below (subst (λ n. Rose (d.faults u.disk) n) (sym c.faults-faults.ensures) rose)
     c.faults-faults.type_inv))
-    (λ h n is. let same : count ≡ n = cc in omega (arith, c.faults-faults.ensures, same))
 
 pub returns-in-Ok-clause-disk : goal.returns-in-Ok-clause-disk
 returns-in-Ok-clause-disk g c told =

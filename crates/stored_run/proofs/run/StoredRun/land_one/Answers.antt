@@ -7,6 +7,7 @@ use Rattle.dl_history.specs.Listings.{Listing}
 use Rattle.dl_kinds.specs.Counts.{Rose}
 use Rattle.durable_progress.specs.HeldLaws.{ListsNoneOf}
 use Rattle.durable_progress.specs.HeldSteps.{IsHeldNow}
+use Rattle.engine_turns.specs.Faults.{CountsFaults}
 use Rattle.engine_turns.specs.Phases.{AfterDisk}
 use Rattle.engine_turns.specs.declared.outcome.Outcome.TheVariants.{Over, Starved, Went}
 use Rattle.machine_core.specs.MachineViews.{place_in}
@@ -23,7 +24,7 @@ use Rattle.span_map.specs.Jobs.{IsRun}
 use Rattle.stored_run.specs.Landings.{HasRunLen, IsOneUnder}
 use Rattle.stored_run.specs.Steps.{turn_from}
 use Rattle.stored_run.specs.Stored.{saved_listing}
-use Rattle.stored_run.proofs.Doing.{part_event, part_none, risen}
+use Rattle.stored_run.proofs.Doing.{fault_counts, part_event, part_none, risen}
 use Rattle.stored_run.proofs.LandedBytes.{read_view}
 use Rattle.stored_run.proofs.LandedRuns.{WritesLanding, kept_there, kept_within, landing_goes, landing_going, landing_one, landing_want, landed_kept, failed_kept, fault_may, moved_to, own_next, run_len_of, starved_kept, still_stored, stores_view, writes_same}
 use Rattle.stored_run.proofs.Endings.{unended}
@@ -313,7 +314,7 @@ returns-in-Ok-clause-did g c =
     let now = ap (λ w. w.now) c.self.view_is in
     part_event (λ at. AfterDisk at a.gid (Landed a.gid a.claim.id a.claim.mirror a.run at.now ∷ [])) e v
     (record v { machine = c.landed.new.self; disk = c.write_held.new.disk }) _ _ Went
-    (past ∙ ap (λ w. e ∷ w.machine.past) c.self.view_is) (omega (arith, faults, more)) tt
+    (past ∙ ap (λ w. e ∷ w.machine.past) c.self.view_is) (tt, c.in-Ok.ensures.cause.done ∙ faults)
     (λ n below. ap (λ t. Landed a.gid a.claim.id a.claim.mirror a.run t ∷ []) now)
 
 pub returns-in-Err-Disk-clause-did : goal.returns-in-Err-Disk-clause-did
@@ -333,7 +334,10 @@ returns-in-Err-Disk-clause-did g c =
     let more = c.write_held.ensures.cause.later in
     part_event (λ at. AfterDisk at a.gid (Landed a.gid a.claim.id a.claim.mirror a.run at.now ∷ [])) e v
     (record v { machine = c.ended.new.self; disk = c.write_held.new.disk }) _ _ Over
-    (past ∙ ap (λ w. e ∷ w.machine.past) c.self.view_is) (omega (arith, faults, more)) (omega (arith, less))
+    (past ∙ ap (λ w. e ∷ w.machine.past) c.self.view_is)
+    (subst (λ (n : ℕ). CountsFaults n (e ∷ []) (g.D.Disk.faults c.write_held.new.disk)) faults
+    (fault_counts a.gid (g.D.Disk.faults r.disk) count (g.D.Disk.faults c.write_held.new.disk) more
+    (c.in-Err-Disk.ensures.cause.disk (rw c.in-Err-Disk.field-0-is refl)) less))
     (λ n below. (
       count,
       risen (turn_from v n) (g.D.Disk.faults r.disk) count (omega (arith, below, faults)) rose
@@ -351,7 +355,7 @@ returns-in-Err-NoMemory-clause-did g c =
     let more = c.write_held.ensures.cause.later in
     part_none (λ at. AfterDisk at a.gid (Landed a.gid a.claim.id a.claim.mirror a.run at.now ∷ [])) v
     (record v { machine = m; disk = c.write_held.new.disk }) _ _ Starved (ap (λ w. w.machine.past) c.self.view_is)
-    (omega (arith, faults, more)) (λ n below. refl)
+    (c.in-Err-NoMemory.ensures.cause.none (rw c.in-Err-NoMemory.field-0-is refl) ∙ faults) (λ n below. refl)
 
 pub returns-in-Ok-clause-disk : goal.returns-in-Ok-clause-disk
 returns-in-Ok-clause-disk g c told =

@@ -1,9 +1,8 @@
-use Rattle.std.proofs.Common.{◌≡◌, ◌≤◌, [], ◌∷◌, refl, sym, ◌∙◌, subst, arith}
+use Rattle.std.proofs.Common.{◌≡◌, ◌≤◌, [], ◌∷◌, ap, refl, sym, ◌∙◌, subst, arith}
 use Rattle.machine_core.specs.RunLegal.{MayFollow, doors_left}
 use Rattle.machine_core.specs.declared.events.Event.TheVariants.{Left}
 use Rattle.stored_run.specs.Steps.{turn_from}
 use Rattle.stored_run.specs.Stored.{IsStoredWith, IsStoredRun}
-use Rattle.stored_run.proofs.Doing.{fault_in, no_counts}
 use Rattle.stored_run.proofs.Doors.{leaves, leaves_none}
 use Rattle.stored_run.proofs.Kept.{after_event}
 use Rattle.stored_run.proofs.SaveOne.{appended, past_by}
@@ -39,7 +38,7 @@ returns-then-doors-eq0-clause-row g c =
       grown = refl;
       is = λ from s below standing. leaves_none (turn_from v from) s v.machine.past standing none;
       later = omega arith;
-      counts = no_counts (g.D.Disk.faults v.disk);
+      counts = refl;
     }
 
 pub returns-clause-row : goal.returns-clause-row
@@ -54,7 +53,7 @@ returns-clause-row g c =
           (past_by c.self.inside.machine c.left.new.self Left c.left.ensures.event);
       is = λ from s below standing. leaves (turn_from v from) s v.machine.past standing some;
       later = subst (λ r. g.D.Disk.faults r.disk ≤ g.D.Disk.faults c.self.inside.disk) c.self.view_is (omega arith);
-      counts = fault_in Left (g.D.Disk.faults c.self.inside.disk) tt;
+      counts = (tt, ap (λ r. g.D.Disk.faults r.disk) c.self.view_is);
     }
 
 pub returns-then-doors-eq0-clause-leaves : goal.returns-then-doors-eq0-clause-leaves

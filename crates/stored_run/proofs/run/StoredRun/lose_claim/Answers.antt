@@ -67,7 +67,7 @@ returns-clause-did g c download added =
     c.clear_sole.ensures.on c.clear_sole.ensures.did (c.end_where_dead.ensures.did download added_cleared) in
     let all = part_on loses (λ at. AndThen (clears at) (dies at)) v c.tell_loss.new.self c.end_where_dead.new.self 1 _ _ _ _
     (continues_event laws e v c.tell_loss.new.self told kept)
-    (part_told laws e v c.tell_loss.new.self told loses _ _ Went (omega (arith, same)) refl (λ at start now. refl)) rest in
+    (part_told laws e v c.tell_loss.new.self told loses _ _ Went same refl (λ at start now. refl)) rest in
     did_wider (λ n. AndThen (loses (turn_from v n)) (AndThen (clears (turn_from v n)) (dies (turn_from v n))))
     (λ n. loss_phase_of (turn_from v n) m.past download a.claim a.mark) m.past _ _ _ _
     (λ n events came. loss_so (turn_from v n) m.past events _ download a.claim a.mark a.gid piece sole

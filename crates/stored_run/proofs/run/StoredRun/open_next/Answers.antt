@@ -63,7 +63,7 @@ returns-in-Some-clause-row g c =
     let has = subst (λ (w : StoredView _). HasClash w.machine c.args.gid how) c.self.view_is
     (told_some (HasClash c.self.inside.machine c.args.gid) _ how c.in-Some.is c.in-Ok.ensures.found) in
     clash_row v n c.args.gid how (d.faults v.disk) (d.faults n.disk)
-    (subst (λ x. d.faults v.disk ≤ d.faults x) (sym c.end_unopened.ensures.disk) (omega arith)) has c.end_unopened.ensures
+    (ap d.faults c.end_unopened.ensures.disk) has c.end_unopened.ensures
 
 pub returns-in-Some-clause-on : goal.returns-in-Some-clause-on
 returns-in-Some-clause-on g c =

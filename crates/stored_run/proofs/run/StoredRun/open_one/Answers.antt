@@ -61,7 +61,7 @@ returns-in-Went-clause-leaves g c told said answers =
     (λ h goes.
     let apart = other_opened gid h (own_in v) is.before.opening.unopened goes.opened in second h apart ∙ first h apart)
     (d.faults a.disk) c.tells_stored-in-Went.ensures (c.resume_one.ensures.disk told)
-    (c.resume_one.ensures.opened c.in-Went.is) 2 c.end_if_done.ensures.on grown (c.end_if_done.ensures.disk told)
+    (c.resume_one.ensures.fits c.in-Went.is told) (c.resume_one.ensures.opened c.in-Went.is) 2 c.end_if_done.ensures.on grown (c.end_if_done.ensures.disk told)
     (c.end_if_done.ensures.payload told) (c.end_if_done.ensures.left told) said
 
 pub returns-in-Went-clause-ends : goal.returns-in-Went-clause-ends

@@ -20,7 +20,7 @@ use Rattle.stored_run.proofs.Grants.{long_as_piece}
 use Rattle.stored_run.specs.Steps.{turn_from}
 use Rattle.stored_run.specs.Views.{IsGoing, kept_want_of}
 use Rattle.stored_run.specs.declared.run.StoredView.{StoredView}
-use Rattle.stored_run.proofs.Doing.{grown_none}
+use Rattle.stored_run.proofs.Doing.{fault_counts, grown_none}
 use Rattle.stored_run.proofs.Endings.{ended_own, fault_ends, going_facts, may_fail, plain_kept, rose_of, same_of, unended}
 use Rattle.stored_run.proofs.Kept.{halts}
 use Rattle.stored_run.proofs.Left.{ended_left, going_left, held_stored}
@@ -118,11 +118,11 @@ returns-in-Err-Disk-clause-did g c =
     one_did _ _ c.self.view_is d.faults (λ v n. AfterDisk (turn_from v n) c.args.gid []) c.ended.new.self.past
     (d.faults c.read_piece.new.disk) (Ended c.args.gid (end.Disk count)) Over
     (came.past_is ∙ ap (λ (x : Event). x ∷ m.past) came.is)
-    c.read_piece.ensures.cause.later
+    (fault_counts c.args.gid (d.faults u.disk) count (d.faults c.read_piece.new.disk) c.read_piece.ensures.cause.later rose
+    c.faults-count.ensures)
     (λ from below. fault_ends (record { start = m.start; now = u.now; faults = from }) c.args.gid
     (d.faults u.disk) count below (subst (λ n. Rose (d.faults u.disk) n) (sym c.faults-count.ensures) rose)
     c.faults-count.type_inv)
-    (λ h n is. let same : count ≡ n = cc in omega (arith, c.faults-count.ensures, same))
 
 pub returns-in-Err-Disk-clause-disk : goal.returns-in-Err-Disk-clause-disk
 returns-in-Err-Disk-clause-disk g c told =

@@ -1,25 +1,27 @@
-use Rattle.std.proofs.Common.{◌≡◌, ◌<◌, ◌≤◌, ◌⊎◌, ⊎_elim, inl, inr, [], ◌∷◌, ◌∙◌, ap, arith, length, refl, subst, sym, true, false}
-use Rattle.std.specs.Prelude.{IfSome, IsSome, IsTrue}
+use Rattle.std.proofs.Common.{ℕ, ◌≡◌, ◌<◌, ◌≤◌, ◌⊎◌, ⊎_elim, inl, inr, [], ◌∷◌, ◌∙◌, ap, arith, length, refl, subst, sym, true, false}
+use Rattle.std.specs.Prelude.{IsSome, IsTrue}
 use Rattle.dl_history.specs.OwnEvents.{Halts}
 use Rattle.dl_history.specs.PayloadParts.{is_opened}
+use Rattle.engine_turns.specs.Faults.{CountsFaults}
 use Rattle.engine_turns.specs.Phases.{OpeningPhase}
 use Rattle.engine_turns.specs.declared.outcome.Outcome.TheVariants.{Over, Starved, Went}
 use Rattle.machine_core.proofs.Here.{told_some}
 use Rattle.machine_core.specs.MachineViews.{MachineView, place_in}
 use Rattle.machine_core.specs.OwnParts.{own_of}
 use Rattle.machine_core.specs.Reads.{downloads_in}
-use Rattle.machine_core.specs.RunLegal.{MayFollow, disk_fault_of}
+use Rattle.machine_core.specs.RunLegal.{MayFollow}
 use Rattle.machine_core.specs.declared.events.Event.TheVariants.{Ended, Opened as OpenedEvent}
+use Rattle.resume_core.specs.Openings.{FitsPayload}
 use Rattle.resume_core.specs.Refusals.{open_refusal}
 use Rattle.stored_run.specs.Opening.{IsDiskEnd, IsRefusedSince, IsToResume, OpensOn, is_checked_of}
 use Rattle.stored_run.specs.Refused.{IsEndAsRead}
 use Rattle.stored_run.specs.Steps.{turn_from}
 use Rattle.stored_run.specs.Views.{own_in}
 use Rattle.stored_run.specs.declared.run.StoredView.{StoredView}
-use Rattle.stored_run.proofs.Doing.{continues_none, continues_wider, part_event, part_none}
+use Rattle.stored_run.proofs.Doing.{continues_none, continues_wider, count_low, part_event, part_none}
 use Rattle.stored_run.proofs.EachSaved.{told_of}
 use Rattle.stored_run.proofs.Kept.{own_at}
-use Rattle.stored_run.proofs.OpenNext.{err_some, ok_holds}
+use Rattle.stored_run.proofs.OpenNext.{err_none, err_some, ok_holds}
 use Rattle.stored_run.proofs.OpenParts.{continues_still, ended_failed, finds_still, on_still, opens_none, opens_still, own_still, part_still, place_low, place_there, still_on}
 use Rattle.stored_run.proofs.PlainEvents.{continues_event, told_so}
 use Rattle.stored_run.proofs.RefusedEnds.{no_end, none_ends, one_end}
@@ -44,7 +46,7 @@ returns-then-is_err-clause-did g c =
     let a = c.hold_place.new.self in
     part_none (λ at. OpeningPhase at c.args.gid) v a (d.faults v.disk) (d.faults a.disk) Starved
     (ap (λ (m : MachineView). m.past) c.hold_place.ensures.still.machine)
-    (let same = ap d.faults c.hold_place.ensures.disk in omega (arith, same)) (λ n below. refl)
+    (ap d.faults c.hold_place.ensures.disk) (λ n below. refl)
 
 pub returns-then-is_err-clause-on : goal.returns-then-is_err-clause-on
 returns-then-is_err-clause-on g c =
@@ -109,9 +111,9 @@ returns-in-Ok-open_as-clause-did g c =
     let same = ap d.faults c.hold_place.ensures.disk in
     let same_disk = ap d.faults c.open_as.ensures.disk in
     part_still v b still (λ at. OpeningPhase at c.args.gid) n (d.faults v.disk) (d.faults b.disk) (d.faults n.disk) Went
-    (omega (arith, same, c.resume_want.ensures.later))
+    (c.in-Ok.ensures.unfailed ∙ same)
     (part_event (λ at. OpeningPhase at c.args.gid) (OpenedEvent c.args.gid opened.verified opened.blocks b.now) b n
-    (d.faults b.disk) (d.faults n.disk) Went c.in-Ok-open_as.ensures.came.past (omega (arith, same_disk)) tt
+    (d.faults b.disk) (d.faults n.disk) Went c.in-Ok-open_as.ensures.came.past (tt, same_disk)
     (λ k below. (opened.verified, opened.blocks, refl)))
 
 pub returns-in-Ok-open_as-clause-on : goal.returns-in-Ok-open_as-clause-on
@@ -147,6 +149,14 @@ returns-in-Ok-open_as-clause-opened g c went =
       opens_still v b still c.args.gid c.args.want c.in-Ok.opened c.open_as.new.self c.in-Ok-open_as.ensures.came,
     )
 
+pub returns-in-Ok-open_as-clause-fits : goal.returns-in-Ok-open_as-clause-fits
+returns-in-Ok-open_as-clause-fits g c went told =
+    let d = g.D.Disk in
+    let b = c.resume_want.new.self in
+    subst (λ x. FitsPayload c.args.want (d.state c.args.self.now.disk).seen (d.state x).seen) (sym c.open_as.ensures.disk)
+    (subst (λ x. FitsPayload c.args.want (d.state x).seen (d.state b.disk).seen) c.hold_place.ensures.disk
+    (c.in-Ok.ensures.fits told))
+
 pub returns-in-Ok-clause-did : goal.returns-in-Ok-clause-did
 returns-in-Ok-clause-did g c =
     let d = g.D.Disk in
@@ -159,7 +169,7 @@ returns-in-Ok-clause-did g c =
     let same_disk = ap d.faults c.open_as.ensures.disk in
     part_none (λ at. OpeningPhase at c.args.gid) v n (d.faults v.disk) (d.faults n.disk) Starved
     (c.in-Err.ensures.same.past ∙ ap (λ (m : MachineView). m.past) still.machine)
-    (omega (arith, same, same_disk, c.resume_want.ensures.later)) (λ k below. refl)
+    (same_disk ∙ (c.in-Ok.ensures.unfailed ∙ same)) (λ k below. refl)
 
 pub returns-in-Ok-clause-on : goal.returns-in-Ok-clause-on
 returns-in-Ok-clause-on g c =
@@ -203,8 +213,11 @@ pub end_unopened-requires-clause-fault : goal.end_unopened-requires-clause-fault
 end_unopened-requires-clause-fault g c =
     let d = g.D.Disk in
     let b = c.resume_want.new.self in
-    err_some (λ h. IfSome (disk_fault_of (Ended c.args.gid h)) (λ count. count ≤ d.faults b.disk)) c.resume_want.result
-    c.in-Err-Some.field-0 c.in-Err-Some.end c.in-Err-Some.is c.in-Err-Some.field-0-is c.resume_want.ensures.fault
+    let a = c.hold_place.new.self in
+    let how = c.in-Err-Some.end in
+    count_low (Ended c.args.gid how) (d.faults a.disk) (d.faults b.disk)
+    (err_some (λ h. CountsFaults (d.faults a.disk) (Ended c.args.gid h ∷ []) (d.faults b.disk)) c.resume_want.result
+    c.in-Err-Some.field-0 how c.in-Err-Some.is c.in-Err-Some.field-0-is c.resume_want.ensures.counts)
 
 pub end_unopened-requires-clause-room : goal.end_unopened-requires-clause-room
 end_unopened-requires-clause-room g c =
@@ -224,16 +237,14 @@ returns-in-Err-Some-clause-did g c =
     let how = c.in-Err-Some.end in
     let still = still_on v a b c.hold_place.ensures.still c.resume_want.ensures.still in
     let same = ap d.faults c.hold_place.ensures.disk in
-    let same_disk = ap d.faults c.end_unopened.ensures.disk in
-    let fault = err_some (λ h. IfSome (disk_fault_of (Ended gid h)) (λ count. count ≤ d.faults b.disk)) c.resume_want.result
-    c.in-Err-Some.field-0 how c.in-Err-Some.is c.in-Err-Some.field-0-is c.resume_want.ensures.fault in
+    let counts = err_some (λ h. CountsFaults (d.faults a.disk) (Ended gid h ∷ []) (d.faults b.disk)) c.resume_want.result
+    c.in-Err-Some.field-0 how c.in-Err-Some.is c.in-Err-Some.field-0-is c.resume_want.ensures.counts in
     let refused = err_some (IsRefusedSince (d.faults a.disk)) c.resume_want.result c.in-Err-Some.field-0 how
     c.in-Err-Some.is c.in-Err-Some.field-0-is c.resume_want.ensures.refused in
     part_event (λ at. OpeningPhase at gid) (Ended gid how) v n (d.faults v.disk) (d.faults n.disk) Over
     (c.end_unopened.ensures.past ∙ ap (λ (m : MachineView). Ended gid how ∷ m.past) still.machine)
-    (omega (arith, same, same_disk, c.resume_want.ensures.later))
-    (subst (λ (x : _). IfSome (disk_fault_of (Ended gid how)) (λ count. count ≤ d.faults x)) (sym c.end_unopened.ensures.disk)
-    fault)
+    (subst (λ (x : _). CountsFaults (d.faults v.disk) (Ended gid how ∷ []) (d.faults x)) (sym c.end_unopened.ensures.disk)
+    (subst (λ (n : ℕ). CountsFaults n (Ended gid how ∷ []) (d.faults b.disk)) same counts))
     (λ k below. (how, refused (turn_from v k) (omega (arith, same, below)), refl))
 
 pub returns-in-Err-Some-clause-on : goal.returns-in-Err-Some-clause-on
@@ -296,7 +307,10 @@ returns-clause-did g c =
     let still = still_on v a b c.hold_place.ensures.still c.resume_want.ensures.still in
     let same = ap d.faults c.hold_place.ensures.disk in
     part_none (λ at. OpeningPhase at c.args.gid) v b (d.faults v.disk) (d.faults b.disk) Starved
-    (ap (λ (m : MachineView). m.past) still.machine) (omega (arith, same, c.resume_want.ensures.later)) (λ k below. refl)
+    (ap (λ (m : MachineView). m.past) still.machine)
+    (err_none (d.faults b.disk ≡ d.faults a.disk) c.resume_want.result c.in-Err-None.field-0 c.in-Err-None.is
+    c.in-Err-None.field-0-is c.resume_want.ensures.starved ∙ same)
+    (λ k below. refl)
 
 pub returns-clause-on : goal.returns-clause-on
 returns-clause-on g c =

@@ -1,13 +1,14 @@
-use Rattle.std.proofs.Common.{◌⊎◌, ⊎_elim, arith, refl, subst, sym}
-use Rattle.std.specs.Prelude.{IfSome, IsSome, IsTrue}
+use Rattle.std.proofs.Common.{◌≡◌, ◌⊎◌, ⊎_elim, [], ◌∷◌, ◌∙◌, ap, refl, subst, sym}
+use Rattle.std.specs.Prelude.{IfNone, IfSome, IsSome, IsTrue}
+use Rattle.engine_turns.specs.Faults.{CountsFaults}
 use Rattle.machine_core.specs.RunLegal.{MayFollow}
 use Rattle.machine_core.specs.declared.events.Event.TheVariants.{Ended}
-use Rattle.resume_core.specs.Openings.{OpensJust, is_compared}
+use Rattle.resume_core.specs.Openings.{FitsPayload, OpensJust, is_compared}
 use Rattle.resume_core.specs.Refusals.{open_refusal}
 use Rattle.stored_run.specs.Opening.{FindsJust, IsDiskEnd, IsRefusedSince, IsToResume, OpensOn, is_checked_of}
 use Rattle.stored_run.specs.Refused.{IsEndAsRead}
 use Rattle.stored_run.specs.declared.run.StoredView.{StoredView}
-use Rattle.stored_run.proofs.OpenNext.{refusal_count, refusal_may, refusal_reason, refusal_since, refused_some, rose_open}
+use Rattle.stored_run.proofs.OpenNext.{refusal_counts, refusal_may, refusal_reason, refusal_since, refusal_starved, refused_some, rose_open}
 use Rattle.stored_run.proofs.Openings.{apart_opening, resumed_kept}
 use Rattle.stored_run.proofs.RefusedEnds.{refusal_ends}
 use Rattle.stored_run.proofs.run.StoredRun.resume_want.Goals as goal
@@ -59,6 +60,16 @@ returns-clause-opened g c =
     })))
     (λ bad. rw bad.result-is tt) c.match-resume.branch-raw
 
+pub returns-clause-fits : goal.returns-clause-fits
+returns-clause-fits g c =
+    let d = g.D.Disk in
+    ⊎_elim
+    (λ ok. rw ok.result-is
+    (λ told.
+    subst (λ (v : StoredView _). FitsPayload c.args.want.now (d.state v.disk).seen (d.state c.resume.new.disk).seen)
+    c.self.view_is (ok.in-Ok.ensures.fits told)))
+    (λ bad. rw bad.result-is tt) c.match-resume.branch-raw
+
 pub returns-clause-listed : goal.returns-clause-listed
 returns-clause-listed g c =
     ⊎_elim (λ ok. rw ok.result-is ok.in-Ok.ensures.listed) (λ bad. rw bad.result-is tt) c.match-resume.branch-raw
@@ -94,13 +105,39 @@ returns-clause-refused g c =
     bad.faults-faults.type_inv)))
     c.match-resume.branch-raw
 
-pub returns-clause-fault : goal.returns-clause-fault
-returns-clause-fault g c =
+pub returns-clause-counts : goal.returns-clause-counts
+returns-clause-counts g c =
     let d = g.D.Disk in
+    let u = c.self.inside in
     ⊎_elim (λ ok. rw ok.result-is tt)
     (λ bad. rw bad.result-is
-    (refusal_count c.args.gid (d.faults c.resume.new.disk) bad.faults-faults.result bad.in-Err.err bad.end_of.result
-    bad.end_of.ensures (omega (arith, bad.faults-faults.ensures))))
+    (subst
+    (λ (v : StoredView _). IfSome bad.end_of.result
+    (λ how. CountsFaults (d.faults v.disk) (Ended c.args.gid how ∷ []) (d.faults c.resume.new.disk))) c.self.view_is
+    (refusal_counts c.args.gid (d.faults u.disk) bad.faults-faults.result (d.faults c.resume.new.disk) bad.in-Err.err
+    bad.end_of.result bad.end_of.ensures c.resume.ensures.cause.later bad.faults-faults.ensures
+    (rose_open (d.faults u.disk) (d.faults c.resume.new.disk) bad.faults-faults.result c.resume.result bad.in-Err.err
+    c.resume.ensures.cause bad.in-Err.is bad.faults-faults.ensures)
+    bad.in-Err.ensures.cause.other)))
+    c.match-resume.branch-raw
+
+pub returns-clause-unfailed : goal.returns-clause-unfailed
+returns-clause-unfailed g c =
+    let d = g.D.Disk in
+    ⊎_elim
+    (λ ok. rw ok.result-is (ok.in-Ok.ensures.cause.done ∙ ap (λ (v : StoredView _). d.faults v.disk) c.self.view_is))
+    (λ bad. rw bad.result-is tt) c.match-resume.branch-raw
+
+pub returns-clause-starved : goal.returns-clause-starved
+returns-clause-starved g c =
+    let d = g.D.Disk in
+    let u = c.self.inside in
+    ⊎_elim (λ ok. rw ok.result-is tt)
+    (λ bad. rw bad.result-is
+    (subst
+    (λ (v : StoredView _). IfNone bad.end_of.result (d.faults c.resume.new.disk ≡ d.faults v.disk)) c.self.view_is
+    (refusal_starved (d.faults u.disk) bad.faults-faults.result (d.faults c.resume.new.disk) bad.in-Err.err
+    bad.end_of.result bad.end_of.ensures bad.in-Err.ensures.cause.other)))
     c.match-resume.branch-raw
 
 pub returns-clause-reason : goal.returns-clause-reason

@@ -7,6 +7,7 @@ use Rattle.dl_kinds.specs.Counts.{Rose}
 use Rattle.dl_history.specs.OwnLegal.{MaySave}
 use Rattle.control_file.specs.declared.want.Want.{Want}
 use Rattle.durable_progress.specs.HeldSteps.{IsHeldNow, StaysHeldOrSaved}
+use Rattle.engine_turns.specs.Faults.{CountsFaults}
 use Rattle.machine_core.specs.OwnParts.{own_of}
 use Rattle.machine_core.specs.RunLegal.{MayFollow}
 use Rattle.machine_core.specs.declared.ends.End.TheVariants as end
@@ -18,7 +19,7 @@ use Rattle.resume_core.specs.Tables.{IsTableOf}
 use Rattle.stored_run.specs.Steps.{IsStoredApart, StoresOn, turn_from}
 use Rattle.stored_run.specs.Stored.{IsStoredWith, saved_listing}
 use Rattle.stored_run.specs.Views.{kept_want_of, own_in}
-use Rattle.stored_run.proofs.Doing.{IsGrown, fault_in, grown_none, own_grows, risen}
+use Rattle.stored_run.proofs.Doing.{IsGrown, fault_counts, grown_none, own_grows, risen}
 use Rattle.stored_run.proofs.Findings.{saved_own}
 use Rattle.stored_run.proofs.Left.{ended_left, held_ended, held_stored, held_told, left_of, left_told, not_complete, save_held}
 use Rattle.stored_run.proofs.Own.{own_legal}
@@ -188,7 +189,11 @@ returns-in-Ok-clause-did g c =
       is = λ from below. refl;
       later = subst (λ r. g.D.Disk.faults r.disk ≤ g.D.Disk.faults c.save_held.new.disk) c.self.view_is
           c.save_held.ensures.cause.later;
-      counts = fault_in e (g.D.Disk.faults c.save_held.new.disk) tt;
+      counts = (
+        tt,
+        c.in-Ok.ensures.cause.done
+            ∙ ap (λ r. g.D.Disk.faults r.disk) c.self.view_is,
+      );
     }
 
 pub returns-in-Ok-clause-disk : goal.returns-in-Ok-clause-disk
@@ -215,7 +220,6 @@ returns-in-Ok-clause-disk g c told other other_kept =
 pub returns-in-Err-Disk-clause-did : goal.returns-in-Err-Disk-clause-did
 returns-in-Err-Disk-clause-did g c =
     let count = c.faults-count.result in
-    let within : count ≤ g.D.Disk.faults c.save_held.new.disk = let is = c.faults-count.ensures in omega arith in
     let rose : Rose (g.D.Disk.faults c.args.self.now.disk) count =
     subst (λ r. Rose (g.D.Disk.faults r.disk) count) c.self.view_is
     (subst (Rose (g.D.Disk.faults c.self.inside.disk)) (sym c.faults-count.ensures)
@@ -232,7 +236,12 @@ returns-in-Err-Disk-clause-did g c =
       );
       later = subst (λ r. g.D.Disk.faults r.disk ≤ g.D.Disk.faults c.save_held.new.disk) c.self.view_is
           c.save_held.ensures.cause.later;
-      counts = fault_in (Ended c.args.gid (end.Disk count)) (g.D.Disk.faults c.save_held.new.disk) within;
+      counts = subst
+          (λ r. CountsFaults (g.D.Disk.faults r.disk) (Ended c.args.gid (end.Disk count) ∷ []) (g.D.Disk.faults c.save_held.new.disk))
+          c.self.view_is
+          (fault_counts c.args.gid (g.D.Disk.faults c.self.inside.disk) count (g.D.Disk.faults c.save_held.new.disk)
+          c.save_held.ensures.cause.later (c.save_held.ensures.cause.disk (c.in-Err-Disk.is ∙ ap Err c.in-Err-Disk.field-0-is))
+          c.faults-count.ensures);
     }
 
 pub returns-in-Err-Disk-clause-disk : goal.returns-in-Err-Disk-clause-disk

@@ -36,7 +36,7 @@ returns-clause-did g c download added =
     part_on (λ at. JustEvent (Sized download.gid a.claim.id a.total)) (λ at. too_long_phase download a.total) a.self.now
     c.tell_size.new.self c.end_where_too_long.new.self 1 _ _ _ _ (continues_event laws e a.self.now c.tell_size.new.self told kept)
     (part_told laws e a.self.now c.tell_size.new.self told (λ at. JustEvent (Sized download.gid a.claim.id a.total)) _ _
-    Went (omega (arith, same)) refl
+    Went same refl
     (λ at start now. ap (λ x. Sized x a.claim.id a.total ∷ []) (sym (gid_added m.start m.past a.gid download added))))
     (c.end_where_too_long.ensures.did download added_then)
 
