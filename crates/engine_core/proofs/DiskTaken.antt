@@ -140,6 +140,7 @@ pub no_promises : (start : RunStart) (disk : DiskState) → KeepsPromises start 
 no_promises start disk = record {
   asked = λ gid is. absurd (let no : false ≡ true = is in cc);
   ordered = λ want first second is. absurd (let no : false ≡ true = is.opened in cc);
+  wants = λ want gid alone is. absurd (let no : false ≡ true = is.opened in cc);
   lengths = λ want gid alone is. absurd (let no : false ≡ true = is.opened in cc);
   marks = λ newer t before cut. by newer t before cut;
 }

@@ -171,6 +171,7 @@ module _ {D : Type 0} (laws : RunFollows) (handed : HandedAreActive) (start : Ru
   promises_on mark = record {
     asked = asked_next;
     ordered = ordered_next;
+    wants = keeps.wants;
     lengths = keeps.files;
     marks = marks_next mark;
   }

@@ -32,7 +32,7 @@ use Rattle.stored_run.specs.Stored.{IsStoredWith}
 use Rattle.stored_run.specs.Views.{GoesOpened, IsDoneIn, IsDoneOf, kept_want, own_in}
 use Rattle.stored_run.specs.declared.run.StoredView.{StoredView}
 use Rattle.engine_core.specs.Askings.{AreAsked, AreInOrder, Asks, IsAskedLater, IsOpenedWant, IsWrittenAlone, is_opened_in}
-use Rattle.engine_core.specs.Durable.{AllHold, HaveLengths, Holds}
+use Rattle.engine_core.specs.Durable.{AreWants, AllHold, HaveLengths, Holds}
 use Rattle.engine_core.proofs.Ending.{agrees_then, now_other, own_then, since_other, since_own}
 use Rattle.engine_core.proofs.Gone.{IsOpenedNext, newly_opened}
 use Rattle.engine_core.proofs.Keeping.{kept_agrees, kept_now, kept_since, kept_sound}
@@ -185,6 +185,7 @@ module _ {D : Type 0} (laws : RunFollows) (handed : HandedAreActive) (start : Ru
   pub record KeepsEach : Type 0 where
     pub turn : (want : Want) → IsWrittenAlone start (t ∷ told) want → AreSound want d.seen d.may_leave
         → TurnKeeps start told t want d new
+    pub wants : AreWants start (t ∷ told)
     pub files : HaveLengths start (t ∷ told) new
     pub later : d.moment ≤ new.moment
     pub time : (k : ℕ) → k ≤ d.moment → new.seen_at k ≡ d.seen_at k
@@ -207,6 +208,11 @@ module _ {D : Type 0} (laws : RunFollows) (handed : HandedAreActive) (start : Ru
     its_want star way =
         let same = alone_was star way.other (asked star way.going.opened) (was.wants_are.has star way.other way.kept_is) way.shares in
         way.kept_is ∙ ap (λ (x : Want). Some x) same
+
+    opened_sound : (g : Gid) → IsOpenedWant start (t ∷ told) g want → is_opened_in start (history_of told) g ≡ true → IsWant want
+    opened_sound g is opened =
+        want_sound laws handed start told t legal may faults d new old.wants.items moment was asked ordered want alone g
+        (opened_was laws handed start told t legal may faults d new old.wants.items moment was asked ordered want alone g opened is.has)
 
     -- ---- nothing is opened
 
@@ -410,6 +416,16 @@ module _ {D : Type 0} (laws : RunFollows) (handed : HandedAreActive) (start : Ru
           (want_later laws start told t legal gid asks.want asks.has) has) ∙ none in cc))
           (opened_before g is.opened)
 
+      sound_next : (g : Gid) → IsOpenedWant start (t ∷ told) g want → IsWant want
+      sound_next g is = ⊎_elim
+          (λ (still : StaysUnopened gid R' d new). opened_sound g is (none_opened still.1 g is))
+          (λ (asks : AsksStore gid R R' t.answer.said d new). ⊎_elim
+          (λ (opened : is_opened_in start (history_of told) g ≡ true). opened_sound g is opened)
+          (λ (own : g ≡ gid).
+          subst IsWant (its_own asks (subst (λ (x : Gid). HasWant start (history_of (t ∷ told)) x want) own is.has)) asks.sound)
+          (opened_before g is.opened))
+          opens.came
+
       -- what is kept of the want, and of its files
       pub record KeepsOne : Type 0 where
         pub one : AreSound want d.seen d.may_leave → TurnKeeps start told t want d new
@@ -486,6 +502,7 @@ module _ {D : Type 0} (laws : RunFollows) (handed : HandedAreActive) (start : Ru
   keeps_each turns = ⊎_elim
       (λ (none : TurnsNone). record {
         turn = λ want alone. left_turn want alone none.leaves (none_new none want);
+        wants = λ want gid alone is. opened_sound want alone gid is (none_new none want gid is);
         files = λ want gid alone is. left_lengths want alone none.leaves (none_new none want) gid is;
         later = none.leaves.time.later;
         time = none.leaves.time.seen;
@@ -493,6 +510,7 @@ module _ {D : Type 0} (laws : RunFollows) (handed : HandedAreActive) (start : Ru
       })
       (λ (one : TurnsOne). record {
         turn = λ want alone. (open_one want alone one.gid one.next one.opens).one;
+        wants = λ want gid alone is. sound_next want alone one.gid one.next one.opens gid is;
         files = λ want gid alone is. (open_one want alone one.gid one.next one.opens).sizes gid is;
         later = one.opens.time.later;
         time = one.opens.time.seen;

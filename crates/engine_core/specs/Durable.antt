@@ -1,5 +1,6 @@
 -- What a disk keeps of the downloads of a run, whenever a crash comes.
 use Rattle.std.specs.Prelude.{◌≡◌, ◌⊎◌, ◌≤◌, ℕ, Bool, true, List, ◌∷◌, ◌++◌}
+use Rattle.control_file.specs.Wants.{IsWant}
 use Rattle.control_file.specs.declared.want.Want.{Want}
 use Rattle.dl_disk.specs.Files.{Files}
 use Rattle.dl_disk.specs.State.{DiskState, LeftSince, ReadSince}
@@ -68,6 +69,11 @@ KeepsSince start before told since disk =
 
 -- ---- a list of turns
 
+-- each want that was opened is one of a payload that can be
+abbrev pub AreWants : RunStart → List RunTurn → Type 0
+AreWants start told =
+    (want : Want) (gid : Gid) → IsWrittenAlone start told want → IsOpenedWant start told gid want → IsWant want
+
 -- the files of each want that was opened have their lengths
 abbrev pub HaveLengths : RunStart → List RunTurn → DiskState → Type 0
 HaveLengths start told disk =
@@ -78,6 +84,7 @@ HaveLengths start told disk =
 pub record KeepsPromises (start : RunStart) (told : List RunTurn) (disk : DiskState) : Type 0 where
   pub asked : AreAsked start told
   pub ordered : AreInOrder start told
+  pub wants : AreWants start told
   pub lengths : HaveLengths start told disk
   pub marks : (newer : List RunTurn) (t : RunTurn) (before : List RunTurn) → told ≡ newer ++ t ∷ before
       → (t.before.time ≤ disk.moment) × KeepsSince start before told t.before.time disk

@@ -11,6 +11,7 @@ use Rattle.dl_kinds.specs.declared.outside.Sink.{Ghosts as SinkSays}
 use Rattle.dl_kinds.specs.declared.runs.Moment.{Moment}
 use Rattle.dl_kinds.specs.Counts.{Rose}
 use Rattle.engine_core.specs.TurnReads.{ChecksAsRead, FitsFiles, IsFoundRight, OfItsWant, OpensAsRead, TakesAsRead}
+use Rattle.engine_turns.proofs.Faults.{counts_within}
 use Rattle.engine_turns.specs.Phases.{IsRisen}
 use Rattle.engine_turns.specs.RunTurns.{turn_start}
 use Rattle.engine_turns.specs.TurnLaws.{TurnsAppend}
@@ -71,7 +72,8 @@ module _ {D O : Type 0} {says : DiskSays D} {sinks : SinkSays O} {words : List (
         let read : says.faults disk ≤ says.faults ran.begins.read = ran.begins.is_read.later in
         let last = ap (λ (s : Stamp). s.faults) (ran_facts.last_is ran) in
         let to = within.to.1 in
-        let most : count ≤ by.turn.after.faults = may.counts gid count by.there in (
+        let most : count ≤ by.turn.after.faults =
+        counts_within by.turn.before.faults by.turn.after.faults by.turn.events may.counts gid count by.there in (
           ⊎_elim (λ (rose : by.turn.before.faults < count). omega (arith, rose, from, read))
               (λ (full : count ≡ 2 ^ 64 - 1). omega (arith, full)) risen,
           omega (arith, most, to, last),

@@ -1,6 +1,6 @@
 -- What is kept since the first mark of a run is kept from the disk on that it was given.
 use Rattle.std.proofs.Common.{◌≡◌, ◌⊎◌, ⊎_elim, inl, inr, ℕ, ◌&&◌, Bool, true, false, List, [], ◌∷◌, ◌++◌, length, refl, sym, ap, ◌∙◌, subst, arith}
-use Rattle.std.specs.Prelude.{IsSome, Some, slice_index_or}
+use Rattle.std.specs.Prelude.{IsSome, Option, Some, slice_index_or}
 use Rattle.control_file.specs.Wants.{IsListedWant}
 use Rattle.control_file.specs.declared.want.Want.{Want}
 use Rattle.dl_disk.specs.Files.{Files}
@@ -19,10 +19,11 @@ use Rattle.machine_core.specs.RunLegal.{download_in, info_hash_by, known_lengths
 use Rattle.machine_core.specs.Starts.{Download, Listed, RunStart, Subject, Unlisted}
 use Rattle.machine_core.specs.Wanted.{wanted_pieces}
 use Rattle.metainfo.specs.declared.meta.Meta.{Meta}
-use Rattle.resume_core.specs.Resume.{Agrees, AreSound, HasDigest, Sound}
+use Rattle.resume_core.specs.Resume.{Agrees, AreSound, ReachesPiece, Sound}
 use Rattle.resume_core.specs.Wants.{files_in}
+use Rattle.resume_core.proofs.Reaching.{reach_piece}
 use Rattle.stored_run.specs.RunFollows.{RunFollows}
-use Rattle.run_lifecycle.specs.Promises.{HaveDigests, IsRun, IsToldComplete, IsWantedPiece, SurvivesCrash, WasSound}
+use Rattle.run_lifecycle.specs.Promises.{HaveDigests, IsRun, IsRightPiece, IsToldComplete, IsWantedPiece, SurvivesCrash, WasSound}
 use Rattle.run_lifecycle.proofs.Completed.{completed_done, completion_found, known_listed, lengths_told}
 
 -- the oldest of some turns
@@ -85,11 +86,11 @@ module _ {D : Type 0} (state : D → DiskState) (laws : RunFollows) (start : Run
   sound_now image left = kept.sound image
       ((state now).moment, run.goes_on.passes.later, omega arith, ((state now).now_left image).1 left)
 
-  -- a verified piece of a completed download has its digest
+  -- a verified piece of a completed download is right
   completed_right : (gid : Gid) → IsOpenedWant start told gid want → is_completed_in (history_of told) gid ≡ true
       → IsListedWant want → (piece : ℕ)
       → is_verified_in (own_of start (history_of told) gid) piece ≡ true → (image : Files) → (state now).may_leave image
-      → HasDigest want (files_in want image) piece
+      → IsRightPiece want image piece
   completed_right gid opened complete listed piece verified image left =
       let own = own_of start (history_of told) gid in
       let done = is_completed_in (history_of told) gid in
@@ -97,8 +98,14 @@ module _ {D : Type 0} (state : D → DiskState) (laws : RunFollows) (start : Run
       (both_true done (is_verified_in own piece) complete verified) in
       ⊎_elim
       (λ (gives : GivesSaves start told gid want [] own done image).
-      (sound_now image left).right listed piece ((gives true (λ again. refl)).pieces piece promised))
-      (λ whole. whole.1.right listed piece promised)
+      let resumes = (gives true (λ again. refl)).pieces piece promised in
+      (resumes.0, (sound_now image left).right listed piece resumes))
+      (λ whole. (
+        subst (λ (files : List (Option (List ℕ))). ReachesPiece want files piece) (sym whole.1.files)
+            (reach_piece want (run.keeps.wants want gid was.alone opened) (state now).seen
+            (run.keeps.lengths want gid was.alone opened) piece),
+        whole.1.right listed piece promised,
+      ))
       (holds gid opened image left [] refl)
 
 -- ---- a listed download

@@ -15,7 +15,7 @@ use Rattle.machine_core.specs.Wanted.{wanted_pieces}
 use Rattle.machine_core.specs.declared.ends.End.TheVariants.{Complete}
 use Rattle.machine_core.specs.declared.events.Event.{Event}
 use Rattle.machine_core.specs.declared.events.Event.TheVariants.{Ended}
-use Rattle.resume_core.specs.Resume.{Agrees, AreSound, HasDigest, Sound}
+use Rattle.resume_core.specs.Resume.{Agrees, AreSound, HasDigest, ReachesPiece, Sound}
 use Rattle.resume_core.specs.Wants.{files_in}
 
 -- No other want that the run asks for shares a name with this one, and each image was sound for it.
@@ -35,13 +35,17 @@ pub record IsToldComplete (start : RunStart) (told : List RunTurn) (gid : Gid) (
   pub opened : IsOpenedWant start told gid want
   pub listed : IsListedWant want
 
--- Where each image of the given disk was sound for it, each of its wanted pieces has its digest in every image, and what the
--- disk reads is one of them.
+-- the files have all bytes of the piece, and these have its digest
+abbrev pub IsRightPiece : Want → Files → ℕ → Type 0
+IsRightPiece want image piece = ReachesPiece want (files_in want image) piece × HasDigest want (files_in want image) piece
+
+-- Where each image of the given disk was sound for it, each of its wanted pieces is right in every image, and what the disk
+-- reads is one of them.
 abbrev pub HaveDigests : RunStart → List RunTurn → (given disk : DiskState) → Type 0
 HaveDigests start told given disk =
     (gid : Gid) (want : Want) → IsToldComplete start told gid want → WasSound start told given want
     → (piece : ℕ) → IsWantedPiece start (history_of told) gid piece
-    → (image : Files) → disk.may_leave image → HasDigest want (files_in want image) piece
+    → (image : Files) → disk.may_leave image → IsRightPiece want image piece
 
 -- Of a want: whatever a crash at any moment since leaves is sound; what one leaves now agrees with what the disk reads, and,
 -- where the want was opened, gives what the saves promised, or the payload stands whole.

@@ -119,4 +119,4 @@ module _ (parts : DownloadsAreLegal) (stay : DownloadsStay) (alone : LoneAreAlon
           added = added;
           wanted = ap (λ (l : PayloadLengths). slice_index_or (wanted_pieces d l) piece false)
               (lengths_are d meta uris is_load start past d.gid added) ∙ each_wanted d meta uris is_load piece low;
-        }) now.seen now.own_image)
+        }) now.seen now.own_image).1
