@@ -18,9 +18,9 @@ use Rattle.verify_piece.specs.Seals.{PieceBytes}
 use Rattle.conn_worker.specs.Allowed.{IsUsedFor, LinksReceiveWhatIsAllowed, ReceivesAllowed, ReceivesAtMost, allowed_by, allowed_in}
 use Rattle.conn_worker.specs.Brought.{EndsClaim}
 use Rattle.conn_worker.specs.Facts.{HasUsed, IsFetchingAt}
-use Rattle.conn_worker.specs.Hands.{Fetching, Hand, Nothing, Fetches, Probes, Seals, LinkAt, Probing, WorkerAt, allowing, delivered, fresh}
+use Rattle.conn_worker.specs.Hands.{Fetching, Hand, Nothing, Fetches, Probes, Seals, IsLeftAlone, LinkAt, Probing, WorkerAt, allowing, delivered, fresh}
 use Rattle.conn_worker.specs.Sound.{NoGrant}
-use Rattle.conn_worker.specs.Table.{FollowsAnswer, FollowsDelivery, FollowsFetch, FollowsGrant, FollowsKept, FollowsMore, LeavesFetch, LeavesNothing, StepsOn, due_op, end_behind, fetch_op, goes_on_by}
+use Rattle.conn_worker.specs.Table.{FollowsAnswer, FollowsDelivery, FollowsFetch, FollowsGrant, FollowsKept, FollowsMore, HangsUp, LeavesFetch, LeavesNothing, StepsOn, due_op, end_behind, fetch_op, goes_on_by}
 use Rattle.conn_worker.specs.Works.{EndsOrGoesOn, Works, turn_moment}
 use Rattle.conn_worker.specs.declared.ends.WorkEnd.{WorkEnd}
 use Rattle.conn_worker.specs.declared.hands.Gain.{Gain}
@@ -36,7 +36,7 @@ fetch_followed tells f (said.Grant granted) link hand' link' none is = absurd no
 fetch_followed tells f answer link hand' link' none is = is
 
 pub nothing_followed : (tells : Bool) (answer : Said) (link : LinkAt) (hand' : Hand) (link' : LinkAt)
-    → NoGrant answer → FollowsAnswer tells Nothing answer link hand' link' → LeavesNothing link hand' link'
+    → NoGrant answer → FollowsAnswer tells Nothing answer link hand' link' → HangsUp tells link hand' link'
 nothing_followed tells (said.Grant granted) link hand' link' none is = absurd none
 nothing_followed tells answer link hand' link' none is = is
 
@@ -68,10 +68,22 @@ record CarriesOn (tells : Bool) (f : Fetching) (extra : ℕ) (g : Fetching) (lin
   granted : g.granted ≤ f.granted + extra
   spending : IsSpending tells g link'
 
--- nothing is left in hand, or the fetch
+-- nothing is left in hand, and nothing was received
+abbrev pub LeavesLink : Bool → LinkAt → Hand → LinkAt → Type 0
+LeavesLink tells link hand' link' = (hand' ≡ Nothing) × IsLeftAlone tells link link'
+
+pub stays_open : (tells : Bool) (link : LinkAt) (hand' : Hand) (link' : LinkAt) → LeavesNothing link hand' link'
+    → LeavesLink tells link hand' link'
+stays_open tells link hand' link' leaves = (leaves.0, inl leaves.1)
+
+pub is_closed : (tells : Bool) (link : LinkAt) (hand' : Hand) (link' : LinkAt) → HangsUp tells link hand' link'
+    → LeavesLink tells link hand' link'
+is_closed tells link hand' link' hangs = (hangs.0, inr hangs.1)
+
+-- .. or the fetch
 abbrev LeavesOrCarries : Bool → Fetching → ℕ → LinkAt → Hand → LinkAt → Type 0
 LeavesOrCarries tells f extra link hand' link' =
-    LeavesNothing link hand' link' ⊎ ((g : Fetching) × (hand' ≡ Fetches g) × CarriesOn tells f extra g link')
+    LeavesLink tells link hand' link' ⊎ ((g : Fetching) × (hand' ≡ Fetches g) × CarriesOn tells f extra g link')
 
 stepped_spending : (tells : Bool) (g : Fetching) (link : LinkAt) → IsFetchingAt tells g link → IsSpending tells g link
 stepped_spending tells g link at = record {
@@ -122,7 +134,7 @@ kept_carries : (tells : Bool) (f d : Fetching) (left : ℕ) (last : Bool) (extra
     (link' : LinkAt) → d.claim ≡ f.claim → d.since ≡ f.since → d.granted ≡ f.granted → d.used ≡ f.used
     → d.left ≡ left → IsSpending tells f link → FollowsKept tells d last link hand' link'
     → LeavesOrCarries tells f extra link hand' link'
-kept_carries tells f d left true extra link hand' link' claim since granted used is spending kept = inl kept
+kept_carries tells f d left true extra link hand' link' claim since granted used is spending kept = inl (stays_open tells link hand' link' kept)
 kept_carries tells f d zero false extra link hand' link' claim since granted used is spending kept =
     waits_carry tells f d extra link hand' link' claim since granted used spending
     (subst (λ n. goes_on_by tells d n link hand' link') is kept)
@@ -136,7 +148,8 @@ delivery_carries : (tells : Bool) (f d : Fetching) (last : Bool) (answer : Said)
     → LeavesOrCarries tells f extra link hand' link'
 delivery_carries tells f d last (said.Kept counted repeated) extra link hand' link' claim since granted used spending is =
     kept_carries tells f d d.left last extra link hand' link' claim since granted used refl spending is
-delivery_carries tells f d last answer extra link hand' link' claim since granted used spending is = inl is
+delivery_carries tells f d last answer extra link hand' link' claim since granted used spending is =
+    inl (is_closed tells link hand' link' is)
 
 allowed_all : (claim want : ℕ) (now : Moment) (op : Operation) (bytes : ℕ) → op ≡ operation.More claim want now
     → allowed_by claim op (said.Allow bytes) ≡ bytes
@@ -154,7 +167,7 @@ more_carries tells f op now (said.Allow bytes) link hand' link' due spending is 
     (omega (arith, all)) is
 more_carries tells f op now (said.Hold ms) link hand' link' due spending is =
     waits_carry tells f f (allowed_by f.claim op (said.Hold ms)) link hand' link' refl refl refl refl spending is
-more_carries tells f op now answer link hand' link' due spending is = inl is
+more_carries tells f op now answer link hand' link' due spending is = inl (is_closed tells link hand' link' is)
 
 fetch_carries : (tells : Bool) (worker : ℕ) (f : Fetching) (gain : Gain) (op : Operation) (now : Moment) (answer : Said)
     (link : LinkAt) (hand' : Hand) (link' : LinkAt) → op ≡ fetch_op worker f now gain → IsSpending tells f link
@@ -163,10 +176,12 @@ fetch_carries : (tells : Bool) (worker : ℕ) (f : Fetching) (gain : Gain) (op :
 fetch_carries tells worker f (Ready run bytes last) op now answer link hand' link' due spending is =
     delivery_carries tells f (delivered f run bytes) last answer (allowed_by f.claim op answer) link hand' link'
     refl refl refl refl spending is
-fetch_carries tells worker f (Lost loss mark) op now answer link hand' link' due spending is = inl is
+fetch_carries tells worker f (Lost loss mark) op now answer link hand' link' due spending is =
+    inl (stays_open tells link hand' link' is)
 fetch_carries tells worker f Open op now answer link hand' link' due spending is =
     more_carries tells f op now answer link hand' link' due spending is
-fetch_carries tells worker f Starved op now answer link hand' link' due spending is = inl is
+fetch_carries tells worker f Starved op now answer link hand' link' due spending is =
+    inl (stays_open tells link hand' link' is)
 
 -- ---- all turns
 
@@ -183,10 +198,10 @@ Behind tells answer ts last link =
     (used : List Exchange) × (between : LinkAt) × IsUsedFor tells answer ts link used between
     × ReceivesAllowed tells ts between last
 
-not_used : (tells : Bool) (answer : Said) (ts : List RunTurn) (last link : LinkAt) → NoGrant answer
-    → ReceivesAllowed tells ts link last → Behind tells answer ts last link
-not_used tells (said.Grant granted) ts last link none rest = absurd none
-not_used tells answer ts last link none rest = ([], link, (refl, refl), rest)
+not_used : (tells : Bool) (answer : Said) (ts : List RunTurn) (last link link' : LinkAt) → NoGrant answer
+    → IsLeftAlone tells link link' → ReceivesAllowed tells ts link' last → Behind tells answer ts last link
+not_used tells (said.Grant granted) ts last link link' none alone rest = absurd none
+not_used tells answer ts last link link' none alone rest = ([], link', (refl, alone), rest)
 
 module _ (tells : Bool) (ts : List RunTurn) (last : LinkAt) where
   -- what turns do with what is in hand
@@ -194,10 +209,15 @@ module _ (tells : Bool) (ts : List RunTurn) (last : LinkAt) where
   Goes hand link = IsSpendingHand tells hand link
       → IsUsedBy tells hand link (λ claim. allowed_in claim ts) (λ l. ReceivesAllowed tells ts l last)
 
-  left_nothing : (link : LinkAt) (hand' : Hand) (link' : LinkAt) → LeavesNothing link hand' link' → Goes hand' link'
-      → ReceivesAllowed tells ts link last
-  left_nothing link hand' link' leaves goes =
-      (subst (λ (l : LinkAt). Goes Nothing l) leaves.1 (subst (λ (h : Hand). Goes h link') leaves.0 goes)) tt
+  left_nothing : (hand' : Hand) (link' : LinkAt) → hand' ≡ Nothing → Goes hand' link'
+      → ReceivesAllowed tells ts link' last
+  left_nothing hand' link' left goes = (subst (λ (h : Hand). Goes h link') left goes) tt
+
+  -- behind an answer that leaves nothing
+  leaves_goes : (answer : Said) (link : LinkAt) (hand' : Hand) (link' : LinkAt) → NoGrant answer
+      → LeavesLink tells link hand' link' → Goes hand' link' → Behind tells answer ts last link
+  leaves_goes answer link hand' link' none leaves goes =
+      not_used tells answer ts last link link' none leaves.1 (left_nothing hand' link' leaves.0 goes)
 
   fetch_goes : (hand' : Hand) (link' : LinkAt) (g : Fetching) → hand' ≡ Fetches g → IsSpending tells g link'
       → Goes hand' link' → (used : List Exchange) × (between : LinkAt)
@@ -231,7 +251,7 @@ module _ (tells : Bool) (ts : List RunTurn) (last : LinkAt) where
   grant_goes (grant.Hash gid piece bytes) link hand' link' s goes = (
     [],
     link,
-    (refl, refl),
+    (refl, inl refl),
     (subst (λ (l : LinkAt). Goes (Seals gid (record { piece = piece; bytes = bytes })) l) s.1
         (subst (λ (h : Hand). Goes h link') s.0 goes)) tt,
   )
@@ -246,7 +266,7 @@ module _ (tells : Bool) (ts : List RunTurn) (last : LinkAt) where
     f.used,
     link,
     record { used_is = spending.used_is; few = λ t. let few = spending.few t in omega (arith, few) },
-    not_used tells answer ts last link none (left_nothing link hand' link' leaves goes),
+    leaves_goes answer link hand' link' none leaves goes,
   )
   carries_goes f op answer link hand' link' none spending goes (inr c) =
       let g : Fetching = c.0 in
@@ -260,7 +280,7 @@ module _ (tells : Bool) (ts : List RunTurn) (last : LinkAt) where
           used_is = subst (λ (l : LinkAt). HasUsed tells l r.0 r.1) on.since r.2.used_is;
           few = λ t. let few = r.2.few t in omega (arith, few, granted, same);
         },
-        not_used tells answer ts last r.1 none r.3,
+        not_used tells answer ts last r.1 r.1 none (inl refl) r.3,
       )
 
   -- one turn that grants nothing, and those behind it
@@ -269,18 +289,18 @@ module _ (tells : Bool) (ts : List RunTurn) (last : LinkAt) where
       → FollowsAnswer tells hand answer link hand' link' → IsSpendingHand tells hand link → Goes hand' link'
       → IsUsedBy tells hand link (λ claim. allowed_by claim op answer + allowed_in claim ts) (Behind tells answer ts last)
   still_goes worker op now answer Nothing link hand' link' none due follows spending goes =
-      not_used tells answer ts last link none
-      (left_nothing link hand' link' (nothing_followed tells answer link hand' link' none follows) goes)
+      leaves_goes answer link hand' link' none
+      (is_closed tells link hand' link' (nothing_followed tells answer link hand' link' none follows)) goes
   still_goes worker op now answer (Fetches f) link hand' link' none due follows spending goes =
       carries_goes f op answer link hand' link' none spending goes
       (fetch_carries tells worker f f.gain op now answer link hand' link' due spending
       (fetch_followed tells f answer link hand' link' none follows))
   still_goes worker op now answer (Probes p) link hand' link' none due follows spending goes =
-      not_used tells answer ts last link none
-      (left_nothing link hand' link' (probe_followed tells p answer link hand' link' none follows) goes)
+      leaves_goes answer link hand' link' none
+      (stays_open tells link hand' link' (probe_followed tells p answer link hand' link' none follows)) goes
   still_goes worker op now answer (Seals gid sealed) link hand' link' none due follows spending goes =
-      not_used tells answer ts last link none
-      (left_nothing link hand' link' (seal_followed tells gid sealed answer link hand' link' none follows) goes)
+      leaves_goes answer link hand' link' none
+      (stays_open tells link hand' link' (seal_followed tells gid sealed answer link hand' link' none follows)) goes
 
   -- one turn, and those behind it
   pub turn_goes : (worker : ℕ) (op : Operation) (now : Moment) (answer : Said) (hand : Hand) (link : LinkAt)
@@ -355,10 +375,9 @@ lost_goes : (tells : Bool) (ts : List RunTurn) (last : LinkAt) (f : Fetching) (l
 lost_goes tells ts last f loss mark (said.Grant granted) link hand' link' is follows goes =
     grant_goes tells ts last granted link hand' link' follows goes
 lost_goes tells ts last f loss mark answer link hand' link' is follows goes =
-    not_used tells answer ts last link tt
-    (left_nothing tells ts last link hand' link'
-    (subst (λ (g : Gain). FollowsFetch tells f g answer link hand' link') is
-    (fetch_followed tells f answer link hand' link' tt follows)) goes)
+    leaves_goes tells ts last answer link hand' link' tt
+    (stays_open tells link hand' link' (subst (λ (g : Gain). FollowsFetch tells f g answer link hand' link') is
+    (fetch_followed tells f answer link hand' link' tt follows))) goes
 
 module _ (tells : Bool) (ts : List RunTurn) (last : LinkAt) (worker : ℕ) (op : Operation) (now : Moment) (ends : EndsClaim op)
     (answer : Said) (link : LinkAt) (hand' : Hand) (link' : LinkAt) (goes : Goes tells ts last hand' link') where

@@ -26,7 +26,7 @@ use Rattle.conn_worker.specs.Brought.{BringsWhatCame, EndsClaim, IsLaterLink, La
 use Rattle.conn_worker.specs.Facts.{HasUsed, IsFetchingAt, IsGain, IsProbingAt, IsProbeEnd, TellsRest}
 use Rattle.conn_worker.specs.Hands.{Fetching, Hand, Nothing, Fetches, Probes, Seals, LinkAt, Probing, WorkerAt, allowing, begun_fetch, delivered, fresh}
 use Rattle.conn_worker.specs.Sound.{NoGrant}
-use Rattle.conn_worker.specs.Table.{FollowsAnswer, FollowsDelivery, FollowsFetch, FollowsGrant, FollowsKept, FollowsMore, LeavesFetch, LeavesNothing, StepsOn, due_op, end_behind, fetch_op, goes_on_by, probe_op}
+use Rattle.conn_worker.specs.Table.{FollowsAnswer, FollowsDelivery, FollowsFetch, FollowsGrant, FollowsKept, FollowsMore, LeavesFetch, StepsOn, due_op, end_behind, fetch_op, goes_on_by, probe_op}
 use Rattle.conn_worker.specs.Works.{EndsOrGoesOn, Works, turn_moment}
 use Rattle.conn_worker.specs.declared.ends.WorkEnd.{WorkEnd}
 use Rattle.conn_worker.specs.declared.hands.Gain.{Gain}
@@ -232,14 +232,14 @@ module _ (tells : Bool) (worker : ℕ) (link : LinkAt) where
       subst (λ (h : Hand). IsGranted turns h link') (sym leaves.0)
       (record { of_grant = o; at = λ closed. absurd (closed opened) })
 
-  nothing_granted : (turns : List RunTurn) (now : LinkAt) (hand' : Hand) (link' : LinkAt)
-      → LeavesNothing now hand' link' → IsGranted turns hand' link'
-  nothing_granted turns now hand' link' leaves = subst (λ (h : Hand). IsGranted turns h link') (sym leaves.0) tt
+  nothing_granted : (turns : List RunTurn) (hand' : Hand) (link' : LinkAt) → hand' ≡ Nothing
+      → IsGranted turns hand' link'
+  nothing_granted turns hand' link' left = subst (λ (h : Hand). IsGranted turns h link') (sym left) tt
 
   kept_granted : (turns : List RunTurn) (d : Fetching) (left : ℕ) (end : Bool) (now : LinkAt) (hand' : Hand)
       (link' : LinkAt) → d.left ≡ left → d.gain ≡ Open → OfGrant turns d → FollowsKept tells d end now hand' link'
       → IsGranted turns hand' link'
-  kept_granted turns d left true now hand' link' is opened o kept = nothing_granted turns now hand' link' kept
+  kept_granted turns d left true now hand' link' is opened o kept = nothing_granted turns hand' link' kept.0
   kept_granted turns d zero false now hand' link' is opened o kept =
       waits_granted turns d now hand' link' opened o (subst (λ n. goes_on_by tells d n now hand' link') is kept)
   kept_granted turns d (suc left) false now hand' link' is opened o kept =
@@ -250,14 +250,14 @@ module _ (tells : Bool) (worker : ℕ) (link : LinkAt) where
       → IsGranted turns hand' link'
   delivery_granted turns d end (said.Kept counted repeated) now hand' link' opened o is =
       kept_granted turns d d.left end now hand' link' refl opened o is
-  delivery_granted turns d end answer now hand' link' opened o is = nothing_granted turns now hand' link' is
+  delivery_granted turns d end answer now hand' link' opened o is = nothing_granted turns hand' link' is.0
 
   more_granted : (turns : List RunTurn) (f : Fetching) (answer : Said) (now : LinkAt) (hand' : Hand) (link' : LinkAt)
       → f.gain ≡ Open → OfGrant turns f → FollowsMore tells f answer now hand' link' → IsGranted turns hand' link'
   more_granted turns f (said.Allow bytes) now hand' link' opened o is =
       steps_granted turns (allowing f bytes) hand' link' (same_of turns f (allowing f bytes) o refl refl refl refl) is
   more_granted turns f (said.Hold ms) now hand' link' opened o is = waits_granted turns f now hand' link' opened o is
-  more_granted turns f answer now hand' link' opened o is = nothing_granted turns now hand' link' is
+  more_granted turns f answer now hand' link' opened o is = nothing_granted turns hand' link' is.0
 
   fetch_granted : (turns : List RunTurn) (t : RunTurn) (f : Fetching) (gain : Gain) (moment : Moment) (now : LinkAt)
       (hand' : Hand) (link' : LinkAt) → f.gain ≡ gain → NoGrant t.answer.said → t.op ≡ fetch_op worker f moment gain
@@ -267,14 +267,14 @@ module _ (tells : Bool) (worker : ℕ) (link : LinkAt) where
       delivery_granted (turns ++ t ∷ []) (delivered f run bytes) end t.answer.said now hand' link' refl
       (later_of turns f (delivered f run bytes) t none o refl refl refl (ap (λ (l : List ℕ). f.handed ++ l) brought)) follows
   fetch_granted turns t f (Lost loss mark) moment now hand' link' is none due o follows =
-      nothing_granted (turns ++ t ∷ []) now hand' link' follows
+      nothing_granted (turns ++ t ∷ []) hand' link' follows.0
   fetch_granted turns t f Open moment now hand' link' is none due o follows =
       let brought : [] ≡ brought_bytes t.op = sym (ap brought_bytes due) in
       more_granted (turns ++ t ∷ []) f t.answer.said now hand' link' is
       (later_of turns f f t none o refl refl refl
       (sym (append-nil f.handed) ∙ ap (λ (l : List ℕ). f.handed ++ l) brought)) follows
   fetch_granted turns t f Starved moment now hand' link' is none due o follows =
-      nothing_granted (turns ++ t ∷ []) now hand' link' follows
+      nothing_granted (turns ++ t ∷ []) hand' link' follows.0
 
   grant_granted : (turns : List RunTurn) (t : RunTurn) (granted : Grant) (a : WorkerAt) (hand' : Hand) (link' : LinkAt)
       → t.answer.said ≡ said.Grant granted → Works tells worker turns (fresh link) a None
@@ -309,17 +309,14 @@ module _ (tells : Bool) (worker : ℕ) (link : LinkAt) where
       → FollowsAnswer tells hand t.answer.said now hand' link' → IsGranted turns hand now
       → IsGranted (turns ++ t ∷ []) hand' link'
   still_granted turns t moment Nothing now hand' link' none due follows is =
-      nothing_granted (turns ++ t ∷ []) now hand' link'
-      (nothing_followed tells t.answer.said now hand' link' none follows)
+      nothing_granted (turns ++ t ∷ []) hand' link' (nothing_followed tells t.answer.said now hand' link' none follows).0
   still_granted turns t moment (Fetches f) now hand' link' none due follows is =
       fetch_granted turns t f f.gain moment now hand' link' refl none due is.of_grant
       (fetch_followed tells f t.answer.said now hand' link' none follows)
   still_granted turns t moment (Probes p) now hand' link' none due follows is =
-      nothing_granted (turns ++ t ∷ []) now hand' link'
-      (probe_followed tells p t.answer.said now hand' link' none follows)
+      nothing_granted (turns ++ t ∷ []) hand' link' (probe_followed tells p t.answer.said now hand' link' none follows).0
   still_granted turns t moment (Seals gid sealed) now hand' link' none due follows is =
-      nothing_granted (turns ++ t ∷ []) now hand' link'
-      (seal_followed tells gid sealed t.answer.said now hand' link' none follows)
+      nothing_granted (turns ++ t ∷ []) hand' link' (seal_followed tells gid sealed t.answer.said now hand' link' none follows).0
 
   grant_followed : (hand : Hand) (granted : Grant) (now : LinkAt) (hand' : Hand) (link' : LinkAt)
       → FollowsAnswer tells hand (said.Grant granted) now hand' link' → FollowsGrant tells granted now hand' link'

@@ -1,5 +1,5 @@
 -- What follows an answer.
-use Rattle.std.proofs.Common.{◌≡◌, ◌≢◌, ◌+◌, ◌++◌, ⊎_elim, ℕ, zero, suc, Bool, IsTrue, List, [], Option, None, Some, IfSome, refl, sym, subst, ◌∙◌, inl, append_assoc, arith}
+use Rattle.std.proofs.Common.{◌≡◌, ◌≢◌, ◌+◌, ◌++◌, ⊎_elim, ℕ, zero, suc, Bool, List, [], Option, None, Some, IfSome, refl, sym, subst, ◌∙◌, inl, append_assoc, arith}
 use Rattle.dl_kinds.specs.declared.gid.Gid.{Gid}
 use Rattle.engine_turns.specs.declared.operations.FetchGrant.{FetchGrant}
 use Rattle.engine_turns.specs.declared.operations.Grant.{Grant}
@@ -24,9 +24,9 @@ use Rattle.span_map.specs.declared.jobs.JobPart.{JobPart}
 use Rattle.verify_piece.specs.Seals.{PieceBytes}
 use Rattle.conn_worker.specs.Facts.{IsGain, IsTakenExactly}
 use Rattle.conn_worker.specs.Hands.{Fetching, Hand, Nothing, Fetches, Probes, Seals, LinkAt, allowing, begun_fetch, delivered}
-use Rattle.conn_worker.specs.Holding.{HasOutcome, IsAskingMore, IsDelivered, IsFetchInHand, IsLetGoOf, IsOpenFetch, IsProbedInHand, IsRoomFor, IsStepInHand, IsWaiting, MayStepOn, delivering, is_let_go_by}
+use Rattle.conn_worker.specs.Holding.{HasOutcome, IsAskingMore, IsDelivered, IsLetGoOf, IsOpenFetch, IsProbedInHand, IsRoomFor, IsStepInHand, IsWaiting, MayStepOn, delivering, is_let_go_by}
 use Rattle.conn_worker.specs.Sound.{NoGrant}
-use Rattle.conn_worker.specs.Table.{FollowsAnswer, FollowsDelivery, FollowsFetch, FollowsGrant, FollowsMore, LeavesFetch, LeavesNothing, StepsOn, goes_on_by}
+use Rattle.conn_worker.specs.Table.{FollowsAnswer, FollowsDelivery, FollowsFetch, FollowsGrant, FollowsMore, HangsUp, LeavesFetch, LeavesNothing, StepsOn, goes_on_by}
 use Rattle.conn_worker.specs.declared.hands.FetchInHand.{FetchInHand}
 use Rattle.conn_worker.specs.declared.hands.Gain.{Gain}
 use Rattle.conn_worker.specs.declared.hands.Gain.TheVariants.{Lost, Open, Ready, Starved}
@@ -35,6 +35,7 @@ use Rattle.conn_worker.specs.declared.hands.InHand.TheVariants as kept
 use Rattle.conn_worker.specs.declared.hands.OpenFetch.{OpenFetch}
 use Rattle.conn_worker.specs.declared.hands.ProbeInHand.{ProbeInHand}
 use Rattle.conn_worker.specs.declared.hands.Waiting.TheVariants as waiting
+use Rattle.conn_worker.proofs.Steps.{waits_in_hand}
 
 -- ---- steps
 
@@ -125,19 +126,6 @@ allowed_may tells o f bytes link a = record {
 
 -- ---- a fetch that waits
 
-waits_in_hand : (tells : Bool) (o : OpenFetch) (f : Fetching) (link : LinkAt) → f.gain ≡ Open
-    → MayStepOn tells o f link → (IsTrue tells → f.left ≡ 0)
-    → IsFetchInHand tells (record { open_fetch = o; gain = Open }) f link
-waits_in_hand tells o f link gain m none = record {
-  gain = sym gain;
-  is = subst (λ g. IsOpenFetch tells o (delivering f g) link) (sym gain) m.is;
-  at = record {
-    carried = m.is.carried;
-    some = m.some;
-    gain = subst (λ g. IsGain tells f link g) (sym gain) (none, m.exact, m.front);
-  };
-}
-
 pub held_comes : (tells : Bool) (o : OpenFetch) (f : Fetching) (link : LinkAt) → IsAskingMore tells o f link
     → HasOutcome tells (LeavesFetch f link) (kept.Fetches (record { open_fetch = o; gain = Open })) link
 held_comes tells o f link a = (
@@ -176,18 +164,18 @@ pub leaves : (tells : Bool) (o : OpenFetch) (f : Fetching) (room : FetchRoom) (l
     → HasOutcome tells (LeavesNothing link) (kept.Nothing room) link
 leaves tells o f room link may is = (Nothing, (refl, refl), λ t. may link.state (is.may t))
 
-pub other_more : (tells : Bool) (f : Fetching) (answer : Said) (h : InHand) (link : LinkAt)
+pub other_more : (tells : Bool) (f : Fetching) (answer : Said) (h : InHand) (link link' : LinkAt)
     → ((bytes : ℕ) → answer ≡ said.Allow bytes → ⊥) → ((ms : ℕ) → answer ≡ said.Hold ms → ⊥)
-    → HasOutcome tells (LeavesNothing link) h link → HasOutcome tells (FollowsMore tells f answer link) h link
-other_more tells f (said.Allow bytes) h link no_allow no_hold comes = absurd (no_allow bytes refl)
-other_more tells f (said.Hold ms) h link no_allow no_hold comes = absurd (no_hold ms refl)
-other_more tells f answer h link no_allow no_hold comes = comes
+    → HasOutcome tells (HangsUp tells link) h link' → HasOutcome tells (FollowsMore tells f answer link) h link'
+other_more tells f (said.Allow bytes) h link link' no_allow no_hold comes = absurd (no_allow bytes refl)
+other_more tells f (said.Hold ms) h link link' no_allow no_hold comes = absurd (no_hold ms refl)
+other_more tells f answer h link link' no_allow no_hold comes = comes
 
-pub other_delivery : (tells : Bool) (f : Fetching) (last : Bool) (answer : Said) (h : InHand) (link : LinkAt)
+pub other_delivery : (tells : Bool) (f : Fetching) (last : Bool) (answer : Said) (h : InHand) (link link' : LinkAt)
     → ((counted repeated : ℕ) → answer ≡ said.Kept counted repeated → ⊥)
-    → HasOutcome tells (LeavesNothing link) h link → HasOutcome tells (FollowsDelivery tells f last answer link) h link
-other_delivery tells f last (said.Kept counted repeated) h link no_kept comes = absurd (no_kept counted repeated refl)
-other_delivery tells f last answer h link no_kept comes = comes
+    → HasOutcome tells (HangsUp tells link) h link' → HasOutcome tells (FollowsDelivery tells f last answer link) h link'
+other_delivery tells f last (said.Kept counted repeated) h link link' no_kept comes = absurd (no_kept counted repeated refl)
+other_delivery tells f last answer h link link' no_kept comes = comes
 
 -- ---- the whole
 
@@ -201,7 +189,7 @@ fetch_let_go tells f Starved answer link go = (refl, refl)
 follows_let_go : (tells : Bool) (hand : Hand) (answer : Said) (link : LinkAt) → NoGrant answer → IsLetGoOf hand
     → FollowsAnswer tells hand answer link Nothing link
 follows_let_go tells hand (said.Grant granted) link none go = absurd none
-follows_let_go tells Nothing answer link none go = (refl, refl)
+follows_let_go tells Nothing answer link none go = absurd go
 follows_let_go tells (Fetches f) answer link none go = fetch_let_go tells f f.gain answer link go
 follows_let_go tells (Probes p) answer link none go = (refl, refl)
 follows_let_go tells (Seals gid sealed) answer link none go = (refl, refl)
@@ -209,6 +197,20 @@ follows_let_go tells (Seals gid sealed) answer link none go = (refl, refl)
 pub free_comes : (tells : Bool) (room : FetchRoom) (hand : Hand) (answer : Said) (link : LinkAt) → NoGrant answer
     → IsWaiting tells (waiting.Free room) hand link → HasOutcome tells (FollowsAnswer tells hand answer link) (kept.Nothing room) link
 free_comes tells room hand answer link none w = (Nothing, follows_let_go tells hand answer link none w.0, w.1)
+
+follows_wanting : (tells : Bool) (answer : Said) (link : LinkAt) (hand' : Hand) (link' : LinkAt) → NoGrant answer
+    → HangsUp tells link hand' link' → FollowsAnswer tells Nothing answer link hand' link'
+follows_wanting tells (said.Grant granted) link hand' link' none is = absurd none
+follows_wanting tells answer link hand' link' none is = is
+
+pub wanting_comes : (tells : Bool) (room : FetchRoom) (hand : Hand) (answer : Said) (h : InHand) (link link' : LinkAt)
+    → NoGrant answer → IsWaiting tells (waiting.WantsWork room) hand link → HasOutcome tells (HangsUp tells link) h link'
+    → HasOutcome tells (FollowsAnswer tells hand answer link) h link'
+wanting_comes tells room Nothing answer h link link' none w comes =
+    (comes.0, follows_wanting tells answer link comes.0 link' none comes.1, comes.2)
+wanting_comes tells room (Fetches f) answer h link link' none w comes = absurd w
+wanting_comes tells room (Probes p) answer h link link' none w comes = absurd w
+wanting_comes tells room (Seals gid sealed) answer h link link' none w comes = absurd w
 
 follows_fetch : (tells : Bool) (f : Fetching) (answer : Said) (link : LinkAt) (hand' : Hand) (link' : LinkAt)
     → NoGrant answer → FollowsFetch tells f f.gain answer link hand' link'

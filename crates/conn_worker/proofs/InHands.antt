@@ -102,8 +102,8 @@ probe_due worker now h tells p link is =
     (λ i. probe_op worker (is.claim i) now (is.end i), (tt, is.room))
 
 pub nothing_due : (worker : ℕ) (now : Moment) (room : FetchRoom)
-    → MakesTurn worker now (kept.Nothing room) (operation.Next worker now) (waiting.Free room)
-nothing_due worker now room tells Nothing link is = (refl, (tt, is))
+    → MakesTurn worker now (kept.Nothing room) (operation.Next worker now) (waiting.WantsWork room)
+nothing_due worker now room tells Nothing link is = (refl, is)
 nothing_due worker now room tells (Fetches f) link is = absurd is
 nothing_due worker now room tells (Probes p) link is = absurd is
 nothing_due worker now room tells (Seals gid sealed) link is = absurd is
@@ -161,6 +161,12 @@ seal_ends h tells (Seals g s) link is = refl
 
 pub free_room : (room : FetchRoom) → WaitsWithRoom (waiting.Free room) room
 free_room room tells hand link is = is.1
+
+pub wanting_room : (room : FetchRoom) → WaitsWithRoom (waiting.WantsWork room) room
+wanting_room room tells Nothing link is = is
+wanting_room room tells (Fetches f) link is = absurd is
+wanting_room room tells (Probes p) link is = absurd is
+wanting_room room tells (Seals g s) link is = absurd is
 
 pub delivers_room : (o : OpenFetch) (last : Bool) (room : FetchRoom) → RoomOf o room
     → WaitsWithRoom (waiting.Delivers o last) room

@@ -1,5 +1,5 @@
 -- What a step of a fetch makes of what is in hand.
-use Rattle.std.proofs.Common.{◌≡◌, ◌≢◌, ◌≤◌, ◌+◌, ◌-◌, ◌++◌, ℕ, Bool, true, false, IsTrue, List, Option, Some, None, IfSome, IsSome, Result, Ok, Err, ◌↔◌, ⊎_elim, length, refl, sym, ap, subst, ◌∙◌, arith, length-append}
+use Rattle.std.proofs.Common.{◌≡◌, ◌≢◌, ◌≤◌, ◌+◌, ◌-◌, ◌++◌, ℕ, Bool, true, false, IsTrue, List, Option, Some, None, IfSome, IsSome, Result, Ok, Err, ◌↔◌, ⊎_elim, inl, inr, min, length, refl, sym, ap, subst, ◌∙◌, arith, length-append}
 use Rattle.dl_kinds.specs.declared.runs.Run.{Run}
 use Rattle.dl_kinds.specs.Counts.{Rose}
 use Rattle.dl_kinds.specs.declared.marks.Mark.{Mark}
@@ -16,9 +16,10 @@ use Rattle.request_chain.specs.Chains.{Gains, TellsLoss, received_by}
 use Rattle.request_chain.specs.Links.{CountsLinkLoss}
 use Rattle.span_map.specs.Jobs.{run_end, run_start}
 use Rattle.span_map.specs.declared.jobs.Job.{Job}
-use Rattle.conn_worker.specs.Facts.{HasUsed, IsCarried, IsFetchingAt}
+use Rattle.conn_worker.specs.Facts.{HasUsed, IsCarried, IsFetchingAt, IsGain}
 use Rattle.conn_worker.specs.Hands.{Fetching, LinkAt, blocks_behind, delivered}
-use Rattle.conn_worker.specs.Holding.{IsOpenFetch, IsStepInHand, MayStepOn, gain_by, gain_of}
+use Rattle.conn_worker.specs.Holding.{IsFetchInHand, IsOpenFetch, IsPartInHand, IsReadBy, IsReadInHand, IsStepInHand, MayStepOn, delivering, gain_by, gain_of}
+use Rattle.conn_worker.specs.declared.hands.FetchInHand.{FetchInHand}
 use Rattle.conn_worker.specs.declared.hands.Gain.{Gain}
 use Rattle.conn_worker.specs.declared.hands.Gain.TheVariants.{Lost, Open, Ready, Starved}
 use Rattle.conn_worker.specs.declared.hands.OpenFetch.{OpenFetch}
@@ -192,21 +193,21 @@ taken_open tells o f mid new left link link' later run bytes gain is calls takes
 
 -- ---- what a step comes to
 
-record IsSpent (f : Fetching) (left : ℕ) (fetch : Fetch) (link : LinkAt) (later : List Exchange) : Type 0 where
+record IsSpent (f : Fetching) (allow left : ℕ) (fetch : Fetch) (link : LinkAt) (later : List Exchange) : Type 0 where
   ahead : IsAhead f left fetch link later
-  spent : left ≡ 0
+  spent : left + allow ≡ f.left
   front : IsFrontOfFetched f.job.parts later f.handed
 
-ahead_by : (o : OpenFetch) (f : Fetching) (new : Fetch) (got : Got) (link link' : LinkAt) (tells : Bool)
-    → MayStepOn tells o f link
-    → (s : FetchSteps f.job f.since.state.exchanges f.used f.handed link'.state.exchanges o.left got new)
+ahead_by : (o : OpenFetch) (f : Fetching) (new : Fetch) (got : Got) (allow : ℕ) (link link' : LinkAt) (tells : Bool)
+    → allow ≤ o.left → MayStepOn tells o f link
+    → (s : FetchSteps f.job f.since.state.exchanges f.used f.handed link'.state.exchanges allow got new)
     → IsTrue tells → IsAhead f (o.left - got.taken) new link' s.later
-ahead_by o f new got link link' tells m s t =
+ahead_by o f new got allow link link' tells within m s t =
     let all = m.exact t in
     let left = m.is.left in
     let taken = s.taken in
     let few = s.few in
-    let exact : received_by s.later + (o.left - got.taken) ≡ f.granted = omega (arith, all, left, taken, few) in record {
+    let exact : received_by s.later + (o.left - got.taken) ≡ f.granted = omega (arith, all, left, taken, few, within) in record {
       later_is = record { gains = s.gains; is_fetch = s.is_fetch; spent = omega (arith, exact); more = omega (arith, taken) };
       exact = exact;
     }
@@ -220,84 +221,97 @@ nothing_lost : (lost : Option Loss) (ready : Run) → IfSome lost (IsHeldBack re
 nothing_lost None ready held none some = (let e : false ≡ true = some in absurd cc)
 nothing_lost (Some loss) ready held none some = (let h = held.0 in omega (arith, h, none))
 
-open_told : (o : OpenFetch) (f : Fetching) (new : Fetch) (got : Got) (link link' : LinkAt) (tells : Bool)
-    → MayStepOn tells o f link → Calls tells f.since.faults o.fetch new link link'
+-- .. by no more bytes than so many
+record IsGained (f : Fetching) (allow left : ℕ) (fetch : Fetch) (link : LinkAt) (later : List Exchange) : Type 0 where
+  ahead : IsAhead f left fetch link later
+  few : received_by later ≤ received_by f.used + allow
+
+open_told : (o : OpenFetch) (f : Fetching) (new : Fetch) (got : Got) (allow : ℕ) (link link' : LinkAt) (tells : Bool)
+    → allow ≤ o.left → MayStepOn tells o f link → Calls tells f.since.faults o.fetch new link link'
     → got.ready.count ≡ 0 → (IsTrue got.done ↔ (got.ready.count ≡ (rest_of new).count)) → (IsSome (lost_of new) → ⊥)
-    → FetchSteps f.job f.since.state.exchanges f.used f.handed link'.state.exchanges o.left got new
-    → IsTrue tells → (later : List Exchange) × IsSpent f (o.left - got.taken) new link' later
-open_told o f new got link link' tells m calls none done unlost s t =
-    let some = still_some tells o f new link link' m calls in (
+    → FetchSteps f.job f.since.state.exchanges f.used f.handed link'.state.exchanges allow got new
+    → IsTrue tells → (later : List Exchange) × IsSpent f allow (o.left - got.taken) new link' later
+open_told o f new got allow link link' tells within m calls none done unlost s t =
+    let some = still_some tells o f new link link' m calls in
+    let left = m.is.left in (
       s.later,
       record {
-        ahead = ahead_by o f new got link link' tells m s t;
+        ahead = ahead_by o f new got allow link link' tells within m s t;
         front = record { behind = s.came; ending = s.ending; fetched = s.fetched };
         spent = ⊎_elim (λ all. absurd (let zero = done.0 all in omega (arith, none, some, zero)))
             (⊎_elim (λ full. absurd (omega (arith, none, full)))
-            (⊎_elim (λ all. omega (arith, all)) (λ lost. absurd (unlost lost)))) s.full;
+            (⊎_elim (λ all. omega (arith, all, within, left)) (λ lost. absurd (unlost lost)))) s.full;
       },
     )
 
 -- neither blocks nor a loss came
-pub open_step : (tells : Bool) (o : OpenFetch) (f : Fetching) (new : Fetch) (got : Got) (link link' : LinkAt)
-    → MayStepOn tells o f link → Calls tells f.since.faults o.fetch new link link'
+pub read_step : (tells : Bool) (o : OpenFetch) (f : Fetching) (new : Fetch) (got : Got) (allow : ℕ) (link link' : LinkAt)
+    → allow ≤ o.left → MayStepOn tells o f link → Calls tells f.since.faults o.fetch new link link'
     → got.ready ≡ ready_of new → got.ready.count ≡ 0
     → (IsTrue got.done ↔ (got.ready.count ≡ (rest_of new).count))
     → IfSome (lost_of new) (IsHeldBack (ready_of new))
-    → (IsTrue tells → FetchSteps f.job f.since.state.exchanges f.used f.handed link'.state.exchanges o.left got new)
-    → IsStepInHand tells f link'
+    → (IsTrue tells → FetchSteps f.job f.since.state.exchanges f.used f.handed link'.state.exchanges allow got new)
+    → IsReadInHand tells allow f link'
     (record { open_fetch = record { claim = o.claim; fetch = new; left = o.left - got.taken }; gain = Open })
-open_step tells o f new got link link' m calls ready none done held reads =
+read_step tells o f new got allow link link' within m calls ready none done held reads =
     let none_ready : (ready_of new).count ≡ 0 = sym (ap (λ (r : Run). r.count) ready) ∙ none in
-    let told = told_or tells (IsSpent f (o.left - got.taken) new link') f.used
-    (λ t. open_told o f new got link link' tells m calls none done
+    let told = told_or tells (IsSpent f allow (o.left - got.taken) new link') f.used
+    (λ t. open_told o f new got allow link link' tells within m calls none done
     (nothing_lost (lost_of new) (ready_of new) held none_ready) (reads t) t) in
-    let left = o.left - got.taken in
-    let g = stepped f told.0 left Open in
-    let at : IsFetchingAt tells g link' = record {
-      carried = later_carried tells o f new left link link' told.0 Open m.is calls (λ t. (told.1 t).ahead.later_is);
-      some = m.some;
-      gain = (λ t. (told.1 t).spent, λ t. (told.1 t).ahead.exact, λ t. (told.1 t).front);
-    } in (
-      g,
-      record { same = refl; more = λ t. (told.1 t).ahead.later_is.more; at = at },
+    let left = o.left - got.taken in (
+      stepped f told.0 left Open,
       record {
-        gain = refl;
-        is = later_open tells o f new left link link' told.0 Open m.is calls none_ready
-            (λ t. (told.1 t).ahead.later_is);
-        at = at;
+        same = refl;
+        more = λ t. (told.1 t).ahead.later_is.more;
+        may = record {
+          is = later_open tells o f new left link link' told.0 Open m.is calls none_ready
+              (λ t. (told.1 t).ahead.later_is);
+          some = m.some;
+          exact = λ t. (told.1 t).ahead.exact;
+          front = λ t. (told.1 t).front;
+        };
       },
+      λ t. (told.1 t).spent,
     )
 
-ready_told : (o : OpenFetch) (f : Fetching) (mid : Fetch) (got : Got) (link link' : LinkAt) (tells : Bool)
-    → MayStepOn tells o f link
-    → FetchSteps f.job f.since.state.exchanges f.used f.handed link'.state.exchanges o.left got mid
-    → IsTrue tells → (later : List Exchange) × IsAhead f (o.left - got.taken) mid link' later
-ready_told o f mid got link link' tells m s t = (s.later, ahead_by o f mid got link link' tells m s t)
+ready_told : (o : OpenFetch) (f : Fetching) (mid : Fetch) (got : Got) (allow : ℕ) (link link' : LinkAt) (tells : Bool)
+    → allow ≤ o.left → MayStepOn tells o f link
+    → FetchSteps f.job f.since.state.exchanges f.used f.handed link'.state.exchanges allow got mid
+    → IsTrue tells → (later : List Exchange) × IsGained f allow (o.left - got.taken) mid link' later
+ready_told o f mid got allow link link' tells within m s t =
+    let taken = s.taken in
+    let few = s.few in (
+      s.later,
+      record {
+        ahead = ahead_by o f mid got allow link link' tells within m s t;
+        few = omega (arith, taken, few);
+      },
+    )
 
 not_lacking : (lost : Option Loss) (ready : Run) → IfSome lost (IsHeldBack ready) → lost ≢ Some NoMemory
 not_lacking None ready held e = (let n : None ≡ Some NoMemory = e in cc)
 not_lacking (Some loss) ready held e = held.1 (let n : Some loss ≡ Some NoMemory = e in cc)
 
 -- blocks came
-pub ready_step : (tells : Bool) (o : OpenFetch) (f : Fetching) (mid new : Fetch) (got : Got) (bytes : List ℕ)
-    (link link' : LinkAt) → HandedIsFetched → MayStepOn tells o f link
+pub ready_step : (tells : Bool) (o : OpenFetch) (f : Fetching) (mid new : Fetch) (got : Got) (allow : ℕ)
+    (bytes : List ℕ) (link link' : LinkAt) → HandedIsFetched → allow ≤ o.left → MayStepOn tells o f link
     → Calls tells f.since.faults o.fetch mid link link' → Takes tells mid new (ready_of mid) bytes link'
     → got.ready ≡ ready_of mid → 1 ≤ got.ready.count → (ready_of mid).count ≤ 64
     → (ready_of mid).count ≤ (rest_of mid).count
     → (IsTrue got.done ↔ (got.ready.count ≡ (rest_of mid).count))
     → run_start (fetch_plan mid) (ready_of mid) + length bytes ≡ run_end (fetch_plan mid) (ready_of mid)
     → IfSome (lost_of mid) (IsHeldBack (ready_of mid))
-    → (IsTrue tells → FetchSteps f.job f.since.state.exchanges f.used f.handed link'.state.exchanges o.left got mid)
-    → IsStepInHand tells f link'
+    → (IsTrue tells → FetchSteps f.job f.since.state.exchanges f.used f.handed link'.state.exchanges allow got mid)
+    → IsReadInHand tells allow f link'
     (record {
       open_fetch = record { claim = o.claim; fetch = new; left = o.left - got.taken };
       gain = Ready got.ready bytes got.done;
     })
-ready_step tells o f mid new got bytes link link' law m calls takes ready some few within done len held reads =
+ready_step tells o f mid new got allow bytes link link' law allowed m calls takes ready some few within done len held reads =
     let left = o.left - got.taken in
-    let told = told_or tells (IsAhead f left mid link') f.used
-    (λ t. ready_told o f mid got link link' tells m (reads t) t) in
-    let later : IsTrue tells → Later f left mid link' told.0 = λ t. (told.1 t).later_is in
+    let told = told_or tells (IsGained f allow left mid link') f.used
+    (λ t. ready_told o f mid got allow link link' tells allowed m (reads t) t) in
+    let later : IsTrue tells → Later f left mid link' told.0 = λ t. (told.1 t).ahead.later_is in
     let gain = Ready got.ready bytes got.done in
     let g = stepped f told.0 left gain in
     let rest : rest_of mid ≡ f.rest = calls.rest ∙ m.is.rest in
@@ -322,32 +336,35 @@ ready_step tells o f mid new got bytes link link' law m calls takes ready some f
         },
         λ t. law f.job told.0 (f.handed ++ bytes) new (takes.fetch f.job told.0 f.handed (later t).is_fetch)
             (λ e. not_lacking (lost_of mid) (ready_of mid) held (sym takes.lost ∙ e)),
-        λ t. (told.1 t).exact,
+        λ t. (told.1 t).ahead.exact,
       );
     } in (
       g,
       record { same = refl; more = λ t. (later t).more; at = at },
       record { gain = refl; is = open_is; at = at },
+      λ t. (told.1 t).few,
     )
 
-record IsLostBy (f : Fetching) (fetch : Fetch) (link : LinkAt) (loss : Loss) (later : List Exchange) : Type 0 where
+record IsLostBy (f : Fetching) (fetch : Fetch) (link : LinkAt) (loss : Loss) (allow : ℕ) (later : List Exchange) : Type 0 where
   later_is : Later f 0 fetch link later
+  few : received_by later ≤ received_by f.used + allow
   came : List ℕ
   none_whole : (ready_blocks f.job.plan f.job.run (length f.handed) (length f.handed + length came)).count ≡ 0
   count : ℕ
   tells : TellsLoss f.job.parts later (f.handed ++ came) count loss
 
-lost_told : (o : OpenFetch) (f : Fetching) (new : Fetch) (loss : Loss) (link link' : LinkAt) (tells : Bool)
-    → MayStepOn tells o f link
-    → Fails f.job f.since.state.exchanges f.used f.handed link'.state.exchanges o.left loss new
-    → IsTrue tells → (later : List Exchange) × IsLostBy f new link' loss later
-lost_told o f new loss link link' tells m s t =
+lost_told : (o : OpenFetch) (f : Fetching) (new : Fetch) (loss : Loss) (allow : ℕ) (link link' : LinkAt) (tells : Bool)
+    → allow ≤ o.left → MayStepOn tells o f link
+    → Fails f.job f.since.state.exchanges f.used f.handed link'.state.exchanges allow loss new
+    → IsTrue tells → (later : List Exchange) × IsLostBy f new link' loss allow later
+lost_told o f new loss allow link link' tells within m s t =
     let spent = m.is.carried.spent t in
     let left = m.is.left in
     let few = s.few in (
       s.later,
       record {
-        later_is = record { gains = s.gains; is_fetch = s.is_fetch; spent = omega (arith, spent, left, few); more = s.more };
+        later_is = record { gains = s.gains; is_fetch = s.is_fetch; spent = omega (arith, spent, left, few, within); more = s.more };
+        few = few;
         came = s.came;
         none_whole = s.none_whole;
         count = s.count;
@@ -355,14 +372,13 @@ lost_told o f new loss link link' tells m s t =
       },
     )
 
-lost_by : (tells : Bool) (o : OpenFetch) (f : Fetching) (new : Fetch) (loss : Loss) (link link' : LinkAt)
+lost_by : (tells : Bool) (o : OpenFetch) (f : Fetching) (new : Fetch) (loss : Loss) (allow : ℕ) (link link' : LinkAt)
     (mark : Option Mark) → mark_of loss ≡ mark → MayStepOn tells o f link
     → Calls tells f.since.faults o.fetch new link link' → (ready_of new).count ≡ 0
     → CountsLinkLoss f.since.faults link'.faults loss
-    → (told : (later : List Exchange) × (IsTrue tells → IsLostBy f new link' loss later))
-    → IsStepInHand tells f link'
-    (record { open_fetch = record { claim = o.claim; fetch = new; left = 0 }; gain = gain_by loss mark })
-lost_by tells o f new loss link link' None is m calls none counts told =
+    → (told : (later : List Exchange) × (IsTrue tells → IsLostBy f new link' loss allow later))
+    → IsReadBy tells allow f link' (record { claim = o.claim; fetch = new; left = 0 }) (gain_by loss mark)
+lost_by tells o f new loss allow link link' None is m calls none counts told =
     let g = stepped f told.0 0 Starved in
     let at : IsFetchingAt tells g link' = record {
       carried = later_carried tells o f new 0 link link' told.0 Starved m.is calls (λ t. (told.1 t).later_is);
@@ -376,8 +392,9 @@ lost_by tells o f new loss link link' None is m calls none counts told =
         is = later_open tells o f new 0 link link' told.0 Starved m.is calls none (λ t. (told.1 t).later_is);
         at = at;
       },
+      λ t. (told.1 t).few,
     )
-lost_by tells o f new loss link link' (Some mark) is m calls none counts told =
+lost_by tells o f new loss allow link link' (Some mark) is m calls none counts told =
     let gain = Lost loss mark in
     let g = stepped f told.0 0 gain in
     let at : IsFetchingAt tells g link' = record {
@@ -396,16 +413,103 @@ lost_by tells o f new loss link link' (Some mark) is m calls none counts told =
         is = later_open tells o f new 0 link link' told.0 gain m.is calls none (λ t. (told.1 t).later_is);
         at = at;
       },
+      λ t. (told.1 t).few,
     )
 
 -- the rest is lost
-pub lost_step : (tells : Bool) (o : OpenFetch) (f : Fetching) (new : Fetch) (loss : Loss) (link link' : LinkAt)
-    → MayStepOn tells o f link → Calls tells f.since.faults o.fetch new link link'
+pub lost_step : (tells : Bool) (o : OpenFetch) (f : Fetching) (new : Fetch) (loss : Loss) (allow : ℕ)
+    (link link' : LinkAt) → allow ≤ o.left → MayStepOn tells o f link → Calls tells f.since.faults o.fetch new link link'
     → (ready_of new).count ≡ 0 → lost_of new ≡ Some loss
-    → (IsTrue tells → Fails f.job f.since.state.exchanges f.used f.handed link'.state.exchanges o.left loss new)
-    → IsStepInHand tells f link'
+    → (IsTrue tells → Fails f.job f.since.state.exchanges f.used f.handed link'.state.exchanges allow loss new)
+    → IsReadInHand tells allow f link'
     (record { open_fetch = record { claim = o.claim; fetch = new; left = 0 }; gain = gain_of loss })
-lost_step tells o f new loss link link' m calls none lost reads =
-    lost_by tells o f new loss link link' (mark_of loss) refl m calls none
+lost_step tells o f new loss allow link link' within m calls none lost reads =
+    lost_by tells o f new loss allow link link' (mark_of loss) refl m calls none
     (subst (λ l. IfSome l (CountsLinkLoss f.since.faults link'.faults)) lost calls.lost)
-    (told_or tells (IsLostBy f new link' loss) f.used (λ t. lost_told o f new loss link link' tells m (reads t) t))
+    (told_or tells (λ later. IsLostBy f new link' loss allow later) f.used
+    (λ t. lost_told o f new loss allow link link' tells within m (reads t) t))
+
+-- ---- several reads
+
+-- a fetch of which no block is ready, and which may take no more
+pub waits_in_hand : (tells : Bool) (o : OpenFetch) (f : Fetching) (link : LinkAt) → f.gain ≡ Open
+    → MayStepOn tells o f link → (IsTrue tells → f.left ≡ 0)
+    → IsFetchInHand tells (record { open_fetch = o; gain = Open }) f link
+waits_in_hand tells o f link gain m none = record {
+  gain = sym gain;
+  is = subst (λ g. IsOpenFetch tells o (delivering f g) link) (sym gain) m.is;
+  at = record {
+    carried = m.is.carried;
+    some = m.some;
+    gain = subst (λ g. IsGain tells f link g) (sym gain) (none, m.exact, m.front);
+  };
+}
+
+-- all that it may take was read
+pub read_whole : (tells : Bool) (allow : ℕ) (f : Fetching) (link : LinkAt) (o : OpenFetch) (gain : Gain) → f.left ≡ allow
+    → IsReadBy tells allow f link o gain → IsStepInHand tells f link (record { open_fetch = o; gain = gain })
+read_whole tells allow f link o Open whole read =
+    let g : Fetching = read.0 in
+    let on = read.1 in
+    let opened : g.gain ≡ Open = ap (λ (x : Fetching). x.gain) on.same in
+    let waits = waits_in_hand tells o g link opened on.may
+    (λ t. let left = read.2 t in omega (arith, left, whole)) in (
+      g,
+      record {
+        same = on.same ∙ ap (λ (gained : Gain). record f { used = g.used; left = g.left; gain = gained }) (sym opened);
+        more = on.more;
+        at = waits.at;
+      },
+      waits,
+    )
+read_whole tells allow f link o (Ready run bytes last) whole read = (read.0, read.1, read.2)
+read_whole tells allow f link o (Lost loss mark) whole read = (read.0, read.1, read.2)
+read_whole tells allow f link o Starved whole read = (read.0, read.1, read.2)
+
+-- how many bytes a step reads first
+pub part_of : (tells : Bool) (o : OpenFetch) (f : Fetching) (link : LinkAt) (part allow : ℕ) → allow ≡ min part o.left
+    → MayStepOn tells o f link → allow ≡ min part f.left
+part_of tells o f link part allow is m = is ∙ ap (λ (n : ℕ). min part n) m.is.left
+
+pub read_opened : (tells : Bool) (allow : ℕ) (f : Fetching) (link : LinkAt) (h : FetchInHand) → h.gain ≡ Open
+    → IsReadInHand tells allow f link h → IsReadBy tells allow f link h.open_fetch Open
+read_opened tells allow f link h opened read = subst (λ (g : Gain). IsReadBy tells allow f link h.open_fetch g) opened read
+
+-- the first read was the step
+pub read_once : (tells : Bool) (part : ℕ) (f : Fetching) (link : LinkAt) (o : OpenFetch) (gain : Gain)
+    → (gain ≡ Open → ⊥) → IsReadBy tells part f link o gain
+    → IsPartInHand tells part f link (record { open_fetch = o; gain = gain })
+read_once tells part f link o Open closed read = absurd (closed refl)
+read_once tells part f link o (Ready run bytes last) closed read = (read.0, read.1, read.2, inl read.3)
+read_once tells part f link o (Lost loss mark) closed read = (read.0, read.1, read.2, inl read.3)
+read_once tells part f link o Starved closed read = (read.0, read.1, read.2, inl read.3)
+
+-- nothing may be taken any more
+pub read_none : (tells : Bool) (o : OpenFetch) (f : Fetching) (link : LinkAt) → o.left ≡ 0 → f.gain ≡ Open
+    → MayStepOn tells o f link → IsStepInHand tells f link (record { open_fetch = o; gain = Open })
+read_none tells o f link spent opened m =
+    let left = m.is.left in
+    let waits = waits_in_hand tells o f link opened m (λ t. omega (arith, left, spent)) in
+    (f, record { same = refl; more = λ t. omega arith; at = waits.at }, waits)
+
+-- the step was made behind a first read, of a part that brought nothing
+pub read_further : (tells : Bool) (part : ℕ) (o : OpenFetch) (f : Fetching) (link link' : LinkAt) (h : FetchInHand)
+    → (read : IsReadBy tells part f link o Open) → IsStepInHand tells read.0 link' h → IsPartInHand tells part f link' h
+read_further tells part o f link link' h read step =
+    let on = read.1 in
+    let k : Fetching = step.0 in (
+      k,
+      record {
+        same = step.1.same
+            ∙ ap (λ (x : Fetching). record x { used = k.used; left = k.left; gain = k.gain }) on.same;
+        more = λ t. let first = on.more t in let then = step.1.more t in omega (arith, first, then);
+        at = step.1.at;
+      },
+      step.2,
+      inr (record { o = o; link = link; g = read.0; on = on; part_is = read.2 }),
+    )
+
+-- a step in parts is one
+pub part_is_step : (tells : Bool) (part : ℕ) (f : Fetching) (link : LinkAt) (h : FetchInHand)
+    → IsPartInHand tells part f link h → IsStepInHand tells f link h
+part_is_step tells part f link h step = (step.0, step.1, step.2)

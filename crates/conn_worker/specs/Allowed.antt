@@ -9,7 +9,7 @@ use Rattle.engine_turns.specs.declared.operations.Said.TheVariants as said
 use Rattle.link_source.specs.Exchanges.{Exchange}
 use Rattle.request_chain.specs.Chains.{received_by}
 use Rattle.conn_worker.specs.Facts.{HasUsed}
-use Rattle.conn_worker.specs.Hands.{LinkAt, WorkerAt, fresh}
+use Rattle.conn_worker.specs.Hands.{IsLeftAlone, LinkAt, WorkerAt, fresh}
 use Rattle.conn_worker.specs.Works.{Works}
 use Rattle.conn_worker.specs.declared.ends.WorkEnd.{WorkEnd}
 
@@ -30,12 +30,12 @@ pub record ReceivesAtMost (tells : Bool) (allowed : ℕ) (since : LinkAt) (used 
   pub few : IsTrue tells → received_by used ≤ allowed
 
 -- What a link is used for behind an answer, up to the next grant: the claim that was granted, where one was. For a claim of
--- blocks it receives no more than the grant allows and the answers behind it.
+-- blocks it receives no more than the grant allows and the answers behind it. Behind another answer nothing is received.
 abbrev pub IsUsedFor : Bool → Said → List RunTurn → LinkAt → List Exchange → LinkAt → Type 0
 IsUsedFor tells (said.Grant (grant.Fetch granted)) behind since used link =
     ReceivesAtMost tells (granted.allow + allowed_in granted.claim behind) since used link
 IsUsedFor tells (said.Grant (grant.Probe claim gid url)) behind since used link = HasUsed tells since used link
-IsUsedFor tells answer behind since used link = (used ≡ []) × (link ≡ since)
+IsUsedFor tells answer behind since used link = (used ≡ []) × IsLeftAlone tells since link
 
 -- over all turns, from the link as it was to the link as it is
 abbrev pub ReceivesAllowed : Bool → List RunTurn → LinkAt → LinkAt → Type 0

@@ -1,10 +1,10 @@
 -- What a worker has in hand between two turns, and how its link is, as plain data.
-use Rattle.std.specs.Prelude.{ℕ, List, [], ◌++◌, ◌+◌, ◌-◌}
+use Rattle.std.specs.Prelude.{◌≡◌, ◌⊎◌, ℕ, Bool, IsTrue, List, [], ◌++◌, ◌+◌, ◌-◌}
 use Rattle.dl_kinds.specs.declared.gid.Gid.{Gid}
 use Rattle.dl_kinds.specs.declared.runs.Run.{Run}
 use Rattle.engine_turns.specs.declared.operations.FetchGrant.{FetchGrant}
 use Rattle.link_source.specs.Exchanges.{Exchange}
-use Rattle.link_source.specs.Link.{LinkState}
+use Rattle.link_source.specs.Link.{LinkState, closed}
 use Rattle.link_source.specs.declared.Links.{Ghosts as LinkSays}
 use Rattle.span_map.specs.declared.jobs.Job.{Job}
 use Rattle.verify_piece.specs.Seals.{PieceBytes}
@@ -19,6 +19,15 @@ pub record LinkAt : Type 0 where
 
 abbrev pub link_at : {L : Type 0} → LinkSays L → L → LinkAt
 link_at {L} says link = record { faults = says.faults link; state = says.state link }
+
+-- The link was hung up: it is open to nobody, and its exchanges and faults are as they were.
+pub record IsHungUp (tells : Bool) (link link' : LinkAt) : Type 0 where
+  pub faults : link'.faults ≡ link.faults
+  pub state : IsTrue tells → link'.state ≡ closed link.state
+
+-- the link is as it was, or was hung up
+abbrev pub IsLeftAlone : Bool → LinkAt → LinkAt → Type 0
+IsLeftAlone tells link link' = (link' ≡ link) ⊎ IsHungUp tells link link'
 
 -- A fetch for a claim. The link was `since` at its grant, and the exchanges that it used since then are `used`, the oldest first.
 -- The run and the bytes that were delivered are behind `rest` and `handed`. Of the bytes that turns granted so many are `left`.

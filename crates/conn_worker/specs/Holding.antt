@@ -1,5 +1,5 @@
 -- What a worker keeps, beside the plain data that it stands for.
-use Rattle.std.specs.Prelude.{◌≡◌, ◌≤◌, ℕ, Bool, false, IsTrue, Option, Some, None, IfSome, List, Result, Ok, Err}
+use Rattle.std.specs.Prelude.{◌≡◌, ◌⊎◌, ◌≤◌, ◌+◌, ℕ, Bool, false, IsTrue, Option, Some, None, IfSome, List, Result, Ok, Err}
 use Rattle.dl_kinds.specs.declared.marks.Mark.{Mark}
 use Rattle.dl_kinds.specs.declared.runs.Moment.{Moment}
 use Rattle.dl_kinds.specs.declared.runs.Run.{Run}
@@ -8,6 +8,7 @@ use Rattle.fetch_session.specs.Fetches.{IsFetch, IsFrontOfFetched, MayBegin, May
 use Rattle.fetch_session.specs.declared.room.FetchRoom.{FetchRoom}
 use Rattle.reply_reader.specs.Losses.{mark_of}
 use Rattle.reply_reader.specs.declared.loss.Loss.{Loss}
+use Rattle.request_chain.specs.Chains.{received_by}
 use Rattle.request_chain.specs.Links.{CountsLinkLoss}
 use Rattle.conn_worker.specs.Facts.{IsCarried, IsFetchingAt, IsProbingAt, IsTakenExactly}
 use Rattle.conn_worker.specs.Hands.{Fetching, Hand, Nothing, Fetches, Probes, Seals, LinkAt, Probing, WorkerAt, delivered, fresh}
@@ -101,19 +102,55 @@ abbrev pub IsProbedInHand : Bool → ℕ → List ℕ → (link link' : LinkAt) 
 IsProbedInHand tells claim url link link' h =
     (p : Probing) × IsProbeOf tells claim url link link' p × IsProbeInHand tells h p link'
 
+-- it read on, and no block of it became ready: it may be carried on
+pub record IsReadOn (tells : Bool) (o : OpenFetch) (f : Fetching) (link : LinkAt) (g : Fetching) : Type 0 where
+  pub same : g ≡ record f { used = g.used; left = g.left; gain = Open }
+  pub more : IsTrue tells → received_by f.used ≤ received_by g.used
+  pub may : MayStepOn tells o g link
+
 -- it is the fetch one step later
 abbrev pub IsStepInHand : Bool → Fetching → LinkAt → FetchInHand → Type 0
 IsStepInHand tells f link h = (g : Fetching) × IsStepOf tells f link g × IsFetchInHand tells h g link
 
+-- it received no more than so many bytes
+abbrev pub TakesAtMost : Bool → ℕ → Fetching → Fetching → Type 0
+TakesAtMost tells allow f g = IsTrue tells → received_by g.used ≤ received_by f.used + allow
+
+-- so many bytes of it were read: they brought blocks, or a loss, or it may be carried on
+abbrev pub IsReadBy : Bool → ℕ → Fetching → LinkAt → OpenFetch → Gain → Type 0
+IsReadBy tells allow f link o Open =
+    (g : Fetching) × IsReadOn tells o f link g × (IsTrue tells → g.left + allow ≡ f.left)
+IsReadBy tells allow f link o gain =
+    (g : Fetching) × IsStepOf tells f link g × IsFetchInHand tells (record { open_fetch = o; gain = gain }) g link
+    × TakesAtMost tells allow f g
+
+abbrev pub IsReadInHand : Bool → ℕ → Fetching → LinkAt → FetchInHand → Type 0
+IsReadInHand tells allow f link h = IsReadBy tells allow f link h.open_fetch h.gain
+
+-- so many bytes of it brought neither a block nor a loss
+pub record BringsNone (tells : Bool) (part : ℕ) (f : Fetching) : Type 0 where
+  pub o : OpenFetch
+  pub link : LinkAt
+  pub g : Fetching
+  pub on : IsReadOn tells o f link g
+  pub part_is : IsTrue tells → g.left + part ≡ f.left
+
+-- it is the fetch one step later, which took no more than a part of so many bytes, unless these brought nothing
+abbrev pub IsPartInHand : Bool → ℕ → Fetching → LinkAt → FetchInHand → Type 0
+IsPartInHand tells part f link h =
+    (g : Fetching) × IsStepOf tells f link g × IsFetchInHand tells h g link
+    × (TakesAtMost tells part f g ⊎ BringsNone tells part f)
+
 -- ---- while the turn is taken
 
--- what was in hand is no fetch that a turn carries on
+-- what was in hand is told by the turn, and no fetch that a turn carries on
 abbrev pub is_let_go_by : Gain → Type 0
 is_let_go_by (Ready run bytes last) = ⊥
 is_let_go_by Open = ⊥
 is_let_go_by gain = Unit {0}
 
 abbrev pub IsLetGoOf : Hand → Type 0
+IsLetGoOf Nothing = ⊥
 IsLetGoOf (Fetches f) = is_let_go_by f.gain
 IsLetGoOf hand = Unit {0}
 
@@ -139,6 +176,7 @@ pub record IsAskingMore (tells : Bool) (o : OpenFetch) (f : Fetching) (link : Li
 
 abbrev pub IsWaiting : Bool → Waiting → Hand → LinkAt → Type 0
 IsWaiting tells (waiting.Free room) hand link = IsLetGoOf hand × IsRoomFor tells room link
+IsWaiting tells (waiting.WantsWork room) Nothing link = IsRoomFor tells room link
 IsWaiting tells (waiting.Delivers o last) (Fetches f) link = IsDelivering tells o last f link
 IsWaiting tells (waiting.Asks o) (Fetches f) link = IsAskingMore tells o f link
 IsWaiting tells w hand link = ⊥

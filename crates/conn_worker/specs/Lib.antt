@@ -3,6 +3,7 @@ pub mod Ends
 pub mod Facts
 pub mod Table
 pub mod Holding
+pub mod Parts
 pub mod Clocks
 pub mod Works
 pub mod Sound

@@ -12,7 +12,7 @@ use Rattle.engine_turns.specs.declared.operations.Said.TheVariants as said
 use Rattle.request_chain.specs.Chains.{received_by}
 use Rattle.conn_worker.specs.Ends.{end_of_said}
 use Rattle.conn_worker.specs.Facts.{IsFetchingAt, IsProbingAt}
-use Rattle.conn_worker.specs.Hands.{Fetching, Hand, Nothing, Fetches, Probes, Seals, LinkAt, Probing, allowing, begun_fetch, delivered}
+use Rattle.conn_worker.specs.Hands.{Fetching, Hand, Nothing, Fetches, Probes, Seals, IsHungUp, LinkAt, Probing, allowing, begun_fetch, delivered}
 use Rattle.conn_worker.specs.declared.ends.WorkEnd.{WorkEnd}
 use Rattle.conn_worker.specs.declared.ends.WorkEnd.TheVariants.{NoMemory}
 use Rattle.conn_worker.specs.declared.hands.Gain.{Gain}
@@ -56,6 +56,10 @@ Outcomes = Hand → LinkAt → Type 0
 abbrev pub LeavesNothing : LinkAt → Outcomes
 LeavesNothing link hand' link' = (hand' ≡ Nothing) × (link' ≡ link)
 
+-- nothing is in hand, and the link is hung up, so that no connection stands open for nothing
+abbrev pub HangsUp : Bool → LinkAt → Outcomes
+HangsUp tells link hand' link' = (hand' ≡ Nothing) × IsHungUp tells link link'
+
 abbrev pub LeavesFetch : Fetching → LinkAt → Outcomes
 LeavesFetch f link hand' link' = (hand' ≡ Fetches f) × (link' ≡ link)
 
@@ -88,13 +92,13 @@ FollowsKept tells f false link = goes_on_by tells f f.left link
 
 abbrev pub FollowsDelivery : Bool → Fetching → Bool → Said → LinkAt → Outcomes
 FollowsDelivery tells f last (said.Kept counted repeated) link = FollowsKept tells f last link
-FollowsDelivery tells f last other link = LeavesNothing link
+FollowsDelivery tells f last other link = HangsUp tells link
 
 -- more bytes may be taken, or none yet
 abbrev pub FollowsMore : Bool → Fetching → Said → LinkAt → Outcomes
 FollowsMore tells f (said.Allow bytes) link = StepsOn tells (allowing f bytes)
 FollowsMore tells f (said.Hold ms) link = LeavesFetch f link
-FollowsMore tells f other link = LeavesNothing link
+FollowsMore tells f other link = HangsUp tells link
 
 abbrev pub FollowsFetch : Bool → Fetching → Gain → Said → LinkAt → Outcomes
 FollowsFetch tells f (Ready run bytes last) answer link =
@@ -102,9 +106,11 @@ FollowsFetch tells f (Ready run bytes last) answer link =
 FollowsFetch tells f Open answer link = FollowsMore tells f answer link
 FollowsFetch tells f other answer link = LeavesNothing link
 
--- what follows the answer of the turn that was due
+-- What follows the answer of the turn that was due. Who asked for work in vain hangs up; a loss, a length and a digest are followed by
+-- a turn that asks for work, to which the link is left as it was.
 abbrev pub FollowsAnswer : Bool → Hand → Said → LinkAt → Outcomes
 FollowsAnswer tells hand (said.Grant granted) link = FollowsGrant tells granted link
+FollowsAnswer tells Nothing answer link = HangsUp tells link
 FollowsAnswer tells (Fetches f) answer link = FollowsFetch tells f f.gain answer link
 FollowsAnswer tells hand answer link = LeavesNothing link
 

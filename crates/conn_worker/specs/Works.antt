@@ -1,5 +1,5 @@
 -- What a worker does, over its own turns and its link.
-use Rattle.std.specs.Prelude.{◌≡◌, ◌⊎◌, ◌≤◌, ℕ, max, Bool, List, [], ◌∷◌, ◌++◌, length, Option, Some, None, Result, Ok, Err}
+use Rattle.std.specs.Prelude.{◌≡◌, ◌⊎◌, ◌≤◌, ◌-◌, ℕ, max, Bool, List, [], ◌∷◌, ◌++◌, length, Option, Some, None, Result, Ok, Err}
 use Rattle.dl_clock.specs.declared.clock.Clock.{Ghosts as ClockSays}
 use Rattle.dl_clock.specs.declared.clock.TheConstants.{LATEST_MOMENT}
 use Rattle.dl_kinds.specs.declared.runs.Moment.{Moment}
@@ -17,6 +17,7 @@ use Rattle.conn_worker.specs.Clocks.{ClockAt, ReadsClockFor, ReadsClockForEach, 
 use Rattle.conn_worker.specs.Ends.{moment_behind, pause_of}
 use Rattle.conn_worker.specs.Hands.{WorkerAt, fresh, link_at}
 use Rattle.conn_worker.specs.Holding.{StandsAs}
+use Rattle.conn_worker.specs.Parts.{part_behind}
 use Rattle.conn_worker.specs.Table.{FollowsAnswer, due_op, end_behind}
 use Rattle.conn_worker.specs.declared.ends.Spent.{Spent}
 use Rattle.conn_worker.specs.declared.ends.WorkEnd.{WorkEnd}
@@ -125,13 +126,16 @@ module _ {D L K : Type 0} (links : LinkSays L) (clocks : ClockSays K) where
   abbrev pub clock_in : Workplace D L K → ClockAt K
   clock_in p = clock_at p.state.moment.0 p.clock
 
-  -- One turn was taken, and what its answer asks was done: whatever the state stood for, it is as the table says.
+  -- One turn was taken, and what its answer asks was done: whatever the state stood for, it is as the table says. How long the turn came
+  -- behind the one before tells how many bytes the next step takes.
   pub record WorksOnce (old new : Workplace D L K) (result : Option WorkEnd) : Type 0 where
     pub turn : RunTurn
     pub went : Went ties_run old.sight (turn ∷ []) new.sight
     pub told : ℕ
     pub asked : ReadsClockFor clocks told turn (clock_in old) (clock_in new)
     pub worker : new.state.worker ≡ old.state.worker
+    pub part : new.state.part.bytes ≡ part_behind turn.answer.said
+        (max told old.state.moment.0 - old.state.moment.0) old.state.part.bytes
     pub does : (a : WorkerAt) → StandsIn old a → (b : WorkerAt)
         × Does links.tells old.state.worker told turn a b
         × StandsIn new b × (result ≡ end_behind turn.answer.said b.hand)

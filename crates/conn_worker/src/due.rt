@@ -98,7 +98,7 @@ impl InHand {
         ensures lawful { IsLawfulOperation result.0 }
     {
         match self {
-            InHand::Nothing(room) => (Operation::Next { worker, now }, Waiting::Free(room)),
+            InHand::Nothing(room) => (Operation::Next { worker, now }, Waiting::WantsWork(room)),
             InHand::Fetches(fetch) => fetch.due(worker, now),
             InHand::Probes(probe) => probe.due(worker, now),
             InHand::Seals(SealInHand { gid, sealed, room }) => {
@@ -127,6 +127,7 @@ impl Waiting {
     {
         match self {
             Waiting::Free(room) => room,
+            Waiting::WantsWork(room) => room,
             Waiting::Delivers { open_fetch, .. } => open_fetch.fetch.into_room(),
             Waiting::Asks(open_fetch) => open_fetch.fetch.into_room(),
         }

@@ -70,8 +70,10 @@ pub(crate) enum InHand {
 /// What stays with a worker while its turn is taken.
 #[derive(Drop)]
 pub(crate) enum Waiting {
-    /// The room alone.
+    /// The room alone, behind what the turn tells.
     Free(FetchRoom),
+    /// The room alone, where the turn asks for work.
+    WantsWork(FetchRoom),
     /// A fetch whose ready blocks are delivered. `last` tells that they are the last ones.
     Delivers { open_fetch: OpenFetch, last: bool },
     /// A fetch for which more bytes are asked for.

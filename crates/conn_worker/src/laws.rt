@@ -4,6 +4,7 @@ ghost use Rattle.conn_worker.specs.Brought.{LinksGoOn, TurnsBringWhatCame};
 ghost use Rattle.conn_worker.specs.Sound.{AnswersAreSound};
 ghost use Rattle.std.specs.Prelude.{◌≡◌, ◌^◌};
 ghost use Rattle.conn_worker.specs.declared.ends.TheConstants.{IDLE_PAUSE};
+ghost use Rattle.conn_worker.specs.declared.parts.TheConstants.{LEAST_PART, QUICK_STEP, SLOW_STEP};
 ghost use Rattle.conn_worker.specs.declared.working.TheConstants.{MAX_TURNS};
 
 /// Blocks that a run grants are blocks of a plan, and an allowance is of a byte at least.
@@ -25,8 +26,12 @@ pub fn turns_bring_what_came()
     ensures links { LinksGoOn }
 {}
 
-/// The most turns of a worker over one link, and the milliseconds that one without work waits. It does nothing when it runs.
+/// The most turns of a worker over one link, the milliseconds that one without work waits, the bytes of the least step of a
+/// fetch, and the milliseconds by which a step is quick or slow. It does nothing when it runs.
 pub fn limits_are_told()
     ensures turns { MAX_TURNS ≡ 2 ^ 48 }
     ensures pause { IDLE_PAUSE ≡ 50 }
+    ensures part { LEAST_PART ≡ 20480 }
+    ensures quick { QUICK_STEP ≡ 250 }
+    ensures slow { SLOW_STEP ≡ 1000 }
 {}

@@ -8,6 +8,7 @@ mod following;
 mod hands;
 mod keeping;
 mod laws;
+mod parts;
 mod probing;
 mod state;
 mod turning;
@@ -18,6 +19,7 @@ pub use keeping::keep_work;
 pub use laws::{
     answers_are_sound, limits_are_told, links_receive_what_is_allowed, turns_bring_what_came,
 };
+pub use parts::{LEAST_PART, QUICK_STEP, SLOW_STEP};
 pub use state::WorkState;
 pub use turning::work_once;
 pub use working::{MAX_TURNS, work};

@@ -3,16 +3,18 @@ ghost use Rattle.std.specs.Prelude.{IfOk};
 ghost use Rattle.conn_worker.specs.Holding.{IsNewState};
 
 use crate::hands::InHand;
+use crate::parts::Part;
 use dl_kinds::{Moment, NoMemory};
 use fetch_session::FetchRoom;
 use std::alloc::Global;
 
-/// What the next turn of a worker goes by: what it has in hand, and its moment.
+/// What the next turn of a worker goes by: what it has in hand, its moment, and how many bytes the next step of a fetch takes.
 #[derive(Drop)]
 pub struct WorkState {
     pub(crate) alloc: Global,
     pub(crate) worker: u32,
     pub(crate) moment: Moment,
+    pub(crate) part: Part,
     // There between two turns.
     pub(crate) hand: Option<InHand>,
 }
@@ -27,6 +29,7 @@ impl WorkState {
             alloc,
             worker,
             moment: Moment(0),
+            part: Part::first(),
             hand: Some(InHand::Nothing(room)),
         })
     }

@@ -39,7 +39,7 @@ fn pause<K: Clock>(clock: &mut K, now: Moment, pause: Option<u64>) -> Moment
 }
 
 /// Takes the turn that is due, by what came last, and does what its answer asks: a pause, one step of a fetch, one probe, or
-/// one digest. The answer is how that ends the work, if it does.
+/// one digest. Where it has nothing to do it hangs up before it pauses. The answer is how that ends the work, if it does.
 pub fn work_once<L: Links, K: Clock, D: Disk, T: Desk<Engine<D>>>(
     desk: &mut T,
     state: &mut WorkState,
@@ -61,8 +61,16 @@ pub fn work_once<L: Links, K: Clock, D: Disk, T: Desk<Engine<D>>>(
     let (op, waiting) = hand.due(state.worker, now);
     let Answer { said, back } = desk.turn(op);
     let end = end_of(&said);
-    state.moment = pause(clock, now, pause_of(&said));
-    let next = follow(state.alloc, link, waiting.with_buffer(back), said);
+    let rest = pause_of(&said);
+    state.part = state.part.behind(&said, now.0 - state.moment.0);
+    let next = follow(
+        state.alloc,
+        link,
+        waiting.with_buffer(back),
+        said,
+        state.part,
+    );
+    state.moment = pause(clock, now, rest);
     let end = end.or(next.end());
     state.hand = Some(next);
     end

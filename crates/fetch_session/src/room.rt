@@ -1,10 +1,11 @@
 // What a fetch reads with.
-ghost use Rattle.std.specs.Prelude.{◌≤◌, List, vec_capacity, IfOk};
+ghost use Rattle.std.specs.Prelude.{◌≡◌, ◌≤◌, List, vec_capacity, IfOk, IsTrue};
 ghost use Rattle.std.specs.Option.{ForSome};
 ghost use Rattle.fetch_session.specs.declared.room.TheConstants.{BUFFER};
 
 use crate::blocks::MOST_READY;
 use dl_kinds::{BLOCK_LEN, NoMemory};
+use link_source::Links;
 use request_chain::ChainRoom;
 use std::alloc::Global;
 
@@ -30,7 +31,7 @@ pub struct FetchRoom {
 }
 
 impl FetchRoom {
-    ghost use Rattle.link_source.specs.Link.{LinkState};
+    ghost use Rattle.link_source.specs.Link.{LinkState, closed};
     ghost use Rattle.link_source.specs.Exchanges.{Exchange};
     ghost use Rattle.fetch_session.specs.Fetches.{IsKeptBehindWhole, MayBegin};
 
@@ -44,5 +45,21 @@ impl FetchRoom {
             held: make_buffer(alloc)?,
             spare: Some(make_buffer(alloc)?),
         })
+    }
+
+    /// Hangs the link up. The next fetch begins on a connection of its own.
+    pub fn hang_up<L: Links>(self, link: &mut L) -> Self
+        ensures closed { IsTrue L.tells → L.state link.new ≡ closed (L.state link.old) }
+        ensures faults { L.faults link.new ≡ L.faults link.old }
+        ensures may { (link : LinkState) → MayBegin result link }
+        ensures whole { (exchanges : List Exchange) → IsKeptBehindWhole result exchanges }
+    {
+        link.hang_up();
+        let FetchRoom { chain, held, spare } = self;
+        FetchRoom {
+            chain: chain.without_connection(),
+            held,
+            spare,
+        }
     }
 }

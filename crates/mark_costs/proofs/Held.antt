@@ -8,11 +8,11 @@ use Rattle.engine_turns.specs.declared.operations.Said.{Said}
 use Rattle.engine_turns.specs.declared.operations.Said.TheVariants as said
 use Rattle.conn_worker.specs.Hands.{Fetching, Hand, Nothing, Fetches, Probes, Seals, LinkAt, Probing, allowing, begun_fetch, delivered}
 use Rattle.conn_worker.specs.Sound.{NoGrant}
-use Rattle.conn_worker.specs.Table.{FollowsAnswer, FollowsDelivery, FollowsFetch, FollowsGrant, FollowsKept, FollowsMore, LeavesFetch, LeavesNothing, StepsOn, goes_on_by}
+use Rattle.conn_worker.specs.Table.{FollowsAnswer, FollowsDelivery, FollowsFetch, FollowsGrant, FollowsKept, FollowsMore, LeavesFetch, StepsOn, goes_on_by}
 use Rattle.conn_worker.specs.declared.hands.Gain.{Gain}
 use Rattle.conn_worker.specs.declared.hands.Gain.TheVariants.{Lost, Open, Ready, Starved}
-use Rattle.conn_worker.proofs.Allowing.{fetch_followed, nothing_followed, probe_followed, seal_followed}
-use Rattle.served_runs.proofs.Working.{GrantedBy, OfGrant, Reached, StandsBehind}
+use Rattle.conn_worker.proofs.Allowing.{LeavesLink, fetch_followed, is_closed, nothing_followed, probe_followed, seal_followed, stays_open}
+use Rattle.served_runs.proofs.Working.{GrantedBy, OfGrant, Reached, StandsBehind, reached_alone}
 use Rattle.served_runs.proofs.Answered.{answered_by, answered_on}
 
 granted_later : (turns : List RunTurn) (t : RunTurn) (granted : Grant) → GrantedBy turns granted
@@ -71,15 +71,16 @@ module _ (tells : Bool) (first : LinkAt) where
       })
 
   nothing_held : (turns : List RunTurn) (now : LinkAt) (hand' : Hand) (link' : LinkAt) → (Reached tells first) now
-      → LeavesNothing now hand' link' → StandsBehind tells first turns hand' link'
+      → LeavesLink tells now hand' link' → StandsBehind tells first turns hand' link'
   nothing_held turns now hand' link' reached leaves =
       subst (λ (h : Hand). StandsBehind tells first turns h link') (sym leaves.0)
-      (record { reached = subst (Reached tells first) (sym leaves.1) reached; held = tt })
+      (record { reached = reached_alone tells first now link' reached leaves.1; held = tt })
 
   kept_held : (turns : List RunTurn) (d : Fetching) (left : ℕ) (last : Bool) (now : LinkAt) (hand' : Hand) (link' : LinkAt)
       → d.left ≡ left → d.gain ≡ Open → OfGrant tells first turns d → (Reached tells first) now → FollowsKept tells d last now hand' link'
       → StandsBehind tells first turns hand' link'
-  kept_held turns d left true now hand' link' is opened o reached kept = nothing_held turns now hand' link' reached kept
+  kept_held turns d left true now hand' link' is opened o reached kept =
+      nothing_held turns now hand' link' reached (stays_open tells now hand' link' kept)
   kept_held turns d zero false now hand' link' is opened o reached kept =
       waits_held turns d now hand' link' opened o reached (subst (λ n. goes_on_by tells d n now hand' link') is kept)
   kept_held turns d (suc left) false now hand' link' is opened o reached kept =
@@ -90,7 +91,8 @@ module _ (tells : Bool) (first : LinkAt) where
       → StandsBehind tells first turns hand' link'
   delivery_held turns d last (said.Kept counted repeated) now hand' link' opened o reached is =
       kept_held turns d d.left last now hand' link' refl opened o reached is
-  delivery_held turns d last answer now hand' link' opened o reached is = nothing_held turns now hand' link' reached is
+  delivery_held turns d last answer now hand' link' opened o reached is =
+      nothing_held turns now hand' link' reached (is_closed tells now hand' link' is)
 
   more_held : (turns : List RunTurn) (f : Fetching) (answer : Said) (now : LinkAt) (hand' : Hand) (link' : LinkAt)
       → f.gain ≡ Open → OfGrant tells first turns f → (Reached tells first) now → FollowsMore tells f answer now hand' link'
@@ -99,7 +101,8 @@ module _ (tells : Bool) (first : LinkAt) where
       steps_held turns (allowing f bytes) hand' link' (same_of turns f (allowing f bytes) o refl refl refl) is
   more_held turns f (said.Hold ms) now hand' link' opened o reached is =
       waits_held turns f now hand' link' opened o reached is
-  more_held turns f answer now hand' link' opened o reached is = nothing_held turns now hand' link' reached is
+  more_held turns f answer now hand' link' opened o reached is =
+      nothing_held turns now hand' link' reached (is_closed tells now hand' link' is)
 
   fetch_held : (turns : List RunTurn) (t : RunTurn) (f : Fetching) (gain : Gain) (now : LinkAt) (hand' : Hand)
       (link' : LinkAt) → f.gain ≡ gain → OfGrant tells first turns f → (Reached tells first) now
@@ -108,11 +111,11 @@ module _ (tells : Bool) (first : LinkAt) where
       delivery_held (turns ++ t ∷ []) (delivered f run bytes) last t.answer.said now hand' link' refl
       (later_of turns t f (delivered f run bytes) o refl refl refl) reached follows
   fetch_held turns t f (Lost loss mark) now hand' link' is o reached follows =
-      nothing_held (turns ++ t ∷ []) now hand' link' reached follows
+      nothing_held (turns ++ t ∷ []) now hand' link' reached (stays_open tells now hand' link' follows)
   fetch_held turns t f Open now hand' link' is o reached follows =
       more_held (turns ++ t ∷ []) f t.answer.said now hand' link' is (later_of turns t f f o refl refl refl) reached follows
   fetch_held turns t f Starved now hand' link' is o reached follows =
-      nothing_held (turns ++ t ∷ []) now hand' link' reached follows
+      nothing_held (turns ++ t ∷ []) now hand' link' reached (stays_open tells now hand' link' follows)
 
   grant_held : (turns : List RunTurn) (t : RunTurn) (granted : Grant) (now : LinkAt) (hand' : Hand) (link' : LinkAt)
       → t.answer.said ≡ said.Grant granted → (Reached tells first) now → FollowsGrant tells granted now hand' link'
@@ -150,16 +153,16 @@ module _ (tells : Bool) (first : LinkAt) where
       → StandsBehind tells first (turns ++ t ∷ []) hand' link'
   still_held turns t Nothing now hand' link' none follows s =
       nothing_held (turns ++ t ∷ []) now hand' link' s.reached
-      (nothing_followed tells t.answer.said now hand' link' none follows)
+      (is_closed tells now hand' link' (nothing_followed tells t.answer.said now hand' link' none follows))
   still_held turns t (Fetches f) now hand' link' none follows s =
       fetch_held turns t f f.gain now hand' link' refl s.held.of_grant s.reached
       (fetch_followed tells f t.answer.said now hand' link' none follows)
   still_held turns t (Probes p) now hand' link' none follows s =
       nothing_held (turns ++ t ∷ []) now hand' link' s.reached
-      (probe_followed tells p t.answer.said now hand' link' none follows)
+      (stays_open tells now hand' link' (probe_followed tells p t.answer.said now hand' link' none follows))
   still_held turns t (Seals gid sealed) now hand' link' none follows s =
       nothing_held (turns ++ t ∷ []) now hand' link' s.reached
-      (seal_followed tells gid sealed t.answer.said now hand' link' none follows)
+      (stays_open tells now hand' link' (seal_followed tells gid sealed t.answer.said now hand' link' none follows))
 
   grant_followed : (hand : Hand) (granted : Grant) (now : LinkAt) (hand' : Hand) (link' : LinkAt)
       → FollowsAnswer tells hand (said.Grant granted) now hand' link' → FollowsGrant tells granted now hand' link'

@@ -8,7 +8,7 @@ use Rattle.std.proofs.lemmas.Bool.Decides.{nat_tests}
 use Rattle.std.proofs.lemmas.List.Elements.{Contains-append_left}
 use Rattle.conn_worker.specs.Facts.{IsGain}
 use Rattle.conn_worker.specs.Hands.{Fetching, Hand, Nothing, Fetches, Probes, Seals, LinkAt, allowing, begun_fetch, blocks_behind, delivered}
-use Rattle.conn_worker.specs.Table.{FollowsAnswer, FollowsDelivery, FollowsFetch, FollowsGrant, FollowsKept, FollowsMore, LeavesNothing, StepsOn, due_op, fetch_op, goes_on_by}
+use Rattle.conn_worker.specs.Table.{FollowsAnswer, FollowsDelivery, FollowsFetch, FollowsGrant, FollowsKept, FollowsMore, StepsOn, due_op, fetch_op, goes_on_by}
 use Rattle.conn_worker.specs.declared.hands.Gain.{Gain}
 use Rattle.conn_worker.specs.declared.hands.Gain.TheVariants as gain
 use Rattle.dl_history.proofs.Bools.{and_both, and_left, and_right, not_true, true_not_false}
@@ -506,8 +506,8 @@ module _ (stay : DownloadsStay) (lengths_stay : LengthsStay) (start : RunStart) 
     -- ---- what follows a turn
 
     module _ (link : LinkAt) (hand' : Hand) (link' : LinkAt) (g : Fetching) (is_g : hand' ≡ Fetches g) where
-      none_left : {P : Type 0} → LeavesNothing link hand' link' → P
-      none_left leaves = absurd (let e : Nothing ≡ Fetches g = sym leaves.0 ∙ is_g in cc)
+      none_left : {P : Type 0} → hand' ≡ Nothing → P
+      none_left left = absurd (let e : Nothing ≡ Fetches g = sym left ∙ is_g in cc)
 
       by_same : (x : Fetching) → hand' ≡ Fetches x → OpensFor (t ∷ before) x.claim x.job.run x.rest → Opens (t ∷ before) g
       by_same x is opens =
@@ -530,7 +530,7 @@ module _ (stay : DownloadsStay) (lengths_stay : LengthsStay) (start : RunStart) 
 
       by_kept : (d : Fetching) (left : ℕ) (last : Bool) → d.left ≡ left → FollowsKept tells d last link hand' link'
           → OpensFor (t ∷ before) d.claim d.job.run d.rest → Opens (t ∷ before) g
-      by_kept d left true is follows opens = none_left follows
+      by_kept d left true is follows opens = none_left follows.0
       by_kept d zero false is follows opens =
           let leaves = subst (λ k. goes_on_by tells d k link hand' link') is follows in by_same d leaves.0 opens
       by_kept d (suc left) false is follows opens =
@@ -542,14 +542,14 @@ module _ (stay : DownloadsStay) (lengths_stay : LengthsStay) (start : RunStart) 
       by_delivery f run bytes last now (said.Kept counted repeated) is op at_first opens follows =
           by_kept (delivered f run bytes) f.left last refl follows
           (delivered_opens f run bytes now op opens at_first (counted_so f.claim run bytes now op counted repeated is))
-      by_delivery f run bytes last now answer is op at_first opens follows = none_left follows
+      by_delivery f run bytes last now answer is op at_first opens follows = none_left follows.0
 
       by_more : (f : Fetching) (now : Moment) (want : ℕ) (answer : Said) → t.op ≡ operation.More f.claim want now → Opens before f
           → FollowsMore tells f answer link hand' link' → Opens (t ∷ before) g
       by_more f now want (said.Allow bytes) op opens follows =
           by_steps (allowing f bytes) follows (more_opens f want now op opens)
       by_more f now want (said.Hold ms) op opens follows = by_same f follows.0 (more_opens f want now op opens)
-      by_more f now want answer op opens follows = none_left follows
+      by_more f now want answer op opens follows = none_left follows.0
 
       by_fetch : (turns : List RunTurn) (f : Fetching) (gained : Gain) (worker : ℕ) (now : Moment) (answer : Said) → f.gain ≡ gained
           → t.answer.said ≡ answer → t.op ≡ fetch_op worker f now gained → StandsBehind tells first turns (Fetches f) link
@@ -558,21 +558,21 @@ module _ (stay : DownloadsStay) (lengths_stay : LengthsStay) (start : RunStart) 
           let at = stands.held.at (λ opened. let e : gain.Ready run bytes last ≡ gain.Open = sym is ∙ opened in cc) in
           let ready = (subst (λ (x : Gain). IsGain tells f link x) is at.gain).0 in
           by_delivery f run bytes last now answer answered op ready.first opens follows
-      by_fetch turns f (gain.Lost loss mark) worker now answer is answered op stands opens follows = none_left follows
+      by_fetch turns f (gain.Lost loss mark) worker now answer is answered op stands opens follows = none_left follows.0
       by_fetch turns f gain.Open worker now answer is answered op stands opens follows =
           by_more f now _ answer op opens follows
-      by_fetch turns f gain.Starved worker now answer is answered op stands opens follows = none_left follows
+      by_fetch turns f gain.Starved worker now answer is answered op stands opens follows = none_left follows.0
 
       pub opens_next : (turns : List RunTurn) (worker : ℕ) (moment : Moment) (hand : Hand) (answer : Said) → t.answer.said ≡ answer
           → t.op ≡ due_op worker hand moment → StandsBehind tells first turns hand link
           → FollowsAnswer tells hand answer link hand' link' → ((f : Fetching) → hand ≡ Fetches f → Opens before f)
           → Opens (t ∷ before) g
       opens_next turns worker moment Nothing (said.Grant granted) is op stands follows opens = by_grant granted is follows
-      opens_next turns worker moment Nothing answer is op stands follows opens = none_left follows
+      opens_next turns worker moment Nothing answer is op stands follows opens = none_left follows.0
       opens_next turns worker moment (Probes p) (said.Grant granted) is op stands follows opens = by_grant granted is follows
-      opens_next turns worker moment (Probes p) answer is op stands follows opens = none_left follows
+      opens_next turns worker moment (Probes p) answer is op stands follows opens = none_left follows.0
       opens_next turns worker moment (Seals sg sealed) (said.Grant granted) is op stands follows opens = by_grant granted is follows
-      opens_next turns worker moment (Seals sg sealed) answer is op stands follows opens = none_left follows
+      opens_next turns worker moment (Seals sg sealed) answer is op stands follows opens = none_left follows.0
       opens_next turns worker moment (Fetches f) (said.Grant granted) is op stands follows opens = by_grant granted is follows
       opens_next turns worker moment (Fetches f) answer is op stands follows opens =
           by_fetch turns f f.gain worker moment answer refl is op stands (opens f refl) follows

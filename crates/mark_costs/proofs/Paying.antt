@@ -4,12 +4,13 @@ use Rattle.std.specs.Prelude.{Contains, ◌==◌, ◌&&◌}
 use Rattle.std.proofs.lemmas.Bool.{eq-eqb, eqb-true, false≢true}
 use Rattle.std.proofs.lemmas.Option.{none-some}
 use Rattle.conn_worker.specs.Facts.{IsFetchingAt, IsGain, HasUsed, TellsRest}
-use Rattle.conn_worker.specs.Hands.{Fetching, Hand, Nothing, Fetches, Probes, Seals, LinkAt, Probing, allowing, begun_fetch, delivered}
-use Rattle.conn_worker.specs.Table.{FollowsAnswer, FollowsDelivery, FollowsFetch, FollowsGrant, FollowsKept, FollowsMore, LeavesFetch, LeavesNothing, StepsOn, due_op, fetch_op, goes_on_by, probe_op}
+use Rattle.conn_worker.specs.Hands.{Fetching, Hand, Nothing, Fetches, Probes, Seals, IsLeftAlone, LinkAt, Probing, allowing, begun_fetch, delivered}
+use Rattle.conn_worker.specs.Table.{FollowsAnswer, FollowsDelivery, FollowsFetch, FollowsGrant, FollowsKept, FollowsMore, LeavesFetch, StepsOn, due_op, fetch_op, goes_on_by, probe_op}
 use Rattle.conn_worker.specs.declared.hands.Gain.{Gain}
 use Rattle.conn_worker.specs.declared.hands.Gain.TheVariants as gain
 use Rattle.conn_worker.specs.declared.hands.ProbeEnd.{ProbeEnd}
 use Rattle.conn_worker.specs.declared.hands.ProbeEnd.TheVariants as probe_end
+use Rattle.conn_worker.proofs.Allowing.{LeavesLink, is_closed, stays_open}
 use Rattle.dl_history.proofs.Bools.{and_both, and_left, and_right, true_not_false}
 use Rattle.dl_kinds.specs.Plan.{piece_of}
 use Rattle.dl_kinds.specs.declared.gid.Gid.{Gid}
@@ -260,11 +261,17 @@ module _ (laws : PayingLaws) (tells : Bool) (true_is : IsTrue tells) (first : Li
         λ fed. subst (λ (l : LinkAt). Told d l) (sym leaves.1) told,
       )
 
+  -- nothing is used where the link is left alone
+  used_alone : (link link' : LinkAt) → IsLeftAlone tells link link' → used_at link' ≡ used_at link
+  used_alone link link' (inl same) = ap used_at same
+  used_alone link link' (inr hung) = ap (λ (s : LinkState). used_among among s.content) (hung.state true_is)
+
   nothing_pays : (n : ℕ) (link : LinkAt) (hand' : Hand) (link' : LinkAt) → n + used_at first ≤ used_at link
-      → LeavesNothing link hand' link' → HandPays n hand' link'
+      → LeavesLink tells link hand' link' → HandPays n hand' link'
   nothing_pays n link hand' link' few leaves =
+      let same = used_alone link link' leaves.1 in
       subst (λ (h : Hand). HandPays n h link') (sym leaves.0)
-      (subst (λ (l : LinkAt). n + used_at first ≤ used_at l) (sym leaves.1) few)
+      (let e : n + used_at first ≤ used_at link' = omega (arith, few, same) in e)
 
   grant_pays : (n : ℕ) (granted : Grant) (link : LinkAt) (hand' : Hand) (link' : LinkAt) → n + used_at first ≤ used_at link
       → FollowsGrant tells granted link hand' link' → HandPays n hand' link'
@@ -284,7 +291,8 @@ module _ (laws : PayingLaws) (tells : Bool) (true_is : IsTrue tells) (first : Li
   kept_pays : (n : ℕ) (d : Fetching) (left : ℕ) (last : Bool) (link : LinkAt) (hand' : Hand) (link' : LinkAt) → d.left ≡ left
       → n + used_at first ≤ used_at link → PaysBy n d.job d.since d.handed → Told d link
       → FollowsKept tells d last link hand' link' → HandPays n hand' link'
-  kept_pays n d left true link hand' link' is few pays told follows = nothing_pays n link hand' link' few follows
+  kept_pays n d left true link hand' link' is few pays told follows =
+      nothing_pays n link hand' link' few (stays_open tells link hand' link' follows)
   kept_pays n d zero false link hand' link' is few pays told follows =
       leaves_pay n d link hand' link' pays told (subst (λ k. goes_on_by tells d k link hand' link') is follows)
   kept_pays n d (suc left) false link hand' link' is few pays told follows =
@@ -295,7 +303,8 @@ module _ (laws : PayingLaws) (tells : Bool) (true_is : IsTrue tells) (first : Li
       → FollowsDelivery tells d last answer link hand' link' → HandPays n hand' link'
   delivery_pays n d last (said.Kept counted repeated) link hand' link' few pays told follows =
       kept_pays n d d.left last link hand' link' refl few pays told follows
-  delivery_pays n d last answer link hand' link' few pays told follows = nothing_pays n link hand' link' few follows
+  delivery_pays n d last answer link hand' link' few pays told follows =
+      nothing_pays n link hand' link' few (is_closed tells link hand' link' follows)
 
   more_pays : (n : ℕ) (f : Fetching) (answer : Said) (link : LinkAt) (hand' : Hand) (link' : LinkAt)
       → n + used_at first ≤ used_at link → PaysBy n f.job f.since f.handed → Told f link
@@ -303,7 +312,8 @@ module _ (laws : PayingLaws) (tells : Bool) (true_is : IsTrue tells) (first : Li
   more_pays n f (said.Allow bytes) link hand' link' few pays told follows =
       steps_pay n (allowing f bytes) hand' link' pays follows
   more_pays n f (said.Hold ms) link hand' link' few pays told follows = leaves_pay n f link hand' link' pays told follows
-  more_pays n f answer link hand' link' few pays told follows = nothing_pays n link hand' link' few follows
+  more_pays n f answer link hand' link' few pays told follows =
+      nothing_pays n link hand' link' few (is_closed tells link hand' link' follows)
 
   fetch_pays : (n : ℕ) (f : Fetching) (g : Gain) (answer : Said) (link : LinkAt) (hand' : Hand) (link' : LinkAt) → f.gain ≡ g
       → n + used_at first ≤ used_at link → DuePays n f g → Told f link
@@ -317,17 +327,21 @@ module _ (laws : PayingLaws) (tells : Bool) (true_is : IsTrue tells) (first : Li
   fetch_pays n f gain.Open answer link hand' link' is few pays told follows =
       more_pays n f answer link hand' link' few pays told follows
   fetch_pays n f (gain.Lost loss mark) answer link hand' link' is few pays told follows =
-      nothing_pays n link hand' link' few follows
-  fetch_pays n f gain.Starved answer link hand' link' is few pays told follows = nothing_pays n link hand' link' few follows
+      nothing_pays n link hand' link' few (stays_open tells link hand' link' follows)
+  fetch_pays n f gain.Starved answer link hand' link' is few pays told follows =
+      nothing_pays n link hand' link' few (stays_open tells link hand' link' follows)
 
   pub next_pays : (n : ℕ) (hand : Hand) (answer : Said) (link : LinkAt) (hand' : Hand) (link' : LinkAt) → TurnPays n hand link
       → FollowsAnswer tells hand answer link hand' link' → HandPays n hand' link'
   next_pays n Nothing (said.Grant granted) link hand' link' few follows = grant_pays n granted link hand' link' few follows
-  next_pays n Nothing answer link hand' link' few follows = nothing_pays n link hand' link' few follows
+  next_pays n Nothing answer link hand' link' few follows =
+      nothing_pays n link hand' link' few (is_closed tells link hand' link' follows)
   next_pays n (Probes p) (said.Grant granted) link hand' link' few follows = grant_pays n granted link hand' link' few follows
-  next_pays n (Probes p) answer link hand' link' few follows = nothing_pays n link hand' link' few follows
+  next_pays n (Probes p) answer link hand' link' few follows =
+      nothing_pays n link hand' link' few (stays_open tells link hand' link' follows)
   next_pays n (Seals g sealed) (said.Grant granted) link hand' link' few follows = grant_pays n granted link hand' link' few follows
-  next_pays n (Seals g sealed) answer link hand' link' few follows = nothing_pays n link hand' link' few follows
+  next_pays n (Seals g sealed) answer link hand' link' few follows =
+      nothing_pays n link hand' link' few (stays_open tells link hand' link' follows)
   next_pays n (Fetches f) (said.Grant granted) link hand' link' pays follows = grant_pays n granted link hand' link' pays.0 follows
   next_pays n (Fetches f) answer link hand' link' pays follows =
       fetch_pays n f f.gain answer link hand' link' refl pays.0 pays.1 pays.2 follows

@@ -2,7 +2,7 @@
 use Rattle.std.proofs.Common.{◌≤◌, arith, ◌≡◌, ◌∷◌, ◌++◌, ⊎_elim, inl, inr, ℕ, Bool, false, List, [], refl, sym, ap, subst, ◌∙◌, append_assoc}
 use Rattle.std.proofs.lemmas.Bool.{false≢true}
 use Rattle.link_source.specs.Exchanges.{Exchange}
-use Rattle.link_source.specs.Link.{LinkState}
+use Rattle.link_source.specs.Link.{LinkState, closed}
 use Rattle.link_source.specs.Mirrors.{Content}
 use Rattle.memory_serving_laws.specs.Alike.{AnswersKeepMirrors}
 use Rattle.memory_serving_laws.specs.Laws.{CleanMirrorsUseNone}
@@ -21,6 +21,10 @@ gave_on old (stream ∷ top) others between new first then =
 
 pub answered_same : (a : LinkState) → HasAnswered a a
 answered_same a = record { top = []; on_top = refl; gave = refl }
+
+-- a link that is hung up has what it had
+pub answered_closed : (a b : LinkState) → HasAnswered a b → HasAnswered a (closed b)
+answered_closed a b has = record { top = has.top; on_top = has.on_top; gave = has.gave }
 
 pub answered_on : (a b c : LinkState) → HasAnswered a b → HasAnswered b c → HasAnswered a c
 answered_on a b c first then = record {

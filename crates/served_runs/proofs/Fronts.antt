@@ -20,7 +20,7 @@ use Rattle.span_map.specs.declared.jobs.Job.{Job}
 use Rattle.span_map.specs.declared.jobs.JobPart.{JobPart}
 use Rattle.conn_worker.specs.Facts.{HasUsed, IsFetchingAt, IsGain}
 use Rattle.conn_worker.specs.Hands.{Fetching, Hand, Fetches, Probes, LinkAt, Probing, WorkerAt, allowing, delivered}
-use Rattle.conn_worker.specs.Table.{FollowsAnswer, FollowsDelivery, FollowsFetch, FollowsGrant, FollowsKept, FollowsMore, LeavesFetch, LeavesNothing, StepsOn, end_behind, end_of_gain, end_of_hand, goes_on_by}
+use Rattle.conn_worker.specs.Table.{FollowsAnswer, FollowsDelivery, FollowsFetch, FollowsGrant, FollowsKept, FollowsMore, LeavesFetch, StepsOn, end_behind, end_of_gain, end_of_hand, goes_on_by}
 use Rattle.conn_worker.specs.Works.{EndsOrGoesOn, Works}
 use Rattle.conn_worker.specs.declared.ends.WorkEnd.{WorkEnd}
 use Rattle.conn_worker.specs.declared.ends.WorkEnd.TheVariants.{NoMemory}
@@ -28,6 +28,7 @@ use Rattle.conn_worker.specs.declared.hands.Gain.{Gain}
 use Rattle.conn_worker.specs.declared.hands.Gain.TheVariants as gain
 use Rattle.served_runs.specs.Answering.{HasAnswered}
 use Rattle.served_runs.proofs.Answered.{answered_same}
+use Rattle.conn_worker.proofs.Allowing.{LeavesLink, is_closed, stays_open}
 use Rattle.served_runs.proofs.Working.{StandsBehind, ended_or_on, grant_held, nothing_held, work_reaches}
 
 -- ---- a list and its front
@@ -91,7 +92,7 @@ module _ (tells : Bool) (told : IsTrue tells) where
         (work_reaches tells link worker [] ts m b end stands) goes told)
 
     pub left_nothing : (link : LinkAt) (ts : List RunTurn) (m b : WorkerAt) (by end : Option WorkEnd)
-        → LeavesNothing link m.hand m.link → Goes ts m b by end → b.link ≡ new → HasAnswered link.state new.state
+        → LeavesLink tells link m.hand m.link → Goes ts m b by end → b.link ≡ new → HasAnswered link.state new.state
     left_nothing link ts m b by end leaves goes is =
         let_go link ts m b by end (nothing_held tells link [] link m.hand m.link (λ t. answered_same link.state) leaves) goes is
 
@@ -171,7 +172,8 @@ module _ (tells : Bool) (told : IsTrue tells) where
           → FollowsKept tells d last link m.hand m.link → Goes ts m b (end_of_hand m.hand) end → b.link ≡ new
           → (end ≡ Some NoMemory → ⊥) → IsFront all d.handed
       kept d left true link ts m b end is opened of behind follows goes new_is some =
-          front_of_due all d.gain d.handed (front_at d link of (left_nothing link ts m b (end_of_hand m.hand) end follows goes new_is))
+          front_of_due all d.gain d.handed (front_at d link of (left_nothing link ts m b (end_of_hand m.hand) end
+          (stays_open tells link m.hand m.link follows) goes new_is))
       kept d zero false link ts m b end is opened of behind follows goes new_is some =
           waits d link ts m b end opened of behind (subst (λ n. goes_on_by tells d n link m.hand m.link) is follows) goes
       kept d (suc left) false link ts m b end is opened of behind follows goes new_is some =
@@ -186,7 +188,8 @@ module _ (tells : Bool) (told : IsTrue tells) where
           kept d d.left last link ts m b end refl opened of behind follows goes new_is some
       delivery d last answer link ts m b end opened of behind follows goes new_is some =
           front_of_due all d.gain d.handed
-          (front_at d link of (left_nothing link ts m b (end_behind answer m.hand) end follows goes new_is))
+          (front_at d link of (left_nothing link ts m b (end_behind answer m.hand) end
+          (is_closed tells link m.hand m.link follows) goes new_is))
 
       more : (f : Fetching) (answer : Said) (link : LinkAt) (ts : List RunTurn) (m b : WorkerAt) (end : Option WorkEnd)
           → f.gain ≡ gain.Open → IsOf f link → Behind ts m b end → FollowsMore tells f answer link m.hand m.link
@@ -197,7 +200,8 @@ module _ (tells : Bool) (told : IsTrue tells) where
           waits f link ts m b end opened of behind follows goes
       more f answer link ts m b end opened of behind follows goes new_is some =
           front_of_due all f.gain f.handed
-          (front_at f link of (left_nothing link ts m b (end_behind answer m.hand) end follows goes new_is))
+          (front_at f link of (left_nothing link ts m b (end_behind answer m.hand) end
+          (is_closed tells link m.hand m.link follows) goes new_is))
 
       -- one turn
       fetch_by : (f : Fetching) (gained : Gain) (answer : Said) (link : LinkAt) (ts : List RunTurn) (m b : WorkerAt)
@@ -215,12 +219,14 @@ module _ (tells : Bool) (told : IsTrue tells) where
           }) behind follows goes new_is some
       fetch_by f (gain.Lost loss mark) answer link ts m b end is of behind follows goes new_is some =
           front_of_due all f.gain f.handed
-          (front_at f link of (left_nothing link ts m b (end_behind answer m.hand) end follows goes new_is))
+          (front_at f link of (left_nothing link ts m b (end_behind answer m.hand) end
+          (stays_open tells link m.hand m.link follows) goes new_is))
       fetch_by f gain.Open answer link ts m b end is of behind follows goes new_is some =
           more f answer link ts m b end is of behind follows goes new_is some
       fetch_by f gain.Starved answer link ts m b end is of behind follows goes new_is some =
           front_of_due all f.gain f.handed
-          (front_at f link of (left_nothing link ts m b (end_behind answer m.hand) end follows goes new_is))
+          (front_at f link of (left_nothing link ts m b (end_behind answer m.hand) end
+          (stays_open tells link m.hand m.link follows) goes new_is))
 
       turn_by : (f : Fetching) (t : RunTurn) (answer : Said) (link : LinkAt) (ts : List RunTurn) (m b : WorkerAt)
           (end : Option WorkEnd) → t.answer.said ≡ answer → IsOf f link → Behind ts m b end
@@ -255,12 +261,13 @@ module _ (tells : Bool) (told : IsTrue tells) where
     lost_goes f loss mark t (said.Grant granted) link ts m b by end lost is follows goes new_is =
         granted_next link t granted ts m b by end is follows goes new_is
     lost_goes f loss mark t answer link ts m b by end lost is follows goes new_is =
-        left_nothing link ts m b by end
-        (subst (λ (g : Gain). FollowsFetch tells f g answer link m.hand m.link) lost follows) goes new_is
+        left_nothing link ts m b by end (stays_open tells link m.hand m.link
+        (subst (λ (g : Gain). FollowsFetch tells f g answer link m.hand m.link) lost follows)) goes new_is
 
     pub missed_goes : (p : Probing) (t : RunTurn) (answer : Said) (link : LinkAt) (ts : List RunTurn) (m b : WorkerAt)
         (by end : Option WorkEnd) → t.answer.said ≡ answer → FollowsAnswer tells (Probes p) answer link m.hand m.link
         → Goes ts m b by end → b.link ≡ new → HasAnswered link.state new.state
     missed_goes p t (said.Grant granted) link ts m b by end is follows goes new_is =
         granted_next link t granted ts m b by end is follows goes new_is
-    missed_goes p t answer link ts m b by end is follows goes new_is = left_nothing link ts m b by end follows goes new_is
+    missed_goes p t answer link ts m b by end is follows goes new_is =
+        left_nothing link ts m b by end (stays_open tells link m.hand m.link follows) goes new_is

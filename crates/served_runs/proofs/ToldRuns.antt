@@ -1,5 +1,5 @@
 -- The turns of a run, newest first, as its disk tells of them.
-use Rattle.std.proofs.Common.{◌≡◌, ℕ, List, [], ◌∷◌, ◌++◌, refl, sym, ap, ◌∙◌, subst, arith}
+use Rattle.std.proofs.Common.{◌≡◌, ℕ, List, [], ◌∷◌, ◌++◌, refl, sym, ap, ◌∙◌, arith}
 use Rattle.std.specs.Prelude.{IsTrue, reverse}
 use Rattle.std.proofs.lemmas.List.{reverse-append, reverse-reverse}
 use Rattle.blameless_mirrors.specs.Blameless.{FollowsMark, IsToldRun}
@@ -8,7 +8,7 @@ use Rattle.dl_disk.specs.declared.disk.Disk.{Ghosts as DiskSays}
 use Rattle.dl_kinds.specs.declared.outside.Sink.{Ghosts as SinkSays}
 use Rattle.engine_core.specs.TurnReads.{FitsDisk}
 use Rattle.engine_turns.specs.RunTurns.{MayComeAfter}
-use Rattle.engine_turns.specs.Told.{AllTurns, RunTurn}
+use Rattle.engine_turns.specs.Told.{RunTurn}
 use Rattle.run_lifecycle.proofs.Ran.{fits, goes_on, last_time, legal_told, mark, mark_time, marked, may_come}
 use Rattle.run_lifecycle.proofs.Turns.{all_reversed, mark_on, reversed_cut}
 use Rattle.run_lifecycle.specs.Finishes.{Ran}

@@ -15,20 +15,21 @@ use Rattle.engine_turns.specs.declared.operations.Operation.{Operation}
 use Rattle.engine_turns.specs.declared.operations.Operation.TheVariants as operation
 use Rattle.engine_turns.specs.declared.operations.Said.{Said}
 use Rattle.engine_turns.specs.declared.operations.Said.TheVariants as said
+use Rattle.link_source.specs.Link.{LinkState}
 use Rattle.reply_reader.specs.declared.loss.Loss.{Loss}
 use Rattle.conn_worker.specs.Facts.{IsFetchingAt, IsProbingAt}
-use Rattle.conn_worker.specs.Hands.{Fetching, Hand, Nothing, Fetches, Probes, Seals, LinkAt, Probing, WorkerAt, allowing, begun_fetch, delivered, fresh}
+use Rattle.conn_worker.specs.Hands.{Fetching, Hand, Nothing, Fetches, Probes, Seals, IsLeftAlone, LinkAt, Probing, WorkerAt, allowing, begun_fetch, delivered, fresh}
 use Rattle.conn_worker.specs.Sound.{NoGrant}
-use Rattle.conn_worker.specs.Table.{FollowsAnswer, FollowsDelivery, FollowsFetch, FollowsGrant, FollowsKept, FollowsMore, LeavesFetch, LeavesNothing, StepsOn, due_op, end_behind, fetch_op, goes_on_by, probe_op}
+use Rattle.conn_worker.specs.Table.{FollowsAnswer, FollowsDelivery, FollowsFetch, FollowsGrant, FollowsKept, FollowsMore, LeavesFetch, StepsOn, due_op, end_behind, fetch_op, goes_on_by, probe_op}
 use Rattle.conn_worker.specs.Works.{EndsOrGoesOn, Works, turn_moment}
 use Rattle.conn_worker.specs.declared.ends.WorkEnd.{WorkEnd}
 use Rattle.conn_worker.specs.declared.hands.Gain.{Gain}
 use Rattle.conn_worker.specs.declared.hands.Gain.TheVariants.{Lost, Open, Ready, Starved}
 use Rattle.conn_worker.specs.declared.hands.ProbeEnd.{ProbeEnd}
 use Rattle.conn_worker.specs.declared.hands.ProbeEnd.TheVariants.{Told, Missed, Lacking}
-use Rattle.conn_worker.proofs.Allowing.{fetch_followed, nothing_followed, probe_followed, seal_followed}
+use Rattle.conn_worker.proofs.Allowing.{LeavesLink, fetch_followed, is_closed, nothing_followed, probe_followed, seal_followed, stays_open}
 use Rattle.served_runs.specs.Answering.{HasAnswered, WorkIsAnswered}
-use Rattle.served_runs.proofs.Answered.{answered_by, answered_on, answered_same}
+use Rattle.served_runs.proofs.Answered.{answered_by, answered_closed, answered_on, answered_same}
 
 -- ---- what is in hand
 
@@ -124,16 +125,22 @@ module _ (tells : Bool) (first : LinkAt) where
         held = record { of_grant = o; at = λ closed. absurd (closed opened) };
       })
 
+  pub reached_alone : (now link' : LinkAt) → Reached now → IsLeftAlone tells now link' → Reached link'
+  reached_alone now link' reached (inl same) = subst Reached (sym same) reached
+  reached_alone now link' reached (inr hung) = λ told. subst (λ (s : LinkState). HasAnswered first.state s)
+      (sym (hung.state told)) (answered_closed first.state now.state (reached told))
+
   pub nothing_held : (turns : List RunTurn) (now : LinkAt) (hand' : Hand) (link' : LinkAt) → Reached now
-      → LeavesNothing now hand' link' → StandsBehind turns hand' link'
+      → LeavesLink tells now hand' link' → StandsBehind turns hand' link'
   nothing_held turns now hand' link' reached leaves =
       subst (λ (h : Hand). StandsBehind turns h link') (sym leaves.0)
-      (record { reached = subst Reached (sym leaves.1) reached; held = tt })
+      (record { reached = reached_alone now link' reached leaves.1; held = tt })
 
   kept_held : (turns : List RunTurn) (d : Fetching) (left : ℕ) (last : Bool) (now : LinkAt) (hand' : Hand) (link' : LinkAt)
       → d.left ≡ left → d.gain ≡ Open → OfGrant turns d → Reached now → FollowsKept tells d last now hand' link'
       → StandsBehind turns hand' link'
-  kept_held turns d left true now hand' link' is opened o reached kept = nothing_held turns now hand' link' reached kept
+  kept_held turns d left true now hand' link' is opened o reached kept =
+      nothing_held turns now hand' link' reached (stays_open tells now hand' link' kept)
   kept_held turns d zero false now hand' link' is opened o reached kept =
       waits_held turns d now hand' link' opened o reached (subst (λ n. goes_on_by tells d n now hand' link') is kept)
   kept_held turns d (suc left) false now hand' link' is opened o reached kept =
@@ -144,7 +151,8 @@ module _ (tells : Bool) (first : LinkAt) where
       → StandsBehind turns hand' link'
   delivery_held turns d last (said.Kept counted repeated) now hand' link' opened o reached is =
       kept_held turns d d.left last now hand' link' refl opened o reached is
-  delivery_held turns d last answer now hand' link' opened o reached is = nothing_held turns now hand' link' reached is
+  delivery_held turns d last answer now hand' link' opened o reached is =
+      nothing_held turns now hand' link' reached (is_closed tells now hand' link' is)
 
   more_held : (turns : List RunTurn) (f : Fetching) (answer : Said) (now : LinkAt) (hand' : Hand) (link' : LinkAt)
       → f.gain ≡ Open → OfGrant turns f → Reached now → FollowsMore tells f answer now hand' link'
@@ -153,7 +161,8 @@ module _ (tells : Bool) (first : LinkAt) where
       steps_held turns (allowing f bytes) hand' link' (same_of turns f (allowing f bytes) o refl refl refl) is
   more_held turns f (said.Hold ms) now hand' link' opened o reached is =
       waits_held turns f now hand' link' opened o reached is
-  more_held turns f answer now hand' link' opened o reached is = nothing_held turns now hand' link' reached is
+  more_held turns f answer now hand' link' opened o reached is =
+      nothing_held turns now hand' link' reached (is_closed tells now hand' link' is)
 
   fetch_held : (turns : List RunTurn) (t : RunTurn) (f : Fetching) (gain : Gain) (now : LinkAt) (hand' : Hand)
       (link' : LinkAt) → f.gain ≡ gain → OfGrant turns f → Reached now
@@ -162,11 +171,11 @@ module _ (tells : Bool) (first : LinkAt) where
       delivery_held (turns ++ t ∷ []) (delivered f run bytes) last t.answer.said now hand' link' refl
       (later_of turns t f (delivered f run bytes) o refl refl refl) reached follows
   fetch_held turns t f (Lost loss mark) now hand' link' is o reached follows =
-      nothing_held (turns ++ t ∷ []) now hand' link' reached follows
+      nothing_held (turns ++ t ∷ []) now hand' link' reached (stays_open tells now hand' link' follows)
   fetch_held turns t f Open now hand' link' is o reached follows =
       more_held (turns ++ t ∷ []) f t.answer.said now hand' link' is (later_of turns t f f o refl refl refl) reached follows
   fetch_held turns t f Starved now hand' link' is o reached follows =
-      nothing_held (turns ++ t ∷ []) now hand' link' reached follows
+      nothing_held (turns ++ t ∷ []) now hand' link' reached (stays_open tells now hand' link' follows)
 
   pub grant_held : (turns : List RunTurn) (t : RunTurn) (granted : Grant) (now : LinkAt) (hand' : Hand) (link' : LinkAt)
       → t.answer.said ≡ said.Grant granted → Reached now → FollowsGrant tells granted now hand' link'
@@ -204,16 +213,16 @@ module _ (tells : Bool) (first : LinkAt) where
       → StandsBehind (turns ++ t ∷ []) hand' link'
   still_held turns t Nothing now hand' link' none follows s =
       nothing_held (turns ++ t ∷ []) now hand' link' s.reached
-      (nothing_followed tells t.answer.said now hand' link' none follows)
+      (is_closed tells now hand' link' (nothing_followed tells t.answer.said now hand' link' none follows))
   still_held turns t (Fetches f) now hand' link' none follows s =
       fetch_held turns t f f.gain now hand' link' refl s.held.of_grant s.reached
       (fetch_followed tells f t.answer.said now hand' link' none follows)
   still_held turns t (Probes p) now hand' link' none follows s =
       nothing_held (turns ++ t ∷ []) now hand' link' s.reached
-      (probe_followed tells p t.answer.said now hand' link' none follows)
+      (stays_open tells now hand' link' (probe_followed tells p t.answer.said now hand' link' none follows))
   still_held turns t (Seals gid sealed) now hand' link' none follows s =
       nothing_held (turns ++ t ∷ []) now hand' link' s.reached
-      (seal_followed tells gid sealed t.answer.said now hand' link' none follows)
+      (stays_open tells now hand' link' (seal_followed tells gid sealed t.answer.said now hand' link' none follows))
 
   grant_followed : (hand : Hand) (granted : Grant) (now : LinkAt) (hand' : Hand) (link' : LinkAt)
       → FollowsAnswer tells hand (said.Grant granted) now hand' link' → FollowsGrant tells granted now hand' link'

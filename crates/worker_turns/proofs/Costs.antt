@@ -10,7 +10,7 @@ use Rattle.request_chain.specs.Chains.{Gains, received_by}
 use Rattle.conn_worker.specs.Facts.{IsCarried, IsGain, IsTakenExactly}
 use Rattle.conn_worker.specs.Hands.{Fetching, Hand, Nothing, Fetches, Probes, Seals, LinkAt, allowing, begun_fetch, delivered}
 use Rattle.conn_worker.specs.Sound.{NoGrant}
-use Rattle.conn_worker.specs.Table.{FollowsAnswer, FollowsDelivery, FollowsFetch, FollowsGrant, FollowsKept, FollowsMore, LeavesFetch, LeavesNothing, StepsOn, goes_on_by}
+use Rattle.conn_worker.specs.Table.{FollowsAnswer, FollowsDelivery, FollowsFetch, FollowsGrant, FollowsKept, FollowsMore, LeavesFetch, StepsOn, goes_on_by}
 use Rattle.conn_worker.specs.declared.hands.Gain.{Gain}
 use Rattle.conn_worker.specs.declared.hands.Gain.TheVariants.{Lost, Open, Ready, Starved}
 use Rattle.worker_turns.proofs.Receiving.{received_over}
@@ -91,9 +91,8 @@ steps_measured tells f hand' link' s =
     subst (λ (h : Hand). MeasuredHand tells h link') (sym s.2)
     (gain_measured tells g link' g.gain s.1.at.carried s.1.at.gain)
 
-nothing_measured : (tells : Bool) (link : LinkAt) (hand' : Hand) (link' : LinkAt) → LeavesNothing link hand' link'
-    → MeasuredHand tells hand' link'
-nothing_measured tells link hand' link' leaves = subst (λ (h : Hand). MeasuredHand tells h link') (sym leaves.0) tt
+nothing_measured : (tells : Bool) (hand' : Hand) (link' : LinkAt) → hand' ≡ Nothing → MeasuredHand tells hand' link'
+nothing_measured tells hand' link' left = subst (λ (h : Hand). MeasuredHand tells h link') (sym left) tt
 
 waits_measured : (tells : Bool) (f : Fetching) (link : LinkAt) (hand' : Hand) (link' : LinkAt) → f.gain ≡ Open
     → IsMeasured tells f link → (IsTrue tells → f.left ≡ 0) → LeavesFetch f link hand' link'
@@ -106,7 +105,7 @@ waits_measured tells f link hand' link' opened is none leaves =
 kept_measured : (tells : Bool) (d : Fetching) (left : ℕ) (last : Bool) (link : LinkAt) (hand' : Hand) (link' : LinkAt)
     → d.left ≡ left → d.gain ≡ Open → IsMeasured tells d link → FollowsKept tells d last link hand' link'
     → MeasuredHand tells hand' link'
-kept_measured tells d left true link hand' link' is opened measured kept = nothing_measured tells link hand' link' kept
+kept_measured tells d left true link hand' link' is opened measured kept = nothing_measured tells hand' link' kept.0
 kept_measured tells d zero false link hand' link' is opened measured kept =
     waits_measured tells d link hand' link' opened measured (λ told. is)
     (subst (λ n. goes_on_by tells d n link hand' link') is kept)
@@ -118,7 +117,7 @@ delivery_measured : (tells : Bool) (d : Fetching) (last : Bool) (answer : Said) 
     → MeasuredHand tells hand' link'
 delivery_measured tells d last (said.Kept counted repeated) link hand' link' opened measured is =
     kept_measured tells d d.left last link hand' link' refl opened measured is
-delivery_measured tells d last answer link hand' link' opened measured is = nothing_measured tells link hand' link' is
+delivery_measured tells d last answer link hand' link' opened measured is = nothing_measured tells hand' link' is.0
 
 more_measured : (tells : Bool) (f : Fetching) (answer : Said) (link : LinkAt) (hand' : Hand) (link' : LinkAt)
     → f.gain ≡ Open → IsMeasured tells f link → (IsTrue tells → f.left ≡ 0) → FollowsMore tells f answer link hand'
@@ -128,7 +127,7 @@ more_measured tells f (said.Allow bytes) link hand' link' opened measured none i
     steps_measured tells (allowing f bytes) hand' link' is
 more_measured tells f (said.Hold ms) link hand' link' opened measured none is =
     waits_measured tells f link hand' link' opened measured none is
-more_measured tells f answer link hand' link' opened measured none is = nothing_measured tells link hand' link' is
+more_measured tells f answer link hand' link' opened measured none is = nothing_measured tells hand' link' is.0
 
 fetch_measured : (tells : Bool) (f : Fetching) (gain : Gain) (answer : Said) (link : LinkAt) (hand' : Hand)
     (link' : LinkAt) → f.gain ≡ gain → MeasuredBy tells f link gain → FollowsFetch tells f gain answer link hand' link'
@@ -137,11 +136,11 @@ fetch_measured tells f (Ready run bytes last) answer link hand' link' is measure
     delivery_measured tells (delivered f run bytes) last answer link hand' link' refl
     (record { over = measured.over; exact = measured.exact }) follows
 fetch_measured tells f (Lost loss mark) answer link hand' link' is measured follows =
-    nothing_measured tells link hand' link' follows
+    nothing_measured tells hand' link' follows.0
 fetch_measured tells f Open answer link hand' link' is measured follows =
     more_measured tells f answer link hand' link' is measured.0 measured.1 follows
 fetch_measured tells f Starved answer link hand' link' is measured follows =
-    nothing_measured tells link hand' link' follows
+    nothing_measured tells hand' link' follows.0
 
 grant_measured : (tells : Bool) (granted : Grant) (link : LinkAt) (hand' : Hand) (link' : LinkAt)
     → FollowsGrant tells granted link hand' link' → MeasuredHand tells hand' link'
@@ -156,14 +155,14 @@ hand_measured : (tells : Bool) (hand : Hand) (answer : Said) (link : LinkAt) (ha
     → NoGrant answer → MeasuredHand tells hand link → FollowsAnswer tells hand answer link hand' link'
     → MeasuredHand tells hand' link'
 hand_measured tells Nothing answer link hand' link' none measured is =
-    nothing_measured tells link hand' link' (nothing_followed tells answer link hand' link' none is)
+    nothing_measured tells hand' link' (nothing_followed tells answer link hand' link' none is).0
 hand_measured tells (Fetches f) answer link hand' link' none measured is =
     fetch_measured tells f f.gain answer link hand' link' refl measured
     (fetch_followed tells f answer link hand' link' none is)
 hand_measured tells (Probes p) answer link hand' link' none measured is =
-    nothing_measured tells link hand' link' (probe_followed tells p answer link hand' link' none is)
+    nothing_measured tells hand' link' (probe_followed tells p answer link hand' link' none is).0
 hand_measured tells (Seals gid sealed) answer link hand' link' none measured is =
-    nothing_measured tells link hand' link' (seal_followed tells gid sealed answer link hand' link' none is)
+    nothing_measured tells hand' link' (seal_followed tells gid sealed answer link hand' link' none is).0
 
 -- behind each answer
 pub answer_measured : (tells : Bool) (hand : Hand) (answer : Said) (link : LinkAt) (hand' : Hand) (link' : LinkAt)

@@ -7,7 +7,7 @@ use Rattle.engine_turns.specs.declared.operations.Said.TheVariants as said
 use Rattle.verify_piece.specs.Seals.{PieceBytes}
 use Rattle.conn_worker.specs.Hands.{Fetching, Hand, Nothing, Fetches, Probes, Seals, LinkAt, Probing}
 use Rattle.conn_worker.specs.Sound.{NoGrant}
-use Rattle.conn_worker.specs.Table.{FollowsAnswer, FollowsFetch, FollowsGrant, LeavesNothing}
+use Rattle.conn_worker.specs.Table.{FollowsAnswer, FollowsFetch, FollowsGrant, HangsUp, LeavesNothing}
 
 -- by what the answer of a turn leaves of the hand, without a grant
 pub fetch_followed : (tells : Bool) (f : Fetching) (answer : Said) (link : LinkAt) (hand' : Hand) (link' : LinkAt)
@@ -17,7 +17,7 @@ fetch_followed tells f (said.Grant granted) link hand' link' none is = absurd no
 fetch_followed tells f answer link hand' link' none is = is
 
 pub nothing_followed : (tells : Bool) (answer : Said) (link : LinkAt) (hand' : Hand) (link' : LinkAt)
-    → NoGrant answer → FollowsAnswer tells Nothing answer link hand' link' → LeavesNothing link hand' link'
+    → NoGrant answer → FollowsAnswer tells Nothing answer link hand' link' → HangsUp tells link hand' link'
 nothing_followed tells (said.Grant granted) link hand' link' none is = absurd none
 nothing_followed tells answer link hand' link' none is = is
 

@@ -5,8 +5,9 @@ use Rattle.engine_turns.specs.declared.operations.Grant.{Grant}
 use Rattle.engine_turns.specs.declared.operations.Grant.TheVariants as grant
 use Rattle.engine_turns.specs.declared.operations.Said.{Said}
 use Rattle.engine_turns.specs.declared.operations.Said.TheVariants as said
+use Rattle.link_source.specs.Link.{LinkState}
 use Rattle.request_chain.specs.Chains.{received_by}
-use Rattle.conn_worker.specs.Hands.{Fetching, Hand, Nothing, Fetches, Probes, Seals, LinkAt, Probing, WorkerAt, allowing, begun_fetch, delivered}
+use Rattle.conn_worker.specs.Hands.{Fetching, Hand, Nothing, Fetches, Probes, Seals, IsHungUp, LinkAt, Probing, WorkerAt, allowing, begun_fetch, delivered}
 use Rattle.conn_worker.specs.Sound.{NoGrant}
 use Rattle.conn_worker.specs.Table.{FollowsAnswer, FollowsDelivery, FollowsFetch, FollowsGrant, FollowsKept, FollowsMore, StepsOn, end_behind, goes_on_by}
 use Rattle.conn_worker.specs.Works.{EndsOrGoesOn, Works}
@@ -25,6 +26,13 @@ goes_so (Some by) Ended Was Is on ended = ended
 same_onward : (link link' : LinkAt) → link' ≡ link → received_over link ≤ received_over link'
 same_onward link link' same =
     (let n : received_over link' ≡ received_over link = ap received_over same in omega (arith, n))
+
+hung_onward : (tells : Bool) (told : IsTrue tells) (link link' : LinkAt) → IsHungUp tells link link'
+    → received_over link ≤ received_over link'
+hung_onward tells told link link' hung =
+    let same : received_over link' ≡ received_over link =
+    ap (λ (s : LinkState). received_by s.exchanges) (hung.state told) in
+    omega (arith, same)
 
 -- a step goes on from what the link received
 steps_onward : (tells : Bool) (told : IsTrue tells) (base : Fetching) (link : LinkAt) (hand' : Hand) (link' : LinkAt)
@@ -52,7 +60,7 @@ delivery_onward : (tells : Bool) (told : IsTrue tells) (d : Fetching) (last : Bo
     → received_over link ≤ received_over link'
 delivery_onward tells told d last (said.Kept counted repeated) link hand' link' measured is =
     kept_onward tells told d last d.left link hand' link' refl measured is
-delivery_onward tells told d last answer link hand' link' measured is = same_onward link link' is.1
+delivery_onward tells told d last answer link hand' link' measured is = hung_onward tells told link link' is.1
 
 more_onward : (tells : Bool) (told : IsTrue tells) (f : Fetching) (answer : Said) (link : LinkAt) (hand' : Hand)
     (link' : LinkAt) → IsMeasured tells f link → FollowsMore tells f answer link hand' link'
@@ -60,7 +68,7 @@ more_onward : (tells : Bool) (told : IsTrue tells) (f : Fetching) (answer : Said
 more_onward tells told f (said.Allow bytes) link hand' link' measured is =
     steps_onward tells told (allowing f bytes) link hand' link' (measured.over told) is
 more_onward tells told f (said.Hold ms) link hand' link' measured is = same_onward link link' is.1
-more_onward tells told f answer link hand' link' measured is = same_onward link link' is.1
+more_onward tells told f answer link hand' link' measured is = hung_onward tells told link link' is.1
 
 fetch_onward : (tells : Bool) (told : IsTrue tells) (f : Fetching) (gain : Gain) (answer : Said) (link : LinkAt)
     (hand' : Hand) (link' : LinkAt) → MeasuredBy tells f link gain → FollowsFetch tells f gain answer link hand' link'
@@ -88,7 +96,7 @@ hand_onward : (tells : Bool) (told : IsTrue tells) (hand : Hand) (answer : Said)
     (link' : LinkAt) → NoGrant answer → MeasuredHand tells hand link → FollowsAnswer tells hand answer link hand' link'
     → received_over link ≤ received_over link'
 hand_onward tells told Nothing answer link hand' link' none measured is =
-    same_onward link link' (nothing_followed tells answer link hand' link' none is).1
+    hung_onward tells told link link' (nothing_followed tells answer link hand' link' none is).1
 hand_onward tells told (Fetches f) answer link hand' link' none measured is =
     fetch_onward tells told f f.gain answer link hand' link' measured
     (fetch_followed tells f answer link hand' link' none is)

@@ -1,91 +1,36 @@
-use Rattle.std.proofs.Common.{ap, sym, subst, arith}
-use Rattle.fetch_session.specs.Fetches.{lost_of}
-use Rattle.conn_worker.specs.Hands.{link_at}
-use Rattle.conn_worker.specs.Holding.{IsStepInHand}
-use Rattle.conn_worker.specs.declared.hands.Gain.{Gain}
-use Rattle.conn_worker.proofs.Steps.{Calls, held_over, lost_since, lost_step, none_held, none_is_held, open_step, ready_step}
+use Rattle.std.proofs.Common.{ap, subst}
+use Rattle.conn_worker.specs.Hands.{Fetching, link_at}
+use Rattle.conn_worker.specs.Holding.{IsPartInHand}
+use Rattle.conn_worker.proofs.Steps.{part_of, read_further, read_once, read_opened}
 use Rattle.conn_worker.proofs.fetching.step.Goals as goal
 
-pub returns-then-got-eq0 : goal.returns-then-got-eq0
-returns-then-got-eq0 g c f m =
-    let links = g.L.Links in
-    let o = c.args.open_fetch in
-    let new = c.step.new.self in
-    let link = link_at links c.args.link.now in
-    let link' = link_at links c.step.new.link in
-    let e = c.step.ensures in
-    let none = none_held (lost_of o.fetch) c.step.result c.in-Ok.got e.held c.in-Ok.is in
-    let calls : Calls links.tells f.since.faults o.fetch new link link' = record {
-      plan = e.plan;
-      rest = e.rest;
-      may = e.may;
-      lost = lost_since (lost_of o.fetch) (lost_of new) f.since.faults link.faults link'.faults
-          m.is.carried.used.later e.cause (none_is_held (lost_of o.fetch) (lost_of new) link.faults link'.faults none) m.is.lost;
-      later = e.later;
-      answered = e.answered;
-    } in
-    open_step links.tells o f new c.in-Ok.got link link' m calls c.in-Ok.ensures.ready c.if-got-eq0.true
-    c.in-Ok.ensures.done c.in-Ok.ensures.held_back
-    (λ t. c.in-Ok.ensures.reads t f.job f.since.state.exchanges f.used f.handed (m.is.fetch t)
-    (m.is.carried.used.gained t))
+pub read_rest-requires : goal.read_rest-requires
+read_rest-requires g c =
+    let m = c.requires.may in
+    let h = c.read-open_fetch.result in
+    let read = read_opened g.L.Links.tells c.min-allow.result m.0 (link_at g.L.Links c.read-open_fetch.new.link) h
+    c.in-Open.is (c.read-open_fetch.ensures m.0 m.1) in
+    record { may = (read.0, read.1.may) }
 
-pub returns-else-got-eq0 : goal.returns-else-got-eq0
-returns-else-got-eq0 g c f m =
+pub returns-in-Open : goal.returns-in-Open
+returns-in-Open g c f m =
     let links = g.L.Links in
-    let o = c.args.open_fetch in
-    let mid = c.step.new.self in
-    let link = link_at links c.args.link.now in
-    let link' = link_at links c.step.new.link in
-    let e = c.step.ensures in
-    let none = none_held (lost_of o.fetch) c.step.result c.in-Ok.got e.held c.in-Ok.is in
-    let calls : Calls links.tells f.since.faults o.fetch mid link link' = record {
-      plan = e.plan;
-      rest = e.rest;
-      may = e.may;
-      lost = lost_since (lost_of o.fetch) (lost_of mid) f.since.faults link.faults link'.faults
-          m.is.carried.used.later e.cause (none_is_held (lost_of o.fetch) (lost_of mid) link.faults link'.faults none) m.is.lost;
-      later = e.later;
-      answered = e.answered;
-    } in
-    let t = c.take_blocks-bytes.ensures in
-    let some = c.if-got-eq0.false in
-    ready_step links.tells o f mid c.take_blocks-bytes.new.self c.in-Ok.got c.take_blocks-bytes.result link link'
-    c.handed_bytes_are_fetched.ensures m calls
-    (record {
-      plan = t.plan;
-      first = t.rest_first;
-      count = t.rest_count;
-      place = t.place;
-      none_ready = t.none_ready;
-      may = λ told. t.may link'.state (e.may told);
-      lost = t.lost;
-      fetch = t.takes;
-    })
-    c.in-Ok.ensures.ready (omega (arith, some)) e.few e.within c.in-Ok.ensures.done t.len c.in-Ok.ensures.held_back
-    (λ told. c.in-Ok.ensures.reads told f.job f.since.state.exchanges f.used f.handed (m.is.fetch told)
-    (m.is.carried.used.gained told))
+    let h = c.read-open_fetch.result in
+    let allow = c.min-allow.result in
+    let between = link_at links c.read-open_fetch.new.link in
+    let link' = link_at links c.read_rest.new.link in
+    let read = read_opened links.tells allow f between h c.in-Open.is (c.read-open_fetch.ensures f m) in
+    let step = c.read_rest.ensures read.0 read.1.may (ap (λ (x : Fetching). x.gain) read.1.same) in
+    subst (λ n. IsPartInHand links.tells n f link' c.read_rest.result)
+    (part_of links.tells c.args.open_fetch f (link_at links c.args.link.now) c.args.part.bytes allow c.min-allow.ensures m)
+    (read_further links.tells allow h.open_fetch f between link' c.read_rest.result read step)
 
-pub returns-in-Err : goal.returns-in-Err
-returns-in-Err g c f m =
+pub returns-in_default : goal.returns-in_default
+returns-in_default g c f m =
     let links = g.L.Links in
-    let o = c.args.open_fetch in
-    let new = c.step.new.self in
-    let link = link_at links c.args.link.now in
-    let link' = link_at links c.step.new.link in
-    let e = c.step.ensures in
-    let held = held_over (lost_of o.fetch) (lost_of new) c.step.result c.in-Err.loss link.faults link'.faults e.held
-    c.in-Err.is c.in-Err.ensures.lost (λ some. ap links.faults (e.untouched some)) in
-    let calls : Calls links.tells f.since.faults o.fetch new link link' = record {
-      plan = e.plan;
-      rest = e.rest;
-      may = e.may;
-      lost = lost_since (lost_of o.fetch) (lost_of new) f.since.faults link.faults link'.faults
-          m.is.carried.used.later e.cause held m.is.lost;
-      later = e.later;
-      answered = e.answered;
-    } in
-    subst (λ (gain : Gain). IsStepInHand links.tells f link'
-    (record { open_fetch = record { claim = o.claim; fetch = new; left = 0 }; gain = gain })) (sym c.gain_of.ensures)
-    (lost_step links.tells o f new c.in-Err.loss link link' m calls c.in-Err.ensures.none_ready c.in-Err.ensures.lost
-    (λ t. c.in-Err.ensures.reads t f.job f.since.state.exchanges f.used f.handed (m.is.fetch t)
-    (m.is.carried.used.gained t)))
+    let h = c.read-open_fetch.result in
+    let allow = c.min-allow.result in
+    let link' = link_at links c.read-open_fetch.new.link in
+    subst (λ n. IsPartInHand links.tells n f link' (record { open_fetch = h.open_fetch; gain = h.gain }))
+    (part_of links.tells c.args.open_fetch f (link_at links c.args.link.now) c.args.part.bytes allow c.min-allow.ensures m)
+    (read_once links.tells allow f link' h.open_fetch h.gain c.in_default.not-Open (c.read-open_fetch.ensures f m))

@@ -3,8 +3,7 @@ use Rattle.engine_turns.specs.declared.operations.Said.{Said}
 use Rattle.conn_worker.specs.Hands.{link_at}
 use Rattle.conn_worker.specs.Holding.{HasOutcome}
 use Rattle.conn_worker.specs.Table.{FollowsDelivery}
-use Rattle.conn_worker.specs.declared.hands.InHand.TheVariants as kept
-use Rattle.conn_worker.proofs.Followed.{leaves, other_delivery}
+use Rattle.conn_worker.proofs.Followed.{other_delivery}
 use Rattle.conn_worker.proofs.following.after_delivery.Goals as goal
 
 pub after_kept-requires : goal.after_kept-requires
@@ -21,5 +20,5 @@ pub returns-in_default : goal.returns-in_default
 returns-in_default g c f d =
     let links = g.L.Links in
     let link = link_at links c.args.link.now in
-    other_delivery links.tells f c.args.last c.args.said.now (kept.Nothing c.into_room.result) link c.in_default.not-Kept
-    (leaves links.tells c.args.open_fetch f c.into_room.result link c.into_room.ensures.may d.is)
+    other_delivery links.tells f c.args.last c.args.said.now c.hang_up.result link (link_at links c.hang_up.new.link)
+    c.in_default.not-Kept c.hang_up.ensures

@@ -6,7 +6,7 @@ use Rattle.conn_worker.specs.Sound.{IsSoundAnswer}
 use Rattle.conn_worker.specs.Table.{FollowsMore}
 use Rattle.conn_worker.specs.declared.hands.Gain.TheVariants.{Open}
 use Rattle.conn_worker.specs.declared.hands.InHand.TheVariants as kept
-use Rattle.conn_worker.proofs.Followed.{held_comes, leaves, other_more}
+use Rattle.conn_worker.proofs.Followed.{held_comes, other_more}
 use Rattle.conn_worker.proofs.following.after_more.Goals as goal
 
 pub allow-requires-clause-asks : goal.allow-requires-clause-asks
@@ -34,6 +34,5 @@ pub returns-in_default : goal.returns-in_default
 returns-in_default g c f a =
     let links = g.L.Links in
     let link = link_at links c.args.link.now in
-    other_more links.tells f c.args.said.now (kept.Nothing c.into_room.result) link c.in_default.not-Allow
-    c.in_default.not-Hold
-    (leaves links.tells c.args.open_fetch f c.into_room.result link c.into_room.ensures.may a.is)
+    other_more links.tells f c.args.said.now c.hang_up.result link (link_at links c.hang_up.new.link)
+    c.in_default.not-Allow c.in_default.not-Hold c.hang_up.ensures

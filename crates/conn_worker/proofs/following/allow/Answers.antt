@@ -1,5 +1,6 @@
 use Rattle.conn_worker.specs.Hands.{link_at}
 use Rattle.conn_worker.proofs.Followed.{allowed_may, stepped_comes}
+use Rattle.conn_worker.proofs.Steps.{part_is_step}
 use Rattle.conn_worker.proofs.following.allow.Goals as goal
 
 pub step-requires-clause-may : goal.step-requires-clause-may
@@ -16,4 +17,5 @@ pub returns : goal.returns
 returns g c f a =
     let links = g.L.Links in
     stepped_comes links.tells _ c.step.result (link_at links c.step.new.link)
-    (c.step.ensures _ (allowed_may links.tells c.args.open_fetch f c.args.bytes (link_at links c.args.link.now) a))
+    (part_is_step links.tells _ _ (link_at links c.step.new.link) c.step.result
+    (c.step.ensures _ (allowed_may links.tells c.args.open_fetch f c.args.bytes (link_at links c.args.link.now) a)))

@@ -1,5 +1,6 @@
 use Rattle.conn_worker.specs.Hands.{begun_fetch, link_at}
 use Rattle.conn_worker.proofs.Followed.{begun_may, stepped_comes}
+use Rattle.conn_worker.proofs.Steps.{part_is_step}
 use Rattle.conn_worker.proofs.following.begin.Goals as goal
 
 pub begin-requires : goal.begin-requires
@@ -24,6 +25,7 @@ returns g c =
     let link = link_at links c.args.link.now in
     let b = c.begin.ensures in
     stepped_comes links.tells (begun_fetch c.args.grant link) c.step.result (link_at links c.step.new.link)
+    (part_is_step links.tells _ (begun_fetch c.args.grant link) (link_at links c.step.new.link) c.step.result
     (c.step.ensures (begun_fetch c.args.grant link)
     (begun_may links.tells c.args.grant c.args.room c.begin.result link c.requires.sound.0 c.requires.room b.fetch b.plan
-    b.rest b.none_ready b.none_lost b.may b.first))
+    b.rest b.none_ready b.none_lost b.may b.first)))

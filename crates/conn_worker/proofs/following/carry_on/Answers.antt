@@ -2,7 +2,7 @@ use Rattle.std.proofs.Common.{subst}
 use Rattle.conn_worker.specs.Hands.{link_at}
 use Rattle.conn_worker.specs.Holding.{IsWaiting}
 use Rattle.conn_worker.specs.declared.hands.Waiting.{Waiting}
-use Rattle.conn_worker.proofs.Followed.{asks_comes, asks_fetch, delivers_comes, delivers_fetch, free_comes}
+use Rattle.conn_worker.proofs.Followed.{asks_comes, asks_fetch, delivers_comes, delivers_fetch, free_comes, wanting_comes}
 use Rattle.conn_worker.proofs.following.carry_on.Goals as goal
 
 pub after_delivery-requires : goal.after_delivery-requires
@@ -30,6 +30,14 @@ returns-in-Free g c hand w =
     let link = link_at links c.args.link.now in
     free_comes links.tells c.in-Free.room hand c.args.said.now link c.requires.none
     (subst (λ (x : Waiting). IsWaiting links.tells x hand link) c.in-Free.is w)
+
+pub returns-in-WantsWork : goal.returns-in-WantsWork
+returns-in-WantsWork g c hand w =
+    let links = g.L.Links in
+    let link = link_at links c.args.link.now in
+    wanting_comes links.tells c.in-WantsWork.room hand c.args.said.now c.hang_up.result link
+    (link_at links c.hang_up.new.link) c.requires.none
+    (subst (λ (x : Waiting). IsWaiting links.tells x hand link) c.in-WantsWork.is w) c.hang_up.ensures
 
 pub returns-in-Delivers : goal.returns-in-Delivers
 returns-in-Delivers g c hand w =

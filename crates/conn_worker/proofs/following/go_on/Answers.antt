@@ -1,6 +1,7 @@
 use Rattle.std.proofs.Common.{arith}
 use Rattle.conn_worker.specs.Hands.{link_at}
 use Rattle.conn_worker.proofs.Followed.{left_comes, spent_comes}
+use Rattle.conn_worker.proofs.Steps.{part_is_step}
 use Rattle.conn_worker.proofs.following.go_on.Goals as goal
 
 pub returns-then-open_fetch-eq0 : goal.returns-then-open_fetch-eq0
@@ -18,4 +19,5 @@ returns g c f m gain =
     let links = g.L.Links in
     let some = c.if-open_fetch-eq0.false in
     left_comes links.tells c.args.open_fetch f c.step.result (link_at links c.args.link.now)
-    (link_at links c.step.new.link) some m (c.step.ensures f m)
+    (link_at links c.step.new.link) some m
+    (part_is_step links.tells _ f (link_at links c.step.new.link) c.step.result (c.step.ensures f m))

@@ -1,11 +1,13 @@
-use Rattle.std.proofs.Common.{◌≡◌, ℕ, Option, Some, refl, sym, ap, subst, ◌∙◌}
+use Rattle.std.proofs.Common.{◌≡◌, ◌-◌, max, ℕ, Option, Some, refl, sym, ap, subst, ◌∙◌}
 use Rattle.std.specs.Option.{option_or}
+use Rattle.dl_kinds.specs.declared.runs.Moment.{Moment}
 use Rattle.engine_turns.specs.declared.operations.Answer.{Answer}
 use Rattle.engine_turns.specs.declared.operations.Said.{Said}
 use Rattle.conn_worker.specs.Clocks.{PausesBy}
 use Rattle.conn_worker.specs.Ends.{moment_behind, pause_of}
 use Rattle.conn_worker.specs.Hands.{WorkerAt, link_at}
 use Rattle.conn_worker.specs.Holding.{StandsAs}
+use Rattle.conn_worker.specs.Parts.{part_behind}
 use Rattle.conn_worker.specs.declared.ends.WorkEnd.{WorkEnd}
 use Rattle.conn_worker.specs.declared.state.WorkState.{WorkState}
 use Rattle.conn_worker.proofs.Asked.{asked_for}
@@ -24,6 +26,7 @@ returns-clause-went g c =
       alloc = old.alloc;
       worker = old.worker;
       moment = c.pause-state.result;
+      part = c.behind-state.result;
       hand = Some c.follow-next.result;
     } in
     let told = c.now-told.result.0 in
@@ -37,10 +40,14 @@ returns-clause-went g c =
       stays = c.with_buffer.ensures;
       op_is = took.op_is;
       said_is = said_is;
-      moment = c.pause-state.ensures.moment ∙ ap (λ (p : Option ℕ). moment_behind now.0 p) c.pause_of.ensures;
+      moment = c.pause-state.ensures.moment ∙ ap (λ (p : Option ℕ). moment_behind now.0 p) c.pause_of-rest.ensures;
       hand = refl {a = new.hand};
       ends = c.end.ensures;
     } in
+    let part : new.part.bytes ≡ part_behind took.turn.answer.said (max told old.moment.0 - old.moment.0) old.part.bytes =
+    c.behind-state.ensures
+    ∙ (ap (λ (m : Moment). part_behind said (m.0 - old.moment.0) old.part.bytes) c.turn_moment-now.ensures
+    ∙ ap (λ (s : Said). part_behind s (max told old.moment.0 - old.moment.0) old.part.bytes) (sym said_is)) in
     let from = c.now-told.new.self in
     let to = c.pause-state.new.clock in
     let link = link_at links c.args.link.now in
@@ -60,9 +67,10 @@ returns-clause-went g c =
             from,
             c.now-told.ensures.reads,
             subst (λ (s : Said). PausesBy clocks from (pause_of s) to) (sym said_is)
-                (subst (λ (p : Option ℕ). PausesBy clocks from p to) c.pause_of.ensures c.pause-state.ensures.clock),
+                (subst (λ (p : Option ℕ). PausesBy clocks from p to) c.pause_of-rest.ensures c.pause-state.ensures.clock),
           );
       worker = refl {a = old.worker};
+      part = part;
       does = λ a st.
           let r = then a st in (
             r.0,
