@@ -1,3 +1,4 @@
+pub mod AheadLemmas
 pub mod BlockLemmas
 pub mod FileLemmas
 pub mod LeafLemmas

@@ -28,7 +28,7 @@ pub(crate) struct ReadPiece {
 
 // Whether these leaves have the hash of a piece.
 #[tactic(auto, unfolding(crate::specs::Pieces::has_hash, crate::specs::Pieces::root_in_file))]
-fn has_hash(job: &RepairJob, leaves: &Hashes, piece: u32) -> bool
+pub(crate) fn has_hash(job: &RepairJob, leaves: &Hashes, piece: u32) -> bool
     requires job { IsRepairJob job.now }
     requires piece { piece < job.now.plan.pieces }
     requires some { 1 ≤ length leaves.now }

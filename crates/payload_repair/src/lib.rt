@@ -2,6 +2,7 @@
 //! by block.
 #![tactic(auto)]
 
+mod ahead;
 mod checking;
 mod counts;
 mod files;

@@ -1,6 +1,7 @@
 // The pieces of a file are checked, and the wrong ones repaired.
-ghost use Rattle.std.specs.Prelude.{◌≡◌, ◌-◌, ◌<◌, ◌≤◌, ℕ, false, length, IsTrue, IfOk, OnOk};
+ghost use Rattle.std.specs.Prelude.{◌≡◌, ◌+◌, ◌-◌, ◌<◌, ◌≤◌, ℕ, false, length, IsTrue, IfOk, OnOk};
 ghost use Rattle.dl_kinds.specs.Causes.{HasCause};
+ghost use Rattle.payload_repair.specs.Ahead.{AreRight};
 ghost use Rattle.payload_repair.specs.Counting.{AreOf};
 ghost use Rattle.payload_repair.specs.Jobs.{hashed, own_bytes, copy_bytes, HasOtherCopy, IsRepairJob};
 ghost use Rattle.payload_repair.specs.Mending.{ChangesPiece, ChangesPieces, PutsPiece, PutsPieces};
@@ -8,6 +9,7 @@ ghost use Rattle.payload_repair.specs.Pieces.{piece_size};
 ghost use Rattle.payload_repair.specs.Placed.{own_content, IsFitted};
 ghost use Rattle.payload_repair.specs.Repairs.{counts_upto, piece_counts};
 
+use crate::ahead::{Ahead, look_ahead};
 use crate::checking::{read_copy, read_piece};
 use crate::counts::Counts;
 use crate::job::RepairJob;
@@ -88,6 +90,57 @@ fn mend_piece<R: Threads + Sync, D: Disk, W: RepairWatch>(
     })
 }
 
+// Goes past a piece that is known to be right, or checks it, and repairs it where it is wrong and the copy has it right.
+fn take_piece<R: Threads + Sync, D: Disk, W: RepairWatch>(
+    rt: &R,
+    alloc: Global,
+    disk: &mut D,
+    job: &RepairJob,
+    piece: u32,
+    is_first: bool,
+    threads: usize,
+    ahead: &mut Ahead,
+    buffer: &mut [u8],
+    watch: &mut W,
+) -> Result<Counts, IoErr>
+    requires job { IsRepairJob job.now }
+    requires piece { piece < job.now.plan.pieces }
+    requires room { piece_size (hashed job.now) piece ≤ length buffer.old }
+    requires reached { IsTrue D.tells
+        → job.now.len ≤ length (own_content job.now (D.state disk.old).seen) }
+    requires fitted { IsTrue D.tells → is_first ≡ false → IsFitted job.now (D.state disk.old) }
+    requires right { IsTrue D.tells
+        → AreRight job.now ahead.old.known piece (D.state disk.old).seen }
+    ensures right { OnOk result (IsTrue D.tells
+        → AreRight job.now ahead.new.known (piece + 1) (D.state disk.new).seen) }
+    ensures counts { IfOk result (λ counts. IsTrue D.tells → counts
+        ≡ piece_counts (hashed job.now) (own_bytes job.now (D.state disk.old).seen)
+        (copy_bytes job.now (D.state disk.old).seen) piece) }
+    ensures bounded { IfOk result
+        (AreOf 1 (piece_size (hashed job.now) piece)) }
+    ensures puts { OnOk result (IsTrue D.tells
+        → PutsPiece job.now piece (D.state disk.old) (D.state disk.new)) }
+    ensures keeps { IsTrue D.tells
+        → ChangesPiece job.now piece (D.state disk.old) (D.state disk.new) }
+    ensures cause { HasCause (D.faults disk.old) (D.faults disk.new) result }
+{
+    look_ahead(rt, alloc, disk, job, piece, threads, ahead, buffer)?;
+    if ahead.known > 0 {
+        ahead.known -= 1;
+        return Ok(Counts {
+            pieces: 1,
+            right: 1,
+            repaired: 0,
+            blocks: 0,
+        });
+    }
+    let (_, size) = job.plan.piece_span(piece);
+    let into = &mut buffer[..size as usize];
+    let found = mend_piece(rt, alloc, disk, job, piece, is_first, threads, into, watch)?;
+    ahead.looks = found.right > 0;
+    Ok(found)
+}
+
 // Checks each piece of a file, and repairs the wrong ones that the copy has right. The buffer has room for a piece.
 pub(crate) fn mend_pieces<R: Threads + Sync, D: Disk, W: RepairWatch>(
     rt: &R,
@@ -114,11 +167,16 @@ pub(crate) fn mend_pieces<R: Threads + Sync, D: Disk, W: RepairWatch>(
     ensures cause { HasCause (D.faults disk.old) (D.faults disk.new) result }
 {
     let mut counts = Counts::none();
+    let mut ahead = Ahead {
+        known: 0,
+        looks: true,
+    };
     for piece in 0..job.plan.pieces {
         let (_, size) = job.plan.piece_span(piece);
-        let into = &mut buffer[..size as usize];
         let is_first = counts.repaired == 0;
-        let found = mend_piece(rt, alloc, disk, job, piece, is_first, threads, into, watch)?;
+        let found = take_piece(
+            rt, alloc, disk, job, piece, is_first, threads, &mut ahead, buffer, watch,
+        )?;
         counts = counts.plus(found);
         watch.checked(size);
     }

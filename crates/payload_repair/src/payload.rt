@@ -10,6 +10,7 @@ ghost use Rattle.payload_repair.specs.StepsBy.{StepsBy};
 ghost use Rattle.payload_repair.specs.Whole.{AreSynced};
 ghost use Rattle.payload_repair.specs.declared.repair_err.RepairErr.TheVariants.{Disk as DiskFault, NoMemory};
 
+use crate::ahead::room_ahead;
 use crate::counts::Counts;
 use crate::files::mend_file;
 use crate::repair_err::RepairErr;
@@ -122,7 +123,7 @@ fn repair_files<R: Threads + Sync, D: Disk, W: RepairWatch>(
 {
     names_differ();
     let mut buffer = Vec::new(alloc);
-    buffer.resize(meta.piece_len as usize, 0)?;
+    buffer.resize(room_ahead(meta.piece_len, threads), 0)?;
     let counts = mend_files(
         rt,
         alloc,
@@ -144,7 +145,8 @@ fn repair_files<R: Threads + Sync, D: Disk, W: RepairWatch>(
 /// missing, which gets its folder and its length first. A file that is longer stays so. Without a copy nothing is written.
 /// The first failure ends it.
 ///
-/// It holds one piece in memory at a time, whose blocks are hashed by at most `threads` threads at once, and by one at least.
+/// Pieces are hashed by at most `threads` threads at once, and by one at least. It holds a piece in memory for each, or a MiB of
+/// shorter ones, and no more than 64 MiB in all.
 pub fn repair<R: Threads + Sync, D: Disk, W: RepairWatch>(
     rt: &R,
     alloc: Global,

@@ -2,6 +2,7 @@
 import os
 
 from lib.faults import Faults
+from lib.payloads import noise
 from lib.rooms import case
 from lib.torrents import Raw, bencoded
 from lib.version2 import BLOCK, Payload2, checked
@@ -9,21 +10,21 @@ from lib.wants import about, want
 
 PIECE = 32_768
 # Three leaves in two pieces.
-FORTY = os.urandom(40_000)
+FORTY = noise(40_000)
 # Files of all lengths that mean something where a piece has two blocks.
 MANY = {
     "none": b"",
     "one": b"1",
-    "d/block": os.urandom(BLOCK),
-    "d/more": os.urandom(BLOCK + 1),
-    "d/e/piece": os.urandom(PIECE),
-    "ü z/more": os.urandom(PIECE + 1),
+    "d/block": noise(BLOCK),
+    "d/more": noise(BLOCK + 1),
+    "d/e/piece": noise(PIECE),
+    "ü z/more": noise(PIECE + 1),
     "forty": FORTY,
-    "three": os.urandom(3 * PIECE - 1),
+    "three": noise(3 * PIECE - 1),
     "same": FORTY,
 }
 # Five hundred blocks, and pieces of 64 of them.
-LONG = os.urandom(500 * BLOCK + 77)
+LONG = noise(500 * BLOCK + 77)
 KINDS = ("plain", "hybrid")
 
 WORDS = ("--verify-v2=t.torrent", "--dir=own", "--copy-dir=copy")
@@ -190,7 +191,7 @@ def _(room):
 
 def long_payload(room):
     """A payload of several files, of which some pieces are wrong, some missing, and all right in the copy."""
-    files = {"d/long": LONG, "small": b"small", "cut": os.urandom(5 * BLOCK), "gone": os.urandom(BLOCK + 5)}
+    files = {"d/long": LONG, "small": b"small", "cut": noise(5 * BLOCK), "gone": noise(BLOCK + 5)}
     payload = Payload2(room, files, "p", 64 * BLOCK, "plain")
     own = dict(payload.files.files)
     for at in range(0, len(LONG), 96 * BLOCK):

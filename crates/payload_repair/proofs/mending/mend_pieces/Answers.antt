@@ -15,7 +15,7 @@ loop-piece-preserved g c =
     let was = c.loop-piece.invariant in
     let start = d.state c.args.disk.now in
     let now = d.state c.loop-piece.disk in
-    let new = d.state c.mend_piece.new.disk in
+    let new = d.state c.take_piece.new.disk in
     let file = hashed job in
     let span = c.piece_span-size.ensures in
     let begins : piece_starts_at file piece ≤ piece_ends_at file piece = omega (arith, span.start, span.end) in
@@ -33,16 +33,17 @@ loop-piece-preserved g c =
       bounded = subst (Rattle.payload_repair.specs.Counting.AreOf (piece + 1) (min ((piece + 1) * job.plan.piece_len) job.plan.total)) (sym c.plus-counts.ensures)
           (bounded_next piece (min (piece * job.plan.piece_len) job.plan.total) (min ((piece + 1) * job.plan.piece_len) job.plan.total) c.loop-piece.counts found size was.bounded c.in_ok-found.ensures.bounded
           (omega (arith, span.start, span.end, span.some)));
-      reached = λ told. still_stands job piece now new (c.mend_piece.ensures.keeps told) (was.reached told);
-      fitted = λ told some. fitted_next job piece now new c.loop-piece.counts found (c.in_ok-found.ensures.counts told) (was.fitted told) (c.mend_piece.ensures.keeps told) (c.in_ok-found.ensures.puts told)
+      reached = λ told. still_stands job piece now new (c.take_piece.ensures.keeps told) (was.reached told);
+      fitted = λ told some. fitted_next job piece now new c.loop-piece.counts found (c.in_ok-found.ensures.counts told) (was.fitted told) (c.take_piece.ensures.keeps told) (c.in_ok-found.ensures.puts told)
           (λ zero. some (ap (λ (x : Counts). x.repaired) c.plus-counts.ensures ∙ zero));
       puts = λ told apart.
           let same = stands_here job piece begins start now (c.requires.stands told) apart (was.keeps told apart) in
-          puts_more job piece begins start now (c.requires.stands told) new same (was.keeps told apart) (c.mend_piece.ensures.keeps told)
+          puts_more job piece begins start now (c.requires.stands told) new same (was.keeps told apart) (c.take_piece.ensures.keeps told)
           (λ earlier before. omega arith) (was.puts told apart) (c.in_ok-found.ensures.puts told);
       keeps = λ told apart.
           let same = stands_here job piece begins start now (c.requires.stands told) apart (was.keeps told apart) in
-          keeps_more job piece begins start now (c.requires.stands told) new same (was.keeps told apart) (c.mend_piece.ensures.keeps told);
+          keeps_more job piece begins start now (c.requires.stands told) new same (was.keeps told apart) (c.take_piece.ensures.keeps told);
+      ahead = c.in_ok-found.ensures.right;
       faults = c.in_ok-found.ensures.cause.done ∙ was.faults;
     }
 
@@ -54,12 +55,12 @@ returns-in_err-found-clause-keeps g c told apart =
     let was = c.loop-piece.invariant in
     let start = d.state c.args.disk.now in
     let now = d.state c.loop-piece.disk in
-    let new = d.state c.mend_piece.new.disk in
+    let new = d.state c.take_piece.new.disk in
     let span = c.piece_span-size.ensures in
     let begins : piece_starts_at (hashed job) piece ≤ piece_ends_at (hashed job) piece = omega (arith, span.start, span.end) in
     let same = stands_here job piece begins start now (c.requires.stands told) apart (was.keeps told apart) in
     keeps_among job (piece + 1) job.plan.pieces start new (omega (arith, c.loop-piece-test.true))
-    (keeps_more job piece begins start now (c.requires.stands told) new same (was.keeps told apart) (c.mend_piece.ensures.keeps told))
+    (keeps_more job piece begins start now (c.requires.stands told) new same (was.keeps told apart) (c.take_piece.ensures.keeps told))
 
 pub returns-clause-keeps : goal.returns-clause-keeps
 returns-clause-keeps g c told apart =

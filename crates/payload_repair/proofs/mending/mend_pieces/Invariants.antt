@@ -1,4 +1,5 @@
 use Rattle.std.proofs.Common.{◌≡◌, ◌*◌, ◌≤◌, min, length, IsTrue}
+use Rattle.payload_repair.specs.Ahead.{AreRight}
 use Rattle.payload_repair.specs.Counting.{AreOf}
 use Rattle.payload_repair.specs.Jobs.{hashed, own_bytes, copy_bytes, HasOtherCopy}
 use Rattle.payload_repair.specs.Mending.{ChangesPieces, PutsPieces}
@@ -17,5 +18,6 @@ invariant-loop-piece g l =
       fitted : IsTrue g.D.Disk.tells → ¬ (l.counts.repaired ≡ 0) → IsFitted l.job now;
       puts : IsTrue g.D.Disk.tells → HasOtherCopy l.job → PutsPieces l.job l.piece start now;
       keeps : IsTrue g.D.Disk.tells → HasOtherCopy l.job → ChangesPieces l.job l.piece start now;
+      ahead : IsTrue g.D.Disk.tells → AreRight l.job l.ahead.known l.piece now.seen;
       faults : g.D.Disk.faults l.disk ≡ g.D.Disk.faults l.fn.disk;
     }
