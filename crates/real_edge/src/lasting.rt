@@ -2,6 +2,9 @@
 use std::alloc::Global;
 use std::collections::BTreeSet;
 
+// A set that may lack names has so many at most.
+const MOST_NOTED: usize = 4_096;
+
 /// A set of names. One for which memory was wanting is left out, and then `is_whole` says so.
 #[derive(Drop)]
 pub struct Lasting {
@@ -29,6 +32,14 @@ impl Lasting {
             Err(_) => false,
         };
         self.is_whole = self.is_whole && added;
+    }
+
+    /// Adds a name to a set that may lack any of its names. Where it is full all others are forgotten.
+    pub fn note(&mut self, name: &str) {
+        if self.names.len() >= MOST_NOTED {
+            self.names.clear();
+        }
+        self.add(name);
     }
 
     pub fn forget(&mut self, name: &str) {

@@ -6,6 +6,7 @@ mod clock;
 mod disk;
 mod doors;
 mod faults;
+mod files;
 mod folder;
 mod lasting;
 mod links;

@@ -1,15 +1,17 @@
 """The cases of what has to last: in which order it is written out, and that a short read or write isn't taken for whole."""
 import os
+import time
 from contextlib import contextmanager
 
 from cases.faults import STARTS, begin_anew, ended
 from lib.consoles import steered
 from lib.controls import SUFFIX, TEMPORARY
 from lib.faults import Faults
+from lib.killing import Slow
 from lib.mirrors import Site
 from lib.payloads import SMALL, noise, served
 from lib.rooms import PLAIN, case
-from lib.wants import Late, Wrong, about, want
+from lib.wants import Late, Wrong, about, want, want_in_time, want_within
 
 # Each way in which an edge may write out too little, with the call without which a run has nothing to write out so.
 WRONG_ORDERS = (
@@ -24,32 +26,41 @@ SAVING = ("--auto-save-interval=1", *PLAIN)
 
 
 class Written:
-    """What was written and isn't written out yet: bytes of files, and entries of folders."""
+    """What was written and isn't written out yet: bytes of files, and entries of folders. Known apart are the folders in which a file
+    was put in place.
+    """
 
     def __init__(self):
         self.files = set()
         self.folders = set()
+        self.put = set()
 
     def take(self, call):
         """Follows a call, and says what is wrong with it."""
         folder = os.path.dirname(call.path)
+        # a temporary file's own entry need not last
+        is_temporary = call.path.endswith(TEMPORARY)
+        if call.does in ("write", "cut", "create") and not is_temporary:
+            want(not self.put, f"{call.path} was changed before what was put in {sorted(self.put)} lasts")
         if call.does in ("write", "cut"):
             want(not call.path.endswith(SUFFIX), f"{call.path} was written, and not put in place whole")
             self.files.add(call.path)
         elif call.does == "sync":
-            self.files.discard(call.path)
-            self.folders.discard(call.path)
+            for it in (self.files, self.folders, self.put):
+                it.discard(call.path)
         elif call.does in ("create", "make folder"):
-            # the entry of a file that is put in place later need not last
-            if not call.path.endswith(TEMPORARY):
+            if not is_temporary:
                 self.folders.add(folder)
         elif call.does == "rename":
             self.none_left(f"{call.other} was put in place")
-            self.folders.add(os.path.dirname(call.other))
+            for it in (self.folders, self.put):
+                it.add(os.path.dirname(call.other))
         elif call.does == "remove":
             if call.path.endswith(SUFFIX):
                 self.none_left(f"{call.path} was removed")
-            self.folders.add(folder)
+            self.files.discard(call.path)
+            if not is_temporary:
+                self.folders.add(folder)
 
     def none_left(self, when):
         want(not self.files, f"{when} before {sorted(self.files)} were written out")
@@ -107,6 +118,71 @@ def _(room):
             for wrong, does in WRONG_ORDERS:
                 if does in told:
                     want_noticed(f"there is no {wrong}", lambda: want_lasting(noted(FAULT_DROPS=wrong)))
+
+
+# A download of one small file has so many syncs at most: of its control file and its folder, of the empty payload and its folder, and in
+# the end of the payload and its folder.
+FEW_SYNCS = 6
+
+
+@case("a small download has few syncs", "cc")
+def _(room):
+    faults = Faults(room.folder)
+    with Site({"/a": b"hello"}) as site:
+        uri = site.url(target="/a").decode()
+        room.torrent(site.url(target="/"))
+        for words in (PLAIN, ("--split=4", *PLAIN), (uri,)):
+            with about(f"{words}"):
+                if words == (uri,):
+                    room.unlisted()
+                room.fetches(b"hello", words=words, shell=faults.noting())
+                calls = faults.notes()
+                want_lasting(calls)
+                syncs = [os.path.relpath(it.path, faults.folder) for it in calls if it.does == "sync"]
+                want(len(syncs) <= FEW_SYNCS, f"{len(syncs)} syncs came: {syncs}")
+
+
+@case("a file that is saved and goes on is written out each time", "cc", slow=True)
+def _(room):
+    faults = Faults(room.folder)
+    payload = noise(400_000)
+    with Slow({"/a": payload}, 100_000) as site:
+        room.torrent(site.url(target="/"), payload)
+        room.fetches(payload, words=SAVING, shell=faults.noting())
+        calls = faults.notes()
+        want_lasting(calls)
+        saves = sum(it.does == "rename" for it in calls)
+        syncs = sum(it.does == "sync" and it.path.endswith("/a") for it in calls)
+        want_in_time(saves >= 3, f"it was saved {saves} times")
+        want(syncs >= saves, f"{syncs} syncs of the payload came for {saves} saves")
+
+
+# A sync of a slow disk, in seconds, and how many of them a turn has at most. Over one connection a call waits for one turn.
+SLOW_SYNC, MOST_SYNCS = 0.05, 4
+
+
+@case("a console is answered while a slow disk writes out what one connection brings", "cc", slow=True)
+def _(room):
+    faults = Faults(room.folder)
+    files = {f"/{it}": noise(100_000) for it in range(20)}
+    took = []
+    one = ("--split=1", "--max-concurrent-downloads=1")
+    with Site(files) as site, steered(room, *one, shell=faults.shell(FAULT_SLOW=int(1000 * SLOW_SYNC))) as (console, ended_with):
+
+        def timed(method, *params):
+            begun = time.monotonic()
+            result = console.call(method, *params)
+            took.append(time.monotonic() - begun)
+            return result
+
+        for target in files:
+            timed("aria2.addUri", [site.url(target=target).decode()])
+        while int(timed("aria2.getGlobalStat")["numStoppedTotal"]) < len(files):
+            time.sleep(0.005)
+        console.call("aria2.shutdown")
+    want(ended_with[0] == 0, f"it ended with {ended_with[0]}")
+    # the program's own work comes besides
+    want_within(max(took), MOST_SYNCS * SLOW_SYNC + 0.03, f"a call of {len(took)}")
 
 
 def folders_above(room):

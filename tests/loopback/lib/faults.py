@@ -8,7 +8,7 @@ from dataclasses import dataclass
 # `fails`, or it `tears`: the program ends at it, behind the first half of a write. REFUSED_AT is the number of the
 # request for memory that is refused. FAULT_TOLD is the file that tells in the end how many of each there were. FAULT_NOTES is
 # the file that has a line for each call that came to pass. With FAULT_SHORT each read or write moves half of its bytes. Of a file
-# that FAULT_SYNC names the first writing out fails. With FAULT_DROPS a wrong edge is acted: `sync file` writes no file out; `sync
+# that FAULT_SYNC names the first writing out fails, and each writing out waits for FAULT_SLOW milliseconds first. With FAULT_DROPS a wrong edge is acted: `sync file` writes no file out; `sync
 # behind create`, `sync behind make folder`, `sync behind rename` and `sync behind remove` write no folder out that was changed so;
 # `rename` copies and removes; `short read` and `short write` take half of the bytes for all; `look` takes what can't be looked at
 # for missing.
@@ -152,7 +152,9 @@ int ftruncate(int file, off_t size) {
 
 int fsync(int file) {
     static int failed = 0;
+    const char *slow = getenv("FAULT_SLOW");
     if (is_due()) return fault();
+    if (slow) usleep(1000 * atol(slow));
     if (!failed && is_named("FAULT_SYNC", file)) {
         failed = 1;
         errno = EIO;
