@@ -24,11 +24,13 @@ from cases import (  # each lists its cases
     peers,
     rates,
     readout,
+    reasons,
     repair,
     replies,
     rests,
     resumes,
     several,
+    standing,
     stores,
     uris,
     words,
@@ -58,7 +60,7 @@ def can_unshare():
 
 def lacking():
     """What cases need, and isn't here."""
-    commands = ("nginx", "mktorrent", "transmission-create", "transmission-show", "aria2c", "unshare", "cc")
+    commands = ("nginx", "mktorrent", "transmission-create", "transmission-show", "aria2c", "unshare", "setpriv", "cc")
     gone = {it for it in commands if shutil.which(it) is None}
     if not has_ipv6():
         gone.add("ipv6")

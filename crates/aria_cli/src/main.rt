@@ -10,16 +10,20 @@ use aria_top::{CONSOLE_DOORS, FinishedRun, Needs, needs_of, run};
 use command_meanings::{Meaning, ServeLine, meaning_of};
 use dl_clock::{Clock, MemClock};
 use dl_disk::Disk;
-use dl_kinds::{ExitStatus, Sink, Text};
+use dl_kinds::{ExitStatus, NoMemory, Sink, Text};
 use door_source::{Doors, MemDoors};
+use fault_notes::Noted;
 use link_source::Links;
 use load_setup::{SoundDisk, SoundLinks, UnseenSink};
+use machine_core::Journal;
 use option_set::{Options, Word};
 use payload_repair::RepairWatch;
 use real_edge::{EdgeDisk, FileDisk, FolderDisk, StdClock, StdOut, TcpDoors, TcpLinks, listen_on};
 use run_readout::{CheckReadout, Progress, Terminal, WatchedDisk, WatchedLinks, WatchedSink};
+use run_report::RunEnding;
+use run_words::{Edges, reasons};
 use std::alloc::Global;
-use std::io::{ErrorKind, IsTerminal, Stderr, Stdout};
+use std::io::{ErrorKind, IsTerminal, Stderr, Stdout, Write};
 use std::net::{Ipv4Addr, SocketAddr, SocketAddrV4, TcpListener};
 use std::process::ExitCode;
 use std::random::RandomSource;
@@ -51,7 +55,14 @@ fn main(rt: HostRuntime) -> ExitCode {
         progress: Progress::new(),
         over: AtomicBool::new(false),
     };
-    ExitCode::from(program(&rt, &rt, &shared).unwrap_or(ExitStatus::NoMemory.code()))
+    let code = match program(&rt, &rt, &shared) {
+        Ok(code) => code,
+        Err(error) => {
+            let _told = eprintln!(rt; "aria_cli: the run can't begin: {error}").is_ok();
+            ExitStatus::NoMemory.code()
+        }
+    };
+    ExitCode::from(code)
 }
 
 fn program<R: Threads + Wait + Sync>(
@@ -121,15 +132,48 @@ fn tell_console(rt: &HostRuntime, globals: &Options, at: SocketAddr) -> io::Resu
     eprintln!(rt; "aria_cli: whoever reaches {at} steers the run: --rpc-secret isn't set")
 }
 
-/// The exit status of the run of these words: the code of its ending.
+// Why a run of these words ended so, in lines for people.
+fn why<D: Noted, L: Noted, K>(
+    alloc: Global,
+    words: &[String],
+    ending: RunEnding,
+    journal: &Journal,
+    disk: &D,
+    links: &[(L, K)],
+) -> Result<String, NoMemory> {
+    let mut noted = Vec::new(alloc);
+    for (link, _) in links {
+        noted.push(link.notes())?;
+    }
+    let edges = Edges {
+        disk: disk.notes(),
+        links: &noted,
+    };
+    reasons(alloc, words, ending, journal, &edges)
+}
+
+// What can't be written is left out.
+fn tell_why<E: Write>(reasons: Result<String, NoMemory>, progress: &Progress, errors: &mut E) {
+    let text = match &reasons {
+        Ok(text) => text.as_str(),
+        Err(NoMemory) => "aria_cli: memory is wanting to tell why\n",
+    };
+    if !text.is_empty() {
+        progress.clear(errors);
+        let _told = errors.write_all(text.as_bytes()).is_ok();
+    }
+}
+
+/// The exit status of the run of these words: the code of its ending. Why it isn't 0 is told as an error.
 fn exit_status<
     R: Threads + Wait + Sync,
-    D: Disk + Send + Drop,
-    L: Links + Send + Drop,
+    D: Disk + Noted + Send + Drop,
+    L: Links + Noted + Send + Drop,
     A: Doors + Send + Drop,
     K: Clock + Send + Drop,
     O: Sink,
     W: RepairWatch,
+    E: Write,
 >(
     rt: &R,
     alloc: Global,
@@ -141,6 +185,8 @@ fn exit_status<
     gids: u64,
     out: &mut O,
     watch: &mut W,
+    progress: &Progress,
+    errors: &mut E,
 ) -> u8
     requires links { (1 ≤ length links.items) × (length links.items ≤ MAX_LINKS) }
     requires doors { length doors.items ≤ MAX_DOORS }
@@ -150,12 +196,14 @@ fn exit_status<
 {
     let FinishedRun {
         ending,
-        disk: _disk,
-        links: _links,
+        disk: noted_disk,
+        links: noted_links,
         doors: _doors,
         transcripts: _transcripts,
-        journal: _journal,
+        journal,
     } = run(rt, alloc, words, disk, over, links, doors, gids, out, watch);
+    let told = why(alloc, words, ending, &journal, &noted_disk, &noted_links);
+    tell_why(told, progress, errors);
     ending.code()
 }
 
@@ -181,9 +229,21 @@ fn run_at<'a, R: Threads + Wait + Sync>(
     let gids = random_number(rt)?;
     let mut out = WatchedSink::new(StdOut::new(rt.stdout()), progress, rt.stderr());
     let mut watch = CheckReadout::new(progress, terminal(rt)?, rt.stderr());
+    let mut errors = rt.stderr();
     let disk = WatchedDisk::new(alloc, disk_of(rt, folder), progress);
     Ok(exit_status(
-        threads, alloc, words, disk, over, links, doors, gids, &mut out, &mut watch,
+        threads,
+        alloc,
+        words,
+        disk,
+        over,
+        links,
+        doors,
+        gids,
+        &mut out,
+        &mut watch,
+        progress,
+        &mut errors,
     ))
 }
 

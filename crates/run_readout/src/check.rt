@@ -43,19 +43,12 @@ impl<'a, K: Clock, W: Write> CheckReadout<'a, K, W> {
         }
     }
 
-    // The line of progress makes room for another.
-    fn clear(&mut self) {
-        if self.progress.draw(false) {
-            let _cleared = write!(self.out, "\r\x1b[K").is_ok();
-        }
-    }
-
     // What can't be written is left out: the check goes on.
     fn tell_written(&mut self, name: &str) {
         let Some((first, last)) = self.written.take() else {
             return;
         };
-        self.clear();
+        self.progress.clear(&mut self.out);
         let _told = if first == last {
             writeln!(self.out, "{name}: wrote block {first}").is_ok()
         } else {
@@ -73,7 +66,7 @@ impl<'a, K: Clock, W: Write> RepairWatch for CheckReadout<'a, K, W> {
     fn found_wrong(&mut self, name: &str, piece: u32) {
         self.tell_written(name);
         self.wrong = self.wrong.saturating_add(1);
-        self.clear();
+        self.progress.clear(&mut self.out);
         let _told = writeln!(self.out, "{name}: piece {piece} is wrong").is_ok();
     }
 
@@ -110,7 +103,7 @@ impl<'a, K: Clock, W: Write> RepairWatch for CheckReadout<'a, K, W> {
         self.wrong = 0;
         self.repaired = 0;
         if wrong > 0 {
-            self.clear();
+            self.progress.clear(&mut self.out);
             let _told = writeln!(self.out, "{name}: {wrong} wrong, {repaired} repaired").is_ok();
         }
     }

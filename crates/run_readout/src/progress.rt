@@ -1,4 +1,5 @@
 // How far a run has come, as its disk and its links show it.
+use std::io::Write;
 use std::sync::atomic::{AtomicBool, AtomicU64, Ordering};
 
 const SECOND_MS: u64 = 1000;
@@ -107,6 +108,13 @@ impl Progress {
     /// Tells whether a line was drawn, and is told whether one is now.
     pub(crate) fn draw(&self, is_drawn: bool) -> bool {
         self.is_drawn.swap(is_drawn, Ordering::SeqCst)
+    }
+
+    /// A line that is drawn there makes room for another. What can't be written is left out.
+    pub fn clear<W: Write>(&self, terminal: &mut W) {
+        if self.draw(false) {
+            let _cleared = terminal.write_all(b"\r\x1b[K").is_ok();
+        }
     }
 
     /// What is shown now. No more is done than there is, where that is known.

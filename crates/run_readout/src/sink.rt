@@ -29,9 +29,7 @@ impl<'a, O: Sink + Drop, W: Write> Sink for WatchedSink<'a, O, W> {
     ghost faults = { λ out. O.faults out.inner };
 
     fn write(&mut self, bytes: &[u8]) -> Result<(), IoErr> {
-        if self.progress.draw(false) {
-            let _cleared = self.terminal.write_all(b"\r\x1b[K").is_ok();
-        }
+        self.progress.clear(&mut self.terminal);
         self.inner.write(bytes)
     }
 }

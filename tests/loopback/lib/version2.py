@@ -178,7 +178,7 @@ def checked(room, *words, shell="", limit=60):
         if started.poll() is None:
             started.kill()
             started.communicate()
-    want_told(said, wrote)
+    want_told(said, wrote, started.returncode)
     return started.returncode, wrote
 
 
@@ -186,10 +186,14 @@ TOLD = re.compile(r".+: (?:piece \d+ is wrong|wrote block \d+|wrote blocks (\d+)
 COUNTED = re.compile(r"pieces (\d+) right (\d+) repaired (\d+) blocks (\d+)\n")
 
 
-def want_told(said, wrote):
-    """What a check tells on standard error, of each wrong piece and of each block that it writes, is what it counted."""
+def want_told(said, wrote, status):
+    """What a check tells on standard error, of each wrong piece and of each block that it writes, is what it counted. Why its status
+    isn't 0 it tells there, too.
+    """
     lines = said.decode().split("\n")[:-1]
-    told = [(it, TOLD.fullmatch(it)) for it in lines]
+    why = [it for it in lines if it.startswith("aria_cli: ")]
+    want(bool(why) == bool(status), f"with the status {status} it told why by {why}")
+    told = [(it, TOLD.fullmatch(it)) for it in lines if it not in why]
     want(all(it for _, it in told), f"it wrote to standard error: {said[:200]!r}")
     counted = COUNTED.fullmatch(wrote.decode())
     if counted:
