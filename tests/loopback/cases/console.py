@@ -22,11 +22,11 @@ from lib.consoles import (
     steered,
 )
 from lib.killing import Slow
-from lib.mirrors import Site
+from lib.mirrors import Site, deaf_port
 from lib.payloads import LONG, MIB
 from lib.rooms import HEADER, LIMIT, case
 from lib.torrents import bencoded
-from lib.wants import about, want, want_within
+from lib.wants import Skipped, about, want, want_within
 
 # What front ends ask for of each download.
 KEYS = [
@@ -366,6 +366,10 @@ def _(room):
         room.has(LONG)
 
 
+# The answer to so many questions for the methods has a mebibyte at least.
+LONG_ANSWER = 2_000
+
+
 def dripping(port, stop):
     """Sends a request's head, a byte a second."""
     with socket.create_connection(("127.0.0.1", port)) as client, contextlib.suppress(OSError):
@@ -376,12 +380,40 @@ def dripping(port, stop):
 
 
 def never_reading(port, stop):
-    """Asks for many long answers at once, and reads none."""
-    long = multicall([("system.listMethods",)] * 400)
+    """Asks for 200 answers of a mebibyte at once, and reads none, until the other side goes."""
+    long = multicall([("system.listMethods",)] * LONG_ANSWER)
     with socket.create_connection(("127.0.0.1", port)) as client, contextlib.suppress(OSError):
-        client.settimeout(1)
+        client.settimeout(LIMIT)
         client.sendall(200 * posted(long))
         stop.wait()
+
+
+@case("the answer that a client never reads has a mebibyte")
+def _(room):
+    with steered(room) as (console, _):
+        _, _, content = console.post(multicall([("system.listMethods",)] * LONG_ANSWER))
+        want(len(content) >= MIB, f"it has {len(content)} bytes")
+        console.call("aria2.shutdown")
+
+
+@case("a shutdown ends the run within two seconds while a connection is being opened", slow=True)
+def _(room):
+    with deaf_port() as port:
+        if port is None:
+            raise Skipped("the system takes each connection")
+        # wherever in the opening it comes
+        for passed in (0.1, 0.6, 1.1, 1.6, 2.1):
+            with about(f"behind {passed} seconds"):
+                room.clear("a.bin")
+                words = ("--split=4", "--max-connection-per-server=4", "--min-split-size=1M")
+                with steered(room, *words) as (console, ended):
+                    gid = console.call("aria2.addUri", [f"http://127.0.0.1:{port}/a.bin"])
+                    console.until(gid, {"status": "active"})
+                    time.sleep(passed)
+                    begun = time.monotonic()
+                    want(console.call("aria2.shutdown") == "OK", "it wasn't shut down")
+                want_within(time.monotonic() - begun, 2, "the end")
+                want(ended[0] == 7, f"it ended with {ended}")
 
 
 @case("a shutdown ends the run within two seconds, whatever peers do", slow=True)
