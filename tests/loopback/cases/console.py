@@ -367,7 +367,7 @@ def _(room):
 
 
 # The answer to so many questions for the methods has a mebibyte at least.
-LONG_ANSWER = 2_000
+LONG_ANSWER = 2_200
 
 
 def dripping(port, stop):

@@ -62,7 +62,6 @@ def _(room):
         (b"hello", 25, "it is no metainfo file, since it isn't bencoded"),
         (b"de", 26, "it breaks a rule of metainfo files"),
         (metainfo(None), 26, "neither it nor the command line names an http URL of a mirror"),
-        (metainfo([b"http://127.0.0.1:1/a"] * 257), 26, "it and the command line name more than 256 mirrors"),
     ):
         room.put("t.torrent", content)
         tells(room, status, [f"t.torrent: {why}"], "t.torrent")
@@ -124,8 +123,7 @@ def _(room):
     with Site({"/a.bin": b"hellO"}) as site:
         room.clear()
         room.torrent(site.url())
-        line = rf"mirror http://127\.0\.0\.1:{site.port}/a\.bin: its bytes don't have the piece's digest"
-        tells(room, 32, [f"{NONE_LEFT}, whose bytes didn't have its digest", line], *ONCE, leaves=True)
+        tells(room, 32, [f"{NONE_LEFT}, whose bytes didn't have its digest"], *ONCE, leaves=True)
 
 
 @case("a mirror that can't be reached, in words")
@@ -181,10 +179,9 @@ def _(room):
         line = f"{FAILED}the file doesn't have its checksum: remove it and its control file to start anew"
         for _ in range(3):
             tells(room, 32, [line], *words, leaves=True)
+        # what no save listed is fetched anew
         site.files["/a"] = b"hello"
-        tells(room, 32, [line], *words, leaves=True)
-        room.clear()
-        room.fetches(b"hello", words=words)
+        room.fetches(b"hello", words=words, anew=False)
 
 
 @case("what stands in a download's way, in words")

@@ -188,11 +188,11 @@ COUNTED = re.compile(r"pieces (\d+) right (\d+) repaired (\d+) blocks (\d+)\n")
 
 def want_told(said, wrote, status):
     """What a check tells on standard error, of each wrong piece and of each block that it writes, is what it counted. Why its status
-    isn't 0 it tells there, too.
+    isn't 0 it tells there, too, unless it was killed.
     """
     lines = said.decode().split("\n")[:-1]
     why = [it for it in lines if it.startswith("aria_cli: ")]
-    want(bool(why) == bool(status), f"with the status {status} it told why by {why}")
+    want(status in (-9, 137) or bool(why) == bool(status), f"with the status {status} it told why by {why}")
     told = [(it, TOLD.fullmatch(it)) for it in lines if it not in why]
     want(all(it for _, it in told), f"it wrote to standard error: {said[:200]!r}")
     counted = COUNTED.fullmatch(wrote.decode())
