@@ -71,7 +71,7 @@ fn words(rt: HostRuntime) -> Result<(), Fail> {
 // One file by its mirrors, of which the first that answers a probe tells the length. The digests are those of sha1sum and
 // sha256sum, and others of one digit each.
 const URIS: &str = "\
-words --out=a,--checksum=sha-1=aaf4c61ddcc5e8a2dabede0f3b482cd9aea9434d,http://m.test/a.bin ; status 0 ; shows 0000000000000001|OK|5|5|0|a ; file a=hello ; none a.aria2 ; dials 1 ; asks 1 m.test /a.bin 0-0 + 1 m.test /a.bin 0-4
+words --out=a,--checksum=sha-1=aaf4c61ddcc5e8a2dabede0f3b482cd9aea9434d,http://m.test/a.bin ; status 0 ; shows 0000000000000001|OK|5|5|0|a ; file a=hello ; none a.aria2 ; dials 2 ; asks 1 m.test /a.bin 0-0 + 1 m.test /a.bin 0-4
 words --out=a,--checksum=sha-1=baf4c61ddcc5e8a2dabede0f3b482cd9aea9434d,http://m.test/a.bin ; status 32 ; shows 0000000000000001|ERR|5|5|32|a ; gets 2
 words --out=a,--checksum=sha-256=2cf24dba5fb0a30e26e83b2ac5b9e29e1b161e5c1fa7425e73043362938b9824,http://m.test/a.bin ; status 0 ; shows 0000000000000001|OK|5|5|0|a ; file a=hello
 words --out=a,--checksum=sha-256=2cf24dba5fb0a30e26e83b2ac5b9e29e1b161e5c1fa7425e73043362938b9825,http://m.test/a.bin ; status 32 ; shows 0000000000000001|ERR|5|5|32|a ; gets 2
