@@ -36,7 +36,8 @@ def _(room):
     chance = random.Random(30)
     payload = noise(24 * MIB - 1_000)
     listed, verified = set(), b""
-    with Slow({"/a.bin": payload}, 1_500_000) as site:
+    # slow enough that it doesn't end before the last kill
+    with Slow({"/a.bin": payload}, 500_000) as site:
         room.torrent(site.url(), payload, piece_length=16 * BLOCK)
         for place in range(30):
             site.requests.clear()
