@@ -162,6 +162,7 @@ module _ (want : Want) (is : IsWant want) (verified listed : List Bool) (ext : â
       hash = hash_is;
       piece_len = refl;
       total = refl;
+      uploaded = refl;
     };
     pieces = refl;
     blocks = Î» block. (to_listed block, from_listed block);

@@ -10,12 +10,13 @@ use Rattle.resume_core.specs.Resume.{ResumesPiece, ResumesBlock, HasDigest}
 use Rattle.control_file.specs.Wants.{IsListedWant}
 use Rattle.resume_core.specs.Wants.{files_in}
 
--- a control file of the want, as a writer has it
+-- a control file of the want, as a writer has it; nothing of a payload is uploaded
 pub record IsListingOf (want : Want) (control : Control) : Type 0 where
   pub rules : IsWritableControl control
   pub hash : control.info_hash ≡ hash_bytes want.info_hash
   pub piece_len : control.piece_len ≡ want.plan.piece_len
   pub total : control.total ≡ want.plan.total
+  pub uploaded : control.uploaded ≡ 0
 
 -- the pieces and the blocks that it lists
 abbrev pub PieceListed : Control → ℕ → Type 0
