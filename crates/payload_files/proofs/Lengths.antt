@@ -4,12 +4,14 @@ use Rattle.std.proofs.lemmas.List.{get_or-take, length-replicate}
 use Rattle.std.proofs.lemmas.List.Elements.{All-head, All-cons, All-nil, All-more, All-take}
 use Rattle.std.proofs.lemmas.Bool.{cases_lt}
 use Rattle.std.proofs.lemmas.Option.{slice_get-get_or}
+use Rattle.dl_disk.specs.Passes.{Performs, performs_more, performs_wider}
+use Rattle.dl_disk.specs.State.{DiskState}
 use Rattle.dl_disk.specs.Files.{Files, IsSame, file_bytes, lengthened, resized, Stretched, MayMake, TornResize, IsResized}
 use Rattle.span_map.specs.Layout.{IsLayout}
 use Rattle.span_map.specs.declared.files.FileLen.{FileLen}
 use Rattle.payload_files.specs.Names.{name_of}
-use Rattle.payload_files.specs.Payload.{HasFiles, AreResized}
-use Rattle.payload_files.specs.Changes.{AreSameBeside, Stretches}
+use Rattle.payload_files.specs.Payload.{HasFiles, HasLength, AreResized}
+use Rattle.payload_files.specs.Changes.{AreSameBeside, LeavesFit, LeavesFitting, SameAt, Stretches}
 use Rattle.payload_files.proofs.FileNames.{names_differ}
 use Rattle.payload_files.proofs.Keeping.{front_apart, file_apart}
 
@@ -34,6 +36,10 @@ resize_behind name len x y z same torn = record {
   others = λ other differs. torn.others other differs ∙ same other;
 }
 
+stays_at : (name : List ℕ) (a b c : DiskState) → Performs (SameAt name) a b → Performs (SameAt name) b c
+    → Performs (SameAt name) a c
+stays_at name a b c = performs_more (SameAt name) a b c (λ x y z one two. two ∙ one)
+
 module _ (dir : List ℕ) where
   -- resized files have their lengths
   pub has_resized : (files : List FileLen) (old new : Files) → AreResized dir files old new → HasFiles dir files new
@@ -52,6 +58,14 @@ module _ (dir : List ℕ) where
     each = All-cons (λ (f : FileLen). MayMake (Stretched f.len) (a (name_of dir f.path)) (b (name_of dir f.path))) file [] torn.here
         (All-nil (λ (f : FileLen). MayMake (Stretched f.len) (a (name_of dir f.path)) (b (name_of dir f.path))));
   }
+
+  pub alone_one : (file : FileLen) (a b : DiskState)
+      → (HasLength file.len (a.seen (name_of dir file.path)) → Performs IsSame a b) → LeavesFitting dir (file ∷ []) a b
+  alone_one file a b alone =
+      let P : FileLen → Type 0 = λ f. LeavesFit (name_of dir f.path) f.len a b in
+      let name = name_of dir file.path in
+      All-cons P file [] (λ has. performs_wider IsSame (SameAt name) a b (λ x y same. same name) (alone has))
+      (All-nil P)
 
   pub resized_one : (file : FileLen) (a b : Files) → IsResized (name_of dir file.path) file.len a b → AreResized dir (file ∷ []) a b
   resized_one file a b is =
@@ -99,6 +113,36 @@ module _ (dir : List ℕ) where
           (All-head (λ (f : FileLen). MayMake (Stretched f.len) (b (name_of dir f.path)) (c (name_of dir f.path))) file [] one.each) one.others;
     }
 
+    -- a file that had its length was left alone, before and in the change of this one
+    pub alone_more : (a b c : DiskState) → Performs (Stretches dir (take k files)) a b
+        → Performs (Stretches dir (file ∷ [])) b c → LeavesFitting dir (take k files) a b
+        → LeavesFitting dir (file ∷ []) b c → LeavesFitting dir (take (k + 1) files) a c
+    alone_more a b c first second front one =
+        let P : FileLen → Type 0 = λ f. LeavesFit (name_of dir f.path) f.len a c in
+        let Q : FileLen → Type 0 = λ f. LeavesFit (name_of dir f.path) f.len b c in
+        All-more P files k file within
+        (λ j d inside has. let name = name_of dir (get_or (take k files) j d).path in
+        let Other : FileLen → Type 0 = λ g. name_of dir g.path ≢ name in
+        let apart = All-cons Other file [] (λ same. before_apart j d inside (sym same)) (All-nil Other) in
+        stays_at name a b c (front j d inside has)
+        (performs_wider (Stretches dir (file ∷ [])) (SameAt name) b c (λ x y change. change.others name apart) second))
+        (subst P is (λ has. let name = name_of dir file.path in
+        let before = performs_wider (Stretches dir (take k files)) (SameAt name) a b
+        (λ x y change. change.others name before_apart) first in
+        stays_at name a b c before (All-head Q file [] one (subst (HasLength file.len) (sym before.seen) has))))
+
+  -- a file behind the first ones has another name than each of them
+  behind_apart : (files : List FileLen) (layout : IsLayout files) (n j : ℕ) (d : FileLen) → j < length files → n ≤ j
+      → (i : ℕ) (e : FileLen) → i < length (take n files)
+      → name_of dir (get_or (take n files) i e).path ≢ name_of dir (get_or files j d).path
+  behind_apart files layout n j d within behind i e inside =
+      let before : i < n = omega (arith, inside, length-take n files) in
+      names_differ dir files i j (get_or (take n files) i e) (get_or files j d) layout
+      (λ same. absurd (omega (arith, same, before, behind)))
+      (slice_get-get_or files i e (omega (arith, before, within, behind))
+      ∙ ap (λ (f : FileLen). Some f) (sym (get_or-take n files i e before)))
+      (slice_get-get_or files j d within)
+
   -- what the first files do, all do: those behind them stay as they are
   pub stretches_of_front : (files : List FileLen) (layout : IsLayout files) (n : ℕ) (a b : Files) → Stretches dir (take n files) a b → Stretches dir files a b
   stretches_of_front files layout n a b front = record {
@@ -109,13 +153,20 @@ module _ (dir : List ℕ) where
         subst (λ (f : FileLen). MayMake (Stretched f.len) (a (name_of dir f.path)) (b (name_of dir f.path))) same (front.each j d (omega (arith, before, within, length-take n files))))
         (λ (behind : n ≤ j).
         let file = get_or files j d in
-        subst (MayMake (Stretched file.len) (a (name_of dir file.path))) (sym (front.others (name_of dir file.path) (apart j d within behind))) (stretched_none file.len (a (name_of dir file.path))))
+        let name = name_of dir file.path in
+        subst (MayMake (Stretched file.len) (a name))
+        (sym (front.others name (behind_apart files layout n j d within behind))) (stretched_none file.len (a name)))
         (cases_lt j n);
   }
-    where
-      apart : (j : ℕ) (d : FileLen) → j < length files → n ≤ j → (i : ℕ) (e : FileLen) → i < length (take n files) → name_of dir (get_or (take n files) i e).path ≢ name_of dir (get_or files j d).path
-      apart j d within behind i e inside =
-          let before : i < n = omega (arith, inside, length-take n files) in
-          names_differ dir files i j (get_or (take n files) i e) (get_or files j d) layout (λ same. absurd (omega (arith, same, before, behind)))
-          (slice_get-get_or files i e (omega (arith, before, within, behind)) ∙ ap (λ (f : FileLen). Some f) (sym (get_or-take n files i e before)))
-          (slice_get-get_or files j d within)
+
+  pub alone_of_front : (files : List FileLen) (layout : IsLayout files) (n : ℕ) (a b : DiskState)
+      → Performs (Stretches dir (take n files)) a b → LeavesFitting dir (take n files) a b → LeavesFitting dir files a b
+  alone_of_front files layout n a b change front j d within = ⊎_elim
+      (λ (before : j < n).
+      let same : get_or (take n files) j d ≡ get_or files j d = get_or-take n files j d before in
+      subst (λ (f : FileLen). LeavesFit (name_of dir f.path) f.len a b) same
+      (front j d (omega (arith, before, within, length-take n files))))
+      (λ (behind : n ≤ j) has. let name = name_of dir (get_or files j d).path in
+      performs_wider (Stretches dir (take n files)) (SameAt name) a b
+      (λ x y stretched. stretched.others name (behind_apart files layout n j d within behind)) change)
+      (cases_lt j n)

@@ -2,11 +2,12 @@
 use Rattle.std.specs.Prelude.{◌≡◌, ◌≤◌, ◌<◌, ◌⊎◌, ℕ, ◌+◌, max, List, length, take, slice_get, Some, All}
 use Rattle.dl_kinds.specs.Lists.{part_at}
 use Rattle.dl_disk.specs.Files.{Files, Follows, MayMake, Stretched, replaced}
+use Rattle.dl_disk.specs.Passes.{Performs}
 use Rattle.dl_disk.specs.State.{DiskState}
 use Rattle.span_map.specs.Layout.{total_of}
 use Rattle.span_map.specs.declared.files.FileLen.{FileLen}
 use Rattle.payload_files.specs.Names.{name_of, IsOther}
-use Rattle.payload_files.specs.Payload.{HasFiles, payload_in}
+use Rattle.payload_files.specs.Payload.{HasFiles, HasLength, payload_in}
 
 -- what stands under a name that is no file's is the same
 abbrev pub AreSameBeside : List ℕ → List FileLen → Files → Files → Type 0
@@ -47,6 +48,18 @@ pub record TornSlice (dir : List ℕ) (files : List FileLen) (at n : ℕ) (old n
 pub record Stretches (dir : List ℕ) (files : List FileLen) (old new : Files) : Type 0 where
   pub others : AreSameBeside dir files old new
   pub each : All (λ file. MayMake (Stretched file.len) (old (name_of dir file.path)) (new (name_of dir file.path))) files
+
+-- this file stays as it is
+abbrev pub SameAt : List ℕ → Files → Files → Type 0
+SameAt name old new = new name ≡ old name
+
+-- a file that stands with this length is left alone, in what is read and at each moment in what a crash may leave
+abbrev pub LeavesFit : List ℕ → ℕ → DiskState → DiskState → Type 0
+LeavesFit name len old new = HasLength len (old.seen name) → Performs (SameAt name) old new
+
+-- so is each of these files
+abbrev pub LeavesFitting : List ℕ → List FileLen → DiskState → DiskState → Type 0
+LeavesFitting dir files old new = All (λ file. LeavesFit (name_of dir file.path) file.len old new) files
 
 -- where the files had their lengths, the payload has these bytes at this place, and is the same elsewhere
 abbrev pub WritesSlice : List ℕ → List FileLen → ℕ → List ℕ → Files → Files → Type 0

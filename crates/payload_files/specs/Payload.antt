@@ -1,5 +1,5 @@
 -- A payload on a disk: the bytes of its files, one file after the other, in a folder.
-use Rattle.std.specs.Prelude.{◌≡◌, ℕ, ◌+◌, List, length, take, map, Some, IsSomeAnd, All}
+use Rattle.std.specs.Prelude.{◌≡◌, ℕ, ◌+◌, List, length, take, map, Option, Some, IsSomeAnd, All}
 use Rattle.std.specs.List.{concat}
 use Rattle.dl_disk.specs.Files.{Files, file_bytes, resized}
 use Rattle.dl_disk.specs.State.{DiskState}
@@ -9,9 +9,13 @@ use Rattle.span_map.specs.declared.files.FileLen.{FileLen}
 use Rattle.span_map.specs.declared.files.Part.{Part}
 use Rattle.payload_files.specs.Names.{name_of}
 
+-- a file stands, with this length
+abbrev pub HasLength : ℕ → Option (List ℕ) → Type 0
+HasLength len file = IsSomeAnd file (λ bytes. length bytes ≡ len)
+
 -- each file stands under its name, with its length
 abbrev pub HasFiles : List ℕ → List FileLen → Files → Type 0
-HasFiles dir files seen = All (λ file. IsSomeAnd (seen (name_of dir file.path)) (λ bytes. length bytes ≡ file.len)) files
+HasFiles dir files seen = All (λ file. HasLength file.len (seen (name_of dir file.path))) files
 
 -- what the files hold; a missing one holds nothing
 abbrev pub contents_in : List ℕ → List FileLen → Files → List (List ℕ)

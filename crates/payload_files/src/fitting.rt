@@ -1,11 +1,11 @@
 // The files of a payload get their lengths.
 ghost use Rattle.std.specs.Prelude.{◌≡◌, ◌∷◌, [], IsTrue, OnOk};
 ghost use Rattle.dl_kinds.specs.Causes.{HasCause};
-ghost use Rattle.dl_disk.specs.Files.{TornResize, IsResized};
+ghost use Rattle.dl_disk.specs.Files.{IsSame, TornResize, IsResized};
 ghost use Rattle.dl_disk.specs.Passes.{Performs};
 ghost use Rattle.span_map.specs.Layout.{IsLayout};
-ghost use Rattle.payload_files.specs.Payload.{HasFiles, AreResized};
-ghost use Rattle.payload_files.specs.Changes.{Stretches};
+ghost use Rattle.payload_files.specs.Payload.{AreResized, HasFiles, HasLength};
+ghost use Rattle.payload_files.specs.Changes.{LeavesFitting, Stretches};
 
 use crate::names::file_name;
 use dl_disk::Disk;
@@ -18,6 +18,8 @@ fn fit_named<D: Disk>(disk: &mut D, name: &str, len: u64) -> Result<(), IoErr>
         → IsResized name.now len (D.state disk.old).seen (D.state disk.new).seen) }
     ensures performs { IsTrue D.tells
         → Performs (TornResize name.now len) (D.state disk.old) (D.state disk.new) }
+    ensures alone { IsTrue D.tells → HasLength len ((D.state disk.old).seen name.now)
+        → Performs IsSame (D.state disk.old) (D.state disk.new) }
     ensures folders { IsTrue D.tells → (D.state disk.new).folders ≡ (D.state disk.old).folders }
     ensures cause { HasCause (D.faults disk.old) (D.faults disk.new) result }
 {
@@ -32,6 +34,8 @@ fn fit_file<D: Disk>(alloc: Global, disk: &mut D, dir: &str, file: &FileLen) -> 
         → AreResized dir.now (file.now ∷ []) (D.state disk.old).seen (D.state disk.new).seen) }
     ensures performs { IsTrue D.tells
         → Performs (Stretches dir.now (file.now ∷ [])) (D.state disk.old) (D.state disk.new) }
+    ensures alone { IsTrue D.tells
+        → LeavesFitting dir.now (file.now ∷ []) (D.state disk.old) (D.state disk.new) }
     ensures folders { IsTrue D.tells → (D.state disk.new).folders ≡ (D.state disk.old).folders }
     ensures cause { HasCause (D.faults disk.old) (D.faults disk.new) result }
 {
@@ -45,6 +49,8 @@ fn fit_each<D: Disk>(alloc: Global, disk: &mut D, dir: &str, files: &[FileLen]) 
         → AreResized dir.now files.now (D.state disk.old).seen (D.state disk.new).seen) }
     ensures performs { IsTrue D.tells
         → Performs (Stretches dir.now files.now) (D.state disk.old) (D.state disk.new) }
+    ensures alone { IsTrue D.tells
+        → LeavesFitting dir.now files.now (D.state disk.old) (D.state disk.new) }
     ensures folders { IsTrue D.tells → (D.state disk.new).folders ≡ (D.state disk.old).folders }
     ensures cause { HasCause (D.faults disk.old) (D.faults disk.new) result }
 {
@@ -68,6 +74,8 @@ pub fn fit_files<D: Disk>(
         → AreResized dir.now layout.now (D.state disk.old).seen (D.state disk.new).seen) }
     ensures performs { IsTrue D.tells
         → Performs (Stretches dir.now layout.now) (D.state disk.old) (D.state disk.new) }
+    ensures alone { IsTrue D.tells
+        → LeavesFitting dir.now layout.now (D.state disk.old) (D.state disk.new) }
     ensures folders { IsTrue D.tells → (D.state disk.new).folders ≡ (D.state disk.old).folders }
     ensures cause { HasCause (D.faults disk.old) (D.faults disk.new) result }
 {

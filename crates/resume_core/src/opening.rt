@@ -2,7 +2,7 @@
 ghost use Rattle.std.specs.Prelude.{◌≡◌, length, IsTrue, OnOk};
 ghost use Rattle.dl_kinds.specs.Causes.{HasCause};
 ghost use Rattle.dl_disk.specs.Calls.{ReadsNothing};
-ghost use Rattle.payload_files.specs.Changes.{Stretches};
+ghost use Rattle.payload_files.specs.Changes.{LeavesFitting, Stretches};
 ghost use Rattle.payload_files.specs.Names.{HasFolders, KeepsFolders};
 ghost use Rattle.payload_files.specs.Payload.{AreResized, HasFiles};
 ghost use Rattle.resume_core.specs.Openings.{AreOpenedIn, AreOpenedRows, FitsPayload, GivesMoreOrOpened, HasControl, HaveControl, KeepsBesides, KeepsGiven, KeepsSound, MatchesOpened, OpensWholeJust};
@@ -30,6 +30,8 @@ fn fit_held<D: Disk>(alloc: Global, disk: &mut D, want: &Want) -> Result<(), IoE
         → HasFiles want.now.dir want.now.layout (D.state disk.new).seen) }
     ensures resized { OnOk result (IsTrue D.tells → AreResized want.now.dir want.now.layout
         (D.state disk.old).seen (D.state disk.new).seen) }
+    ensures alone { IsTrue D.tells → LeavesFitting want.now.dir want.now.layout
+        (D.state disk.old) (D.state disk.new) }
     ensures seen { IsTrue D.tells → Stretches want.now.dir want.now.layout
         (D.state disk.old).seen (D.state disk.new).seen }
     ensures besides { IsTrue D.tells
@@ -93,6 +95,9 @@ fn fit_payload<D: Disk>(
     ensures over_whole { IsTrue D.tells
         → HasFiles want.now.dir want.now.layout (D.state disk.old).seen
         → KeepsFor want.now (D.state disk.old) (D.state disk.new) }
+    ensures untouched { IsTrue D.tells
+        → HasFiles want.now.dir want.now.layout (D.state disk.old).seen
+        → (D.state disk.new).moment ≡ (D.state disk.old).moment }
     ensures reads { IsTrue D.tells → ReadsNothing (D.state disk.old) (D.state disk.new) }
     ensures folders { IsTrue D.tells → (D.state disk.new).folders ≡ (D.state disk.old).folders }
     ensures cause { HasCause (D.faults disk.old) (D.faults disk.new) result }

@@ -4,7 +4,7 @@ use Rattle.dl_disk.specs.Passes.{Performs, performs_none, performs_on, performs_
 use Rattle.span_map.specs.Layout.{IsLayout}
 use Rattle.span_map.specs.declared.files.FileLen.{FileLen}
 use Rattle.payload_files.specs.Changes.{Stretches}
-use Rattle.payload_files.proofs.Lengths.{resized_more, stretches_none, stretches_more, stretches_of_front}
+use Rattle.payload_files.proofs.Lengths.{alone_more, alone_of_front, resized_more, stretches_none, stretches_more, stretches_of_front}
 use Rattle.payload_files.proofs.fitting.fit_each.Goals as goal
 
 -- one file more
@@ -19,6 +19,7 @@ pub loop-file-init : goal.loop-file-init
 loop-file-init g c = record {
   resized = λ told k d within. absurd (omega (arith, within));
   performs = λ told. performs_none (Stretches c.args.dir.now (take 0 c.args.files.now)) (g.D.Disk.state c.args.disk.now) (stretches_none c.args.dir.now (take 0 c.args.files.now));
+  alone = λ told j d within. absurd (omega (arith, within));
   folders = λ told. refl;
   faults = refl;
 }
@@ -38,6 +39,8 @@ loop-file-preserved g c =
       resized = λ told. resized_more dir files c.requires k file c.loop-file-test.true c.file-item.is start.seen middle.seen end.seen
           (before.resized told) (before.performs told).seen.others (c.in_ok-fit_file.ensures.resized told) (c.fit_file.ensures.performs told).seen.others;
       performs = λ told. more dir files c.requires k file c.loop-file-test.true c.file-item.is start middle end (before.performs told) (c.fit_file.ensures.performs told);
+      alone = λ told. alone_more dir files c.requires k file c.loop-file-test.true c.file-item.is start middle end
+          (before.performs told) (c.fit_file.ensures.performs told) (before.alone told) (c.fit_file.ensures.alone told);
       folders = λ told. c.fit_file.ensures.folders told ∙ before.folders told;
       faults = c.in_ok-fit_file.ensures.cause.done ∙ before.faults;
     }
@@ -53,3 +56,20 @@ returns-in_err-fit_file-clause-performs g c told =
     performs_wider (Stretches dir (take (k + 1) files)) (Stretches dir files) start end (stretches_of_front dir files c.requires (k + 1))
     (more dir files c.requires k c.file-item.result c.loop-file-test.true c.file-item.is start (d.state c.loop-file.disk) end
     (c.loop-file.invariant.performs told) (c.fit_file.ensures.performs told))
+
+pub returns-in_err-fit_file-clause-alone : goal.returns-in_err-fit_file-clause-alone
+returns-in_err-fit_file-clause-alone g c told =
+    let d = g.D.Disk in
+    let dir = c.args.dir.now in
+    let files = c.args.files.now in
+    let k = c.loop-file.file-index in
+    let file = c.file-item.result in
+    let start = d.state c.args.disk.now in
+    let middle = d.state c.loop-file.disk in
+    let end = d.state c.fit_file.new.disk in
+    let before = c.loop-file.invariant in
+    alone_of_front dir files c.requires (k + 1) start end
+    (more dir files c.requires k file c.loop-file-test.true c.file-item.is start middle end
+    (before.performs told) (c.fit_file.ensures.performs told))
+    (alone_more dir files c.requires k file c.loop-file-test.true c.file-item.is start middle end
+    (before.performs told) (c.fit_file.ensures.performs told) (before.alone told) (c.fit_file.ensures.alone told))

@@ -3,7 +3,7 @@ use Rattle.dl_disk.specs.Files.{TornResize}
 use Rattle.dl_disk.specs.Passes.{Performs, performs_wider}
 use Rattle.payload_files.specs.Names.{name_of}
 use Rattle.payload_files.specs.Changes.{Stretches}
-use Rattle.payload_files.proofs.Lengths.{stretches_one}
+use Rattle.payload_files.proofs.Lengths.{alone_one, stretches_one}
 use Rattle.payload_files.proofs.fitting.fit_file.Goals as goal
 
 pub returns-clause-performs : goal.returns-clause-performs
@@ -15,3 +15,9 @@ returns-clause-performs g c told =
     performs_wider (TornResize (name_of dir file.path) file.len) (Stretches dir (file ∷ [])) (d.state c.args.disk.now) (d.state c.fit_named.new.disk)
     (stretches_one dir file)
     (subst (λ (name : List ℕ). Performs (TornResize name file.len) (d.state c.args.disk.now) (d.state c.fit_named.new.disk)) named (c.fit_named.ensures.performs told))
+
+pub returns-clause-alone : goal.returns-clause-alone
+returns-clause-alone g c told =
+    let d = g.D.Disk in
+    alone_one c.args.dir.now c.args.file.now (d.state c.args.disk.now) (d.state c.fit_named.new.disk)
+    (rw (c.as_str.ensures.value, c.in_ok-name.ensures) at c.fit_named.ensures.alone told)

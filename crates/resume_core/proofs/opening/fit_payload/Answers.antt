@@ -36,3 +36,9 @@ returns-clause-over_whole g c told has =
     let seen = (g.D.Disk.state c.args.disk.now).seen in
     absurd (false≢true (sym c.if-are_whole.false ∙ c.are_whole.ensures.1
     (c.deref.ensures.value ∙ ((c.requires.survey told).lens ∙ files_whole c.args.want.now seen has))))
+
+pub returns-clause-untouched : goal.returns-clause-untouched
+returns-clause-untouched g c told has =
+    let seen = (g.D.Disk.state c.args.disk.now).seen in
+    absurd (false≢true (sym c.if-are_whole.false ∙ c.are_whole.ensures.1
+    (c.deref.ensures.value ∙ ((c.requires.survey told).lens ∙ files_whole c.args.want.now seen has))))
