@@ -1,15 +1,15 @@
 -- What stays over several calls.
-use Rattle.std.proofs.Common.{◌≡◌, ◌≢◌, ◌∙◌, sym, subst, ℕ, ◌+◌, ◌<◌, List, [], ◌∷◌, take, get_or, length, length-take, refl, arith}
-use Rattle.std.proofs.lemmas.List.{take-take, get_or-take}
-use Rattle.std.proofs.lemmas.List.Elements.{All-cons, All-nil, All-take, All-more, Contains-append_right}
+use Rattle.std.proofs.Common.{◌≡◌, ◌≢◌, ◌∙◌, sym, subst, ap, ℕ, ◌+◌, ◌<◌, List, [], ◌∷◌, ◌++◌, map, take, get_or, length, length-take, append_assoc, Option, None, Some, ⊎_elim, refl, arith}
+use Rattle.std.proofs.lemmas.List.{take-take, get_or-take, get_or-map, length-map}
+use Rattle.std.proofs.lemmas.List.Elements.{All-append, All-cons, All-nil, All-take, All-more, Contains-append_right, Contains-get_or}
 use Rattle.std.proofs.lemmas.Option.{IfSome_then}
-use Rattle.std.specs.Prelude.{IfSome, Contains}
+use Rattle.std.specs.Prelude.{IfSome, IsSomeAnd, Contains}
 use Rattle.dl_disk.specs.Calls.{Stays}
 use Rattle.dl_disk.specs.Files.{Files, IsSame}
 use Rattle.dl_disk.specs.Passes.{Performs, performs_more}
 use Rattle.dl_disk.specs.State.{DiskState, IsDurable}
 use Rattle.span_map.specs.declared.files.FileLen.{FileLen}
-use Rattle.payload_files.specs.Names.{name_of, folder_of, IsOther, HasFolders, KeepsFolders}
+use Rattle.payload_files.specs.Names.{name_of, folder_of, IsFolderOf, IsOther, HasFolders, KeepsFolders, MakesAtMost, MakesFoldersOf}
 use Rattle.payload_files.specs.Payload.{AreDurable}
 use Rattle.payload_files.specs.Changes.{AreSameBeside}
 
@@ -60,3 +60,43 @@ beside_front dir files k x y same name other = same name (All-take (λ (f : File
 
 pub contains_cons : (folders : List (List ℕ)) (first folder : List ℕ) → Contains folders folder → Contains (first ∷ folders) folder
 contains_cons folders first folder has = Contains-append_right (first ∷ []) folders folder has
+
+pub made_none : (dir : List ℕ) (files : List FileLen) (old new : List (List ℕ)) → new ≡ old
+    → MakesFoldersOf dir files old new
+made_none dir files old new same = record { made = []; is = same; named = All-nil (IsFolderOf dir files) }
+
+module _ (dir : List ℕ) (files : List FileLen) (k : ℕ) (file : FileLen) (within : k < length files)
+    (is : file ≡ get_or files k file) where
+  abbrev folders : List (Option (List ℕ))
+  folders = map (λ (f : FileLen). folder_of dir f.path) files
+
+  folder_is : (folder : List ℕ) → folder_of dir file.path ≡ Some folder → IsFolderOf dir files folder
+  folder_is folder named =
+      let at : get_or folders k None ≡ Some folder =
+      get_or-map (λ (f : FileLen). folder_of dir f.path) files k file None within
+      ∙ ap (λ (f : FileLen). folder_of dir f.path) (sym is) ∙ named in
+      let long = length-map files (λ (f : FileLen). folder_of dir f.path) in
+      subst (Contains folders) at (Contains-get_or folders k None (omega (arith, within, long)))
+
+  one_made : (o : Option (List ℕ)) (old new : List (List ℕ)) → o ≡ folder_of dir file.path
+      → IsSomeAnd o (λ name. new ≡ name ∷ old) → MakesFoldersOf dir files old new
+  one_made None old new same made = absurd made
+  one_made (Some folder) old new same made = record {
+    made = folder ∷ [];
+    is = made;
+    named = All-cons (IsFolderOf dir files) folder [] (folder_is folder (sym same)) (All-nil (IsFolderOf dir files));
+  }
+
+  -- the folder of one more file is made, where it isn't the last one
+  pub made_more : (a b c : List (List ℕ)) → MakesFoldersOf dir files a b → MakesAtMost (folder_of dir file.path) b c
+      → MakesFoldersOf dir files a c
+  made_more a b c before one =
+      let here : MakesFoldersOf dir files b c = ⊎_elim
+      (λ same. made_none dir files b c same)
+      (λ made. one_made (folder_of dir file.path) b c refl made) one in
+      record {
+        made = here.made ++ before.made;
+        is = here.is ∙ ap (λ (l : List (List ℕ)). here.made ++ l) before.is
+            ∙ sym (append_assoc here.made before.made a);
+        named = All-append (IsFolderOf dir files) here.made before.made here.named before.named;
+      }

@@ -1,6 +1,6 @@
 -- Names on a disk of the files of a payload, and of their folders. A name is a path with `/` between its parts, behind
 -- the folder that the payload lies in.
-use Rattle.std.specs.Prelude.{◌≡◌, ◌≢◌, ℕ, ◌-◌, List, [], ◌∷◌, ◌++◌, length, take, Option, Some, None, Bool, nat_lt, if◌then◌else◌, slice_get, IfSome, All, Contains}
+use Rattle.std.specs.Prelude.{◌≡◌, ◌≢◌, ◌⊎◌, ℕ, ◌-◌, List, [], ◌∷◌, ◌++◌, length, map, take, Option, Some, None, Bool, nat_lt, if◌then◌else◌, slice_get, IfSome, IsSomeAnd, All, Contains}
 use Rattle.std.specs.List.{join_with_byte}
 use Rattle.std.specs.Str.{bytes_eq}
 use Rattle.span_map.specs.Layout.{IsLayout}
@@ -36,6 +36,20 @@ IsOther dir files name = All (λ file. name_of dir file.path ≢ name) files
 -- each file's folder is among these
 abbrev pub HasFolders : List ℕ → List FileLen → List (List ℕ) → Type 0
 HasFolders dir files folders = All (λ file. IfSome (folder_of dir file.path) (Contains folders)) files
+
+-- it is the folder of one of the files
+abbrev pub IsFolderOf : List ℕ → List FileLen → List ℕ → Type 0
+IsFolderOf dir files folder = Contains (map (λ file. folder_of dir file.path) files) (Some folder)
+
+-- this folder came to those before, or none
+abbrev pub MakesAtMost : Option (List ℕ) → (old new : List (List ℕ)) → Type 0
+MakesAtMost folder old new = (new ≡ old) ⊎ IsSomeAnd folder (λ name. new ≡ name ∷ old)
+
+-- folders of these files came to those before, and no other
+pub record MakesFoldersOf (dir : List ℕ) (files : List FileLen) (old new : List (List ℕ)) : Type 0 where
+  pub made : List (List ℕ)
+  pub is : new ≡ made ++ old
+  pub named : All (IsFolderOf dir files) made
 
 -- what was among them before is among them still
 abbrev pub KeepsFolders : List (List ℕ) → List (List ℕ) → Type 0

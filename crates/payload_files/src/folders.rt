@@ -3,7 +3,7 @@ ghost use Rattle.std.specs.Prelude.{◌≡◌, Some, string_bytes, option_map, I
 ghost use Rattle.dl_kinds.specs.Causes.{HasCause};
 ghost use Rattle.dl_disk.specs.Files.{IsSame};
 ghost use Rattle.dl_disk.specs.Passes.{Performs};
-ghost use Rattle.payload_files.specs.Names.{folder_of, HasFolders, KeepsFolders};
+ghost use Rattle.payload_files.specs.Names.{folder_of, HasFolders, KeepsFolders, MakesAtMost, MakesFoldersOf};
 
 use crate::names::folder_name;
 use dl_disk::Disk;
@@ -36,6 +36,8 @@ fn make_folder<D: Disk>(
         → IfSome (folder_of dir.now path.now) (Contains (D.state disk.new).folders)) }
     ensures stay { IsTrue D.tells → KeepsFolders (D.state disk.old).folders
         (D.state disk.new).folders }
+    ensures only { IsTrue D.tells → MakesAtMost (folder_of dir.now path.now)
+        (D.state disk.old).folders (D.state disk.new).folders }
     ensures performs { IsTrue D.tells → Performs IsSame (D.state disk.old) (D.state disk.new) }
     ensures cause { HasCause (D.faults disk.old) (D.faults disk.new) result }
 {
@@ -61,6 +63,8 @@ fn make_each<D: Disk>(
         → HasFolders dir.now files.now (D.state disk.new).folders) }
     ensures stay { IsTrue D.tells → KeepsFolders (D.state disk.old).folders
         (D.state disk.new).folders }
+    ensures only { IsTrue D.tells → MakesFoldersOf dir.now files.now
+        (D.state disk.old).folders (D.state disk.new).folders }
     ensures performs { IsTrue D.tells → Performs IsSame (D.state disk.old) (D.state disk.new) }
     ensures cause { HasCause (D.faults disk.old) (D.faults disk.new) result }
 {
@@ -82,6 +86,8 @@ pub fn make_folders<D: Disk>(
         → HasFolders dir.now layout.now (D.state disk.new).folders) }
     ensures stay { IsTrue D.tells → KeepsFolders (D.state disk.old).folders
         (D.state disk.new).folders }
+    ensures only { IsTrue D.tells → MakesFoldersOf dir.now layout.now
+        (D.state disk.old).folders (D.state disk.new).folders }
     ensures performs { IsTrue D.tells → Performs IsSame (D.state disk.old) (D.state disk.new) }
     ensures cause { HasCause (D.faults disk.old) (D.faults disk.new) result }
 {

@@ -3,7 +3,7 @@ ghost use Rattle.std.specs.Prelude.{◌≡◌, length, IsTrue, OnOk};
 ghost use Rattle.dl_kinds.specs.Causes.{HasCause};
 ghost use Rattle.dl_disk.specs.Calls.{ReadsNothing};
 ghost use Rattle.payload_files.specs.Changes.{LeavesFitting, Stretches};
-ghost use Rattle.payload_files.specs.Names.{HasFolders, KeepsFolders};
+ghost use Rattle.payload_files.specs.Names.{HasFolders, KeepsFolders, MakesFoldersOf};
 ghost use Rattle.payload_files.specs.Payload.{AreResized, HasFiles};
 ghost use Rattle.resume_core.specs.Openings.{AreOpenedIn, AreOpenedRows, FitsPayload, GivesMoreOrOpened, HasControl, HaveControl, KeepsBesides, KeepsGiven, KeepsSound, MatchesOpened, OpensWholeJust};
 ghost use Rattle.resume_core.specs.Resume.{AreSound};
@@ -212,6 +212,8 @@ pub(crate) fn write_opened<D: Disk>(
         → HasFolders want.now.dir want.now.layout (D.state disk.new).folders) }
     ensures stay { IsTrue D.tells
         → KeepsFolders (D.state disk.old).folders (D.state disk.new).folders }
+    ensures only { IsTrue D.tells → MakesFoldersOf want.now.dir want.now.layout
+        (D.state disk.old).folders (D.state disk.new).folders }
     ensures cause { HasCause (D.faults disk.old) (D.faults disk.new) result }
 {
     make_folders(alloc, disk, want.dir.as_str(), &want.layout)?;

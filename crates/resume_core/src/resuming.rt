@@ -1,7 +1,7 @@
 // A download is opened: what is durable of it is found again.
 ghost use Rattle.std.specs.Prelude.{◌≡◌, false, IsSome, IsTrue, IfErr, IfOk, OnOk};
 ghost use Rattle.dl_disk.specs.Calls.{Stays};
-ghost use Rattle.payload_files.specs.Names.{HasFolders, KeepsFolders};
+ghost use Rattle.payload_files.specs.Names.{HasFolders, KeepsFolders, MakesFoldersOf};
 ghost use Rattle.payload_files.specs.Payload.{HasFiles};
 ghost use Rattle.resume_core.specs.Openings.{AreOpenedIn, AreOpenedRows, FitsPayload, HasControl, HasOpenCause, IsNoControl, KeepsBesides, KeepsGiven, KeepsPieces, LacksControl, OpensJust, OpensWhole, ReadsNoPayload, ReadsOnlyOwn, is_compared};
 ghost use Rattle.resume_core.specs.Refusals.{IsRefusal, RefusesJust, TellsWant, open_refusal};
@@ -80,6 +80,8 @@ pub fn resume<D: Disk>(
         → HasFolders want.now.dir want.now.layout (D.state disk.new).folders) }
     ensures stay { IsTrue D.tells
         → KeepsFolders (D.state disk.old).folders (D.state disk.new).folders }
+    ensures only { IsTrue D.tells → MakesFoldersOf want.now.dir want.now.layout
+        (D.state disk.old).folders (D.state disk.new).folders }
     ensures cause { HasOpenCause (D.faults disk.old) (D.faults disk.new) result }
 {
     let survey = look_up(alloc, disk, want)?;

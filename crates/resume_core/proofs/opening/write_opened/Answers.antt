@@ -107,3 +107,7 @@ returns-clause-over_whole g c told has =
     (d.state c.fit_and_put.new.disk) keeps (c.fit_and_put.ensures.besides told)
     (c.fit_and_put.ensures.over_whole told
     (has_same c.args.want.now (d.state c.args.disk.now).seen (d.state c.make_folders.new.disk).seen keeps.seen.files has))
+
+pub returns-clause-only : goal.returns-clause-only
+returns-clause-only g c told =
+    rw (c.fit_and_put.ensures.folders told, sym c.as_str.ensures) (c.make_folders.ensures.only told)

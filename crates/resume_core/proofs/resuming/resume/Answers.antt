@@ -1,7 +1,8 @@
 use Rattle.std.proofs.Common.{◌∙◌, inl, ℕ, List, sym, subst}
 use Rattle.std.specs.Prelude.{Contains}
 use Rattle.dl_disk.specs.Calls.{Stays}
-use Rattle.payload_files.specs.Names.{IsOther}
+use Rattle.payload_files.specs.Names.{IsOther, MakesFoldersOf}
+use Rattle.payload_files.proofs.Keeping.{made_none}
 use Rattle.resume_core.specs.Openings.{IsNoControl, is_compared}
 use Rattle.resume_core.specs.Refusals.{open_refusal}
 use Rattle.resume_core.proofs.Filed.{files_kept}
@@ -511,3 +512,32 @@ returns-clause-over_whole g c told has =
     whole_on want (is_compared want c.args.check) s0 s2 s3 keeps (c.write_opened.ensures.besides told)
     (c.write_opened.ensures.over_whole told (has_same want s0.seen s2.seen keeps.seen.files has)
     (is_compared want c.args.check) just)
+
+pub returns-in_err-survey-clause-only : goal.returns-in_err-survey-clause-only
+returns-in_err-survey-clause-only g c told =
+    let d = g.D.Disk in
+    made_none c.args.want.now.dir c.args.want.now.layout (d.state c.args.disk.now).folders
+    (d.state c.look_up.new.disk).folders (c.look_up.ensures.looks told).folders
+
+pub returns-in_err-opened-clause-only : goal.returns-in_err-opened-clause-only
+returns-in_err-opened-clause-only g c told =
+    let d = g.D.Disk in
+    made_none c.args.want.now.dir c.args.want.now.layout (d.state c.args.disk.now).folders
+    (d.state c.opened_of.new.disk).folders
+    ((c.opened_of.ensures.looks told).folders ∙ (c.look_up.ensures.looks told).folders)
+
+pub returns-in_err-write_opened-clause-only : goal.returns-in_err-write_opened-clause-only
+returns-in_err-write_opened-clause-only g c told =
+    let want = c.args.want.now in
+    let made = (g.D.Disk.state c.write_opened.new.disk).folders in
+    subst (λ (l : List (List ℕ)). MakesFoldersOf want.dir want.layout l made)
+    ((c.opened_of.ensures.looks told).folders ∙ (c.look_up.ensures.looks told).folders)
+    (c.write_opened.ensures.only told)
+
+pub returns-clause-only : goal.returns-clause-only
+returns-clause-only g c told =
+    let want = c.args.want.now in
+    let made = (g.D.Disk.state c.write_opened.new.disk).folders in
+    subst (λ (l : List (List ℕ)). MakesFoldersOf want.dir want.layout l made)
+    ((c.opened_of.ensures.looks told).folders ∙ (c.look_up.ensures.looks told).folders)
+    (c.write_opened.ensures.only told)
