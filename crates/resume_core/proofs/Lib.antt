@@ -1,4 +1,5 @@
 pub mod Apart
+pub mod Beside
 pub mod Ends
 pub mod Filed
 pub mod Fitted

@@ -1,8 +1,10 @@
 -- What the calls of the store do to a disk, from the state before a call to the state after it.
-use Rattle.std.specs.Prelude.{◌≡◌}
+use Rattle.std.specs.Prelude.{◌≡◌, ℕ, List, Option, Some, None, IsSome, get_or, slice_get}
 use Rattle.dl_disk.specs.Files.{Follows}
 use Rattle.dl_disk.specs.Passes.{Passes, Performs}
-use Rattle.dl_disk.specs.State.{DiskState, LeftSince}
+use Rattle.dl_disk.specs.State.{DiskState, IsDurable, LeftSince}
+use Rattle.payload_files.specs.Names.{name_of}
+use Rattle.span_map.specs.declared.files.FileLen.{FileLen}
 use Rattle.control_file.specs.declared.want.Want.{Want}
 use Rattle.piece_table.specs.Progress.{Progress}
 use Rattle.resume_core.specs.Resume.{AreSound}
@@ -18,6 +20,12 @@ SamePayload want old new = files_in want new.seen ≡ files_in want old.seen
 pub record KeepsFor (want : Want) (old new : DiskState) : Type 0 where
   pub seen : SameFor want old.seen new.seen
   pub passes : Passes (SameFor want) old new
+
+-- the file of this number lasts, where one stood by the lengths that were found
+abbrev pub LastsWhereStood : Want → List (Option ℕ) → ℕ → DiskState → Type 0
+LastsWhereStood want lens k disk =
+    (file : FileLen) → slice_get want.layout k ≡ Some file → IsSome (get_or lens k None)
+    → IsDurable (name_of want.dir file.path) disk
 
 -- where each image was sound and agreed with what the disk read, each image since is and does
 abbrev pub StaysSound : Want → DiskState → DiskState → Type 0

@@ -1,7 +1,8 @@
 -- What the calls of the store do to the files of a want.
-use Rattle.std.specs.Prelude.{◌≡◌, ◌≢◌, ◌⊎◌, ℕ, List, Some, None}
+use Rattle.std.specs.Prelude.{◌≡◌, ◌≢◌, ◌⊎◌, ℕ, List, Option, Some, None, IsSome, get_or, slice_get}
 use Rattle.dl_disk.specs.Files.{Files, IsSame}
-use Rattle.payload_files.specs.Names.{IsOther}
+use Rattle.payload_files.specs.Names.{IsOther, name_of}
+use Rattle.span_map.specs.declared.files.FileLen.{FileLen}
 use Rattle.control_file.specs.declared.want.Want.{Want}
 use Rattle.resume_core.specs.Wants.{control_name, temporary_name, files_in}
 
@@ -18,6 +19,16 @@ SameBut name old new = (other : List ℕ) → other ≢ name → new other ≡ o
 pub record PutsOrKeeps (temporary name bytes : List ℕ) (old new : Files) : Type 0 where
   pub others : (other : List ℕ) → other ≢ temporary → other ≢ name → new other ≡ old other
   pub file : (new name ≡ old name) ⊎ (new name ≡ Some bytes)
+
+-- each file of the payload that stood, by the lengths that were found, is as the disk read it
+abbrev pub HasStanding : Want → List (Option ℕ) → Files → Files → Type 0
+HasStanding want lens seen image =
+    (k : ℕ) (file : FileLen) → slice_get want.layout k ≡ Some file → IsSome (get_or lens k None)
+    → image (name_of want.dir file.path) ≡ seen (name_of want.dir file.path)
+
+-- the control file is the same, or a new one stands beside what the disk read of each file that stood
+abbrev pub PutsBeside : Want → List (Option ℕ) → Files → Files → Files → Type 0
+PutsBeside want lens seen old new = (new (control_name want) ≡ old (control_name want)) ⊎ HasStanding want lens seen new
 
 -- the name is none of the want's
 pub record IsBeside (want : Want) (name : List ℕ) : Type 0 where

@@ -7,8 +7,8 @@ ghost use Rattle.dl_disk.specs.Passes.{Performs};
 ghost use Rattle.dl_disk.specs.State.{IsDurable};
 ghost use Rattle.resume_core.specs.Openings.{HasControl, HaveControl, KeepsBesides, KeepsGiven, KeepsSound};
 ghost use Rattle.resume_core.specs.Rows.{ListsNothing};
-ghost use Rattle.resume_core.specs.States.{SamePayload};
-ghost use Rattle.resume_core.specs.Steps.{PutsOrKeeps};
+ghost use Rattle.resume_core.specs.States.{LastsWhereStood, SamePayload};
+ghost use Rattle.resume_core.specs.Steps.{PutsBeside, PutsOrKeeps};
 ghost use Rattle.control_file.specs.Wants.{IsWant};
 ghost use Rattle.resume_core.specs.Wants.{control_name, temporary_name};
 
@@ -32,6 +32,8 @@ fn sync_one<D: Disk>(
 ) -> Result<(), IoErr>
     requires count { length lens.now ≡ length want.now.layout }
     requires index { index < length lens.now }
+    ensures durable { OnOk result (IsTrue D.tells
+        → LastsWhereStood want.now lens.now index (D.state disk.new)) }
     ensures performs { IsTrue D.tells → Performs IsSame (D.state disk.old) (D.state disk.new) }
     ensures folders { IsTrue D.tells → (D.state disk.new).folders ≡ (D.state disk.old).folders }
     ensures cause { HasCause (D.faults disk.old) (D.faults disk.new) result }
@@ -51,6 +53,8 @@ fn sync_standing<D: Disk>(
     lens: &[Option<u64>],
 ) -> Result<(), IoErr>
     requires { length lens.now ≡ length want.now.layout }
+    ensures durable { OnOk result (IsTrue D.tells
+        → (k : ℕ) → k < length lens.now → LastsWhereStood want.now lens.now k (D.state disk.new)) }
     ensures performs { IsTrue D.tells → Performs IsSame (D.state disk.old) (D.state disk.new) }
     ensures folders { IsTrue D.tells → (D.state disk.new).folders ≡ (D.state disk.old).folders }
     ensures cause { HasCause (D.faults disk.old) (D.faults disk.new) result }
@@ -88,6 +92,9 @@ fn put_beside<D: Disk>(
     ensures performs { IsTrue D.tells
         → Performs (PutsOrKeeps (temporary_name want.now) (control_name want.now) bytes.now)
         (D.state disk.old) (D.state disk.new) }
+    ensures beside { IsTrue D.tells
+        → Performs (PutsBeside want.now lens.now (D.state disk.old).seen)
+        (D.state disk.old) (D.state disk.new) }
     ensures folders { IsTrue D.tells → (D.state disk.new).folders ≡ (D.state disk.old).folders }
     ensures cause { HasCause (D.faults disk.old) (D.faults disk.new) result }
 {
@@ -114,6 +121,9 @@ fn put_empty<D: Disk>(
         → KeepsBesides want.now (D.state disk.old) (D.state disk.new) }
     ensures sound { IsTrue D.tells → KeepsSound want.now (D.state disk.old) (D.state disk.new) }
     ensures reads { IsTrue D.tells → ReadsNothing (D.state disk.old) (D.state disk.new) }
+    ensures beside { IsTrue D.tells
+        → Performs (PutsBeside want.now lens.now (D.state disk.old).seen)
+        (D.state disk.old) (D.state disk.new) }
     ensures folders { IsTrue D.tells → (D.state disk.new).folders ≡ (D.state disk.old).folders }
     ensures cause { HasCause (D.faults disk.old) (D.faults disk.new) result }
 {
@@ -158,6 +168,9 @@ pub(crate) fn hold_control<D: Disk>(
     ensures gives { IsTrue D.tells → IsTrue stood
         → KeepsGiven want.now (D.state disk.old) (D.state disk.new) }
     ensures reads { IsTrue D.tells → ReadsNothing (D.state disk.old) (D.state disk.new) }
+    ensures beside { IsTrue D.tells
+        → Performs (PutsBeside want.now lens.now (D.state disk.old).seen)
+        (D.state disk.old) (D.state disk.new) }
     ensures folders { IsTrue D.tells → (D.state disk.new).folders ≡ (D.state disk.old).folders }
     ensures cause { HasCause (D.faults disk.old) (D.faults disk.new) result }
 {

@@ -1,3 +1,4 @@
+use Rattle.resume_core.proofs.Beside.{beside_same}
 use Rattle.resume_core.proofs.Filed.{files_kept}
 use Rattle.resume_core.proofs.Openings.{sound_same_step, given_same_step}
 use Rattle.resume_core.proofs.holding.hold_control.Goals as goal
@@ -19,3 +20,9 @@ returns-then-stood-clause-gives g c told stood =
     let d = g.D.Disk in
     given_same_step c.args.want.now (d.state c.args.disk.now) (d.state c.sync_control.new.disk)
     (c.sync_control.ensures.performs told).seen (c.sync_control.ensures.performs told).passes
+
+pub returns-then-stood-clause-beside : goal.returns-then-stood-clause-beside
+returns-then-stood-clause-beside g c told =
+    let d = g.D.Disk in
+    beside_same c.args.want.now c.args.lens.now (d.state c.args.disk.now) (d.state c.sync_control.new.disk)
+    (c.sync_control.ensures.performs told)

@@ -1,4 +1,5 @@
 use Rattle.std.proofs.Common.{◌∙◌}
+use Rattle.resume_core.proofs.Beside.{beside_none}
 use Rattle.resume_core.proofs.Openings.{sound_none, put_payload, put_besides, put_sound, held_put}
 use Rattle.resume_core.proofs.Savings.{ok_both}
 use Rattle.resume_core.proofs.holding.put_empty.Goals as goal
@@ -38,3 +39,11 @@ returns-clause-sound g c told =
     c.in_ok-control.ensures
     (d.state c.args.disk.now) (d.state c.put_beside.new.disk)
     (rw (c.deref.ensures.value ∙ c.in_ok-bytes.ensures.spelled) at c.put_beside.ensures.performs told)
+
+pub returns-in_err-control-clause-beside : goal.returns-in_err-control-clause-beside
+returns-in_err-control-clause-beside g c told =
+    beside_none c.args.want.now c.args.lens.now (g.D.Disk.state c.args.disk.now)
+
+pub returns-in_err-bytes-clause-beside : goal.returns-in_err-bytes-clause-beside
+returns-in_err-bytes-clause-beside g c told =
+    beside_none c.args.want.now c.args.lens.now (g.D.Disk.state c.args.disk.now)
