@@ -4,15 +4,16 @@ use Rattle.std.specs.Prelude.{IsSomeAnd, option_map}
 use Rattle.std.specs.List.{AllByRecursion}
 use Rattle.std.proofs.lemmas.List.{append-nil, take_all}
 use Rattle.std.proofs.lemmas.List.Elements.{recursion_from_All, All-from_recursion}
-use Rattle.dl_disk.specs.Files.{Files, file_bytes, resized}
+use Rattle.dl_disk.specs.Files.{Files, MayMake, Stretched, file_bytes, resized}
 use Rattle.dl_kinds.specs.Plan.{piece_start, piece_end}
 use Rattle.span_map.specs.declared.files.FileLen.{FileLen}
 use Rattle.payload_files.specs.Changes.{Stretches}
 use Rattle.payload_files.specs.Names.{name_of}
 use Rattle.payload_files.specs.Payload.{AreResized, HasFiles}
+use Rattle.payload_files.proofs.Lengths.{stretched_none}
 use Rattle.control_file.specs.declared.want.Want.{Want}
 use Rattle.resume_core.specs.Lens.{AreWhole, lens_in, lens_of_files}
-use Rattle.resume_core.specs.Openings.{FitsPayload}
+use Rattle.resume_core.specs.Openings.{FitsPayload, StretchesPayload}
 use Rattle.resume_core.specs.Resume.{ReachesPiece, piece_payload}
 use Rattle.resume_core.specs.Wants.{files_in}
 use Rattle.resume_core.proofs.Stretching.{reach_kept, bytes_kept}
@@ -70,6 +71,9 @@ HasLen file it = IsSomeAnd it (λ bytes. length bytes ≡ file.len)
 abbrev IsFitted : FileLen → Option (List ℕ) → Option (List ℕ) → Type 0
 IsFitted file was now = now ≡ Some (resized (file_bytes was) file.len)
 
+abbrev MayStretch : FileLen → Option (List ℕ) → Option (List ℕ) → Type 0
+MayStretch file was now = MayMake (Stretched file.len) was now
+
 pub lens_whole : (files : List FileLen) (lens : List (Option ℕ)) → length lens ≡ length files
     → ((j : ℕ) (d : FileLen) → j < length lens → get_or lens j None ≡ Some (get_or files j d).len)
     → lens ≡ map (λ file. Some file.len) files
@@ -108,6 +112,29 @@ module _ (want : Want) where
       (each_to want.dir IsFitted a b c want.layout same
       (recursion_from_All (λ file. IsFitted file (a (name_of want.dir file.path)) (b (name_of want.dir file.path)))
       want.layout sized))
+
+  pub stretches_from : (a b c : Files) → files_in want b ≡ files_in want a → StretchesPayload want b c
+      → StretchesPayload want a c
+  stretches_from a b c same stretches =
+      All-from_recursion (λ file. MayStretch file (a (name_of want.dir file.path)) (c (name_of want.dir file.path)))
+      want.layout
+      (each_from want.dir MayStretch a b c want.layout same
+      (recursion_from_All (λ file. MayStretch file (b (name_of want.dir file.path)) (c (name_of want.dir file.path)))
+      want.layout stretches))
+
+  pub stretches_to : (a b c : Files) → files_in want c ≡ files_in want b → StretchesPayload want a b
+      → StretchesPayload want a c
+  stretches_to a b c same stretches =
+      All-from_recursion (λ file. MayStretch file (a (name_of want.dir file.path)) (c (name_of want.dir file.path)))
+      want.layout
+      (each_to want.dir MayStretch a b c want.layout same
+      (recursion_from_All (λ file. MayStretch file (a (name_of want.dir file.path)) (b (name_of want.dir file.path)))
+      want.layout stretches))
+
+  -- nothing changed
+  pub stretches_same : (a b : Files) → files_in want b ≡ files_in want a → StretchesPayload want a b
+  stretches_same a b same = stretches_to a a b same
+      (λ k d within. let file = get_or want.layout k d in stretched_none file.len (a (name_of want.dir file.path)))
 
   -- ---- what was read of a payload before and after its files get their lengths
 

@@ -1,12 +1,12 @@
 -- What a download is opened with, and what an opening does to a disk.
-use Rattle.std.specs.Prelude.{◌≡◌, ◌≢◌, ◌≤◌, ◌<◌, ◌↔◌, ◌⊎◌, ℕ, Bool, true, false, ◌&&◌, List, slice_get, Option, Some, None, Result, OnOk, IfErr, IsErrOf, IsSome, is_some}
+use Rattle.std.specs.Prelude.{◌≡◌, ◌≢◌, ◌≤◌, ◌<◌, ◌↔◌, ◌⊎◌, ℕ, Bool, true, false, ◌&&◌, List, slice_get, Option, Some, None, Result, OnOk, IfErr, IsErrOf, IsSome, is_some, All}
 use Rattle.dl_kinds.specs.Counts.{Rose}
 use Rattle.dl_disk.specs.Calls.{Stays}
-use Rattle.dl_disk.specs.Files.{Files, IsSame}
+use Rattle.dl_disk.specs.Files.{Files, IsSame, MayMake, Stretched}
 use Rattle.dl_disk.specs.Passes.{Passes}
 use Rattle.dl_disk.specs.State.{DiskState, LeftSince}
 use Rattle.dl_kinds.specs.Plan.{blocks_of, piece_of}
-use Rattle.payload_files.specs.Names.{IsOther}
+use Rattle.payload_files.specs.Names.{IsOther, name_of}
 use Rattle.payload_files.specs.Payload.{AreResized, HasFiles}
 use Rattle.piece_table.specs.Progress.{IsStart}
 use Rattle.control_file.specs.Spelling.{control_bytes}
@@ -119,6 +119,12 @@ pub record FitsPayload (want : Want) (old new : Files) : Type 0 where
   pub bytes :
       (piece : ℕ) → ReachesPiece want (files_in want old) piece
       → piece_payload want (files_in want new) piece ≡ piece_payload want (files_in want old) piece
+
+-- each file of the payload has what stood in it, up to the lengths that it had and has
+abbrev pub StretchesPayload : Want → Files → Files → Type 0
+StretchesPayload want old new =
+    All (λ file. MayMake (Stretched file.len) (old (name_of want.dir file.path)) (new (name_of want.dir file.path)))
+    want.layout
 
 -- a control file stands, in each of these
 abbrev pub HasControl : Want → Files → Type 0

@@ -5,7 +5,7 @@ ghost use Rattle.dl_disk.specs.Calls.{ReadsNothing};
 ghost use Rattle.payload_files.specs.Changes.{LeavesFitting, Stretches};
 ghost use Rattle.payload_files.specs.Names.{HasFolders, KeepsFolders, MakesFoldersOf};
 ghost use Rattle.payload_files.specs.Payload.{AreResized, HasFiles};
-ghost use Rattle.resume_core.specs.Openings.{AreOpenedIn, AreOpenedRows, FitsPayload, GivesMoreOrOpened, HasControl, HaveControl, KeepsBesides, KeepsGiven, KeepsSound, MatchesOpened, OpensWholeJust};
+ghost use Rattle.resume_core.specs.Openings.{AreOpenedIn, AreOpenedRows, FitsPayload, GivesMoreOrOpened, HasControl, HaveControl, KeepsBesides, KeepsGiven, KeepsSound, MatchesOpened, OpensWholeJust, StretchesPayload};
 ghost use Rattle.resume_core.specs.Resume.{AreSound};
 ghost use Rattle.resume_core.specs.States.{KeepsFor, SamePayload};
 ghost use Rattle.resume_core.specs.Rows.{IsSurvey, StoodOrWhole};
@@ -60,6 +60,8 @@ fn hold_and_fit<D: Disk>(
         → HasFiles want.now.dir want.now.layout (D.state disk.new).seen) }
     ensures kept { OnOk result (IsTrue D.tells
         → FitsPayload want.now (D.state disk.old).seen (D.state disk.new).seen) }
+    ensures stretches { IsTrue D.tells
+        → StretchesPayload want.now (D.state disk.old).seen (D.state disk.new).seen }
     ensures besides { IsTrue D.tells
         → KeepsBesides want.now (D.state disk.old) (D.state disk.new) }
     ensures sound { IsTrue D.tells → KeepsSound want.now (D.state disk.old) (D.state disk.new) }
@@ -87,6 +89,8 @@ fn fit_payload<D: Disk>(
         → HasFiles want.now.dir want.now.layout (D.state disk.new).seen) }
     ensures kept { OnOk result (IsTrue D.tells
         → FitsPayload want.now (D.state disk.old).seen (D.state disk.new).seen) }
+    ensures stretches { IsTrue D.tells
+        → StretchesPayload want.now (D.state disk.old).seen (D.state disk.new).seen }
     ensures besides { IsTrue D.tells
         → KeepsBesides want.now (D.state disk.old) (D.state disk.new) }
     ensures sound { IsTrue D.tells → KeepsSound want.now (D.state disk.old) (D.state disk.new) }
@@ -159,6 +163,8 @@ fn fit_and_put<D: Disk>(
         (D.state disk.new).seen (D.state disk.new).may_leave) }
     ensures kept { OnOk result (IsTrue D.tells
         → FitsPayload want.now (D.state disk.old).seen (D.state disk.new).seen) }
+    ensures stretches { IsTrue D.tells
+        → StretchesPayload want.now (D.state disk.old).seen (D.state disk.new).seen }
     ensures besides { IsTrue D.tells
         → KeepsBesides want.now (D.state disk.old) (D.state disk.new) }
     ensures sound { IsTrue D.tells → MatchesOpened want.now opened.now (D.state disk.old).seen
@@ -195,6 +201,8 @@ pub(crate) fn write_opened<D: Disk>(
         (D.state disk.new).seen (D.state disk.new).may_leave) }
     ensures kept { OnOk result (IsTrue D.tells
         → FitsPayload want.now (D.state disk.old).seen (D.state disk.new).seen) }
+    ensures stretches { IsTrue D.tells
+        → StretchesPayload want.now (D.state disk.old).seen (D.state disk.new).seen }
     ensures besides { IsTrue D.tells
         → KeepsBesides want.now (D.state disk.old) (D.state disk.new) }
     ensures sound { IsTrue D.tells → MatchesOpened want.now opened.now (D.state disk.old).seen

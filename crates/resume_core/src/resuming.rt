@@ -3,7 +3,7 @@ ghost use Rattle.std.specs.Prelude.{◌≡◌, false, IsSome, IsTrue, IfErr, IfO
 ghost use Rattle.dl_disk.specs.Calls.{Stays};
 ghost use Rattle.payload_files.specs.Names.{HasFolders, KeepsFolders, MakesFoldersOf};
 ghost use Rattle.payload_files.specs.Payload.{HasFiles};
-ghost use Rattle.resume_core.specs.Openings.{AreOpenedIn, AreOpenedRows, FitsPayload, HasControl, HasOpenCause, IsNoControl, KeepsBesides, KeepsGiven, KeepsPieces, LacksControl, OpensJust, OpensWhole, ReadsNoPayload, ReadsOnlyOwn, is_compared};
+ghost use Rattle.resume_core.specs.Openings.{AreOpenedIn, AreOpenedRows, FitsPayload, HasControl, HasOpenCause, IsNoControl, KeepsBesides, KeepsGiven, KeepsPieces, LacksControl, OpensJust, OpensWhole, ReadsNoPayload, ReadsOnlyOwn, StretchesPayload, is_compared};
 ghost use Rattle.resume_core.specs.Refusals.{IsRefusal, RefusesJust, TellsWant, open_refusal};
 ghost use Rattle.resume_core.specs.Resume.{AreSound};
 ghost use Rattle.resume_core.specs.States.{KeepsFor, StaysSound};
@@ -60,6 +60,10 @@ pub fn resume<D: Disk>(
     ensures whole { IsTrue D.tells → LacksControl want.now (D.state disk.old).seen
         → HasFiles want.now.dir want.now.layout (D.state disk.old).seen
         → KeepsGiven want.now (D.state disk.old) (D.state disk.new) }
+
+    // What stood in a file stands still, up to the lengths that it had and has, also on failure.
+    ensures stretches { IsTrue D.tells
+        → StretchesPayload want.now (D.state disk.old).seen (D.state disk.new).seen }
 
     // Over whole files an image has the want's files as one had them before, or a control file that gives what was found.
     ensures over_whole { IsTrue D.tells

@@ -1,5 +1,5 @@
 use Rattle.std.proofs.lemmas.Result.{on_ok_weaker}
-use Rattle.resume_core.proofs.Fitted.{fits_to}
+use Rattle.resume_core.proofs.Fitted.{fits_to, stretches_to}
 use Rattle.resume_core.proofs.Openings.{besides_on, sound_on, given_or, given_or_on, matches_on}
 use Rattle.resume_core.proofs.OverWhole.{just_kept, just_on}
 use Rattle.resume_core.proofs.opening.fit_and_put.Goals as goal
@@ -63,3 +63,9 @@ returns-clause-over_whole g c told has =
     just_on c.args.want.now c.args.opened.now (d.state c.args.disk.now) (d.state c.fit_payload.new.disk)
     (d.state c.put_opened.new.disk) (c.fit_payload.ensures.over_whole told has) (c.put_opened.ensures.besides told)
     (c.put_opened.ensures.over_whole told)
+
+pub returns-clause-stretches : goal.returns-clause-stretches
+returns-clause-stretches g c told =
+    let d = g.D.Disk in
+    stretches_to c.args.want.now (d.state c.args.disk.now).seen (d.state c.fit_payload.new.disk).seen
+    (d.state c.put_opened.new.disk).seen (c.put_opened.ensures.payload told) (c.fit_payload.ensures.stretches told)

@@ -1,6 +1,6 @@
-use Rattle.std.proofs.Common.{◌∙◌, ⊎_elim, sym}
+use Rattle.std.proofs.Common.{◌∙◌, ⊎_elim, refl, sym}
 use Rattle.std.proofs.lemmas.Bool.{false≢true}
-use Rattle.resume_core.proofs.Fitted.{files_whole, whole_files, fits_as_is}
+use Rattle.resume_core.proofs.Fitted.{files_whole, whole_files, fits_as_is, stretches_same}
 use Rattle.resume_core.proofs.Openings.{sound_none, given_none}
 use Rattle.resume_core.proofs.OverWhole.{for_none}
 use Rattle.resume_core.proofs.opening.fit_payload.Goals as goal
@@ -42,3 +42,8 @@ returns-clause-untouched g c told has =
     let seen = (g.D.Disk.state c.args.disk.now).seen in
     absurd (false≢true (sym c.if-are_whole.false ∙ c.are_whole.ensures.1
     (c.deref.ensures.value ∙ ((c.requires.survey told).lens ∙ files_whole c.args.want.now seen has))))
+
+pub returns-then-are_whole-clause-stretches : goal.returns-then-are_whole-clause-stretches
+returns-then-are_whole-clause-stretches g c told =
+    let seen = (g.D.Disk.state c.args.disk.now).seen in
+    stretches_same c.args.want.now seen seen refl

@@ -1,4 +1,4 @@
-use Rattle.resume_core.proofs.Fitted.{fits_stretched}
+use Rattle.resume_core.proofs.Fitted.{fits_stretched, stretches_from, stretches_same}
 use Rattle.resume_core.proofs.Openings.{besides_on, sound_on, given_on}
 use Rattle.std.proofs.lemmas.Result.{on_ok_weaker}
 use Rattle.resume_core.proofs.opening.hold_and_fit.Goals as goal
@@ -31,3 +31,15 @@ returns-clause-gives g c told stood =
     given_on c.args.want.now (d.state c.args.disk.now) (d.state c.hold_control.new.disk) (d.state c.fit_held.new.disk)
     (c.hold_control.ensures.besides told) (c.fit_held.ensures.besides told)
     (c.hold_control.ensures.gives told stood) (c.fit_held.ensures.gives told)
+
+pub returns-in_err-hold_control-clause-stretches : goal.returns-in_err-hold_control-clause-stretches
+returns-in_err-hold_control-clause-stretches g c told =
+    let d = g.D.Disk in
+    stretches_same c.args.want.now (d.state c.args.disk.now).seen (d.state c.hold_control.new.disk).seen
+    (c.hold_control.ensures.payload told)
+
+pub returns-clause-stretches : goal.returns-clause-stretches
+returns-clause-stretches g c told =
+    let d = g.D.Disk in
+    stretches_from c.args.want.now (d.state c.args.disk.now).seen (d.state c.hold_control.new.disk).seen
+    (d.state c.fit_held.new.disk).seen (c.hold_control.ensures.payload told) (c.fit_held.ensures.seen told).each

@@ -1,7 +1,7 @@
 use Rattle.std.proofs.Common.{sym}
 use Rattle.std.proofs.lemmas.Result.{on_ok_weaker}
 use Rattle.resume_core.proofs.Filed.{files_kept}
-use Rattle.resume_core.proofs.Fitted.{fits_from, has_same}
+use Rattle.resume_core.proofs.Fitted.{fits_from, has_same, stretches_from, stretches_same}
 use Rattle.resume_core.proofs.Openings.{besides_same, besides_on, sound_same_step, sound_on, given_same_step, given_or, given_or_on, matches_same}
 use Rattle.resume_core.proofs.OverWhole.{for_same, just_kept, just_on}
 use Rattle.resume_core.proofs.Surveys.{survey_same}
@@ -111,3 +111,20 @@ returns-clause-over_whole g c told has =
 pub returns-clause-only : goal.returns-clause-only
 returns-clause-only g c told =
     rw (c.fit_and_put.ensures.folders told, sym c.as_str.ensures) (c.make_folders.ensures.only told)
+
+pub returns-in_err-make_folders-clause-stretches : goal.returns-in_err-make_folders-clause-stretches
+returns-in_err-make_folders-clause-stretches g c told =
+    let d = g.D.Disk in
+    let was = (d.state c.args.disk.now).seen in
+    let now = (d.state c.make_folders.new.disk).seen in
+    stretches_same c.args.want.now was now
+    (files_kept c.args.want.now was now (c.make_folders.ensures.performs told).seen)
+
+pub returns-clause-stretches : goal.returns-clause-stretches
+returns-clause-stretches g c told =
+    let d = g.D.Disk in
+    let was = (d.state c.args.disk.now).seen in
+    let made = (d.state c.make_folders.new.disk).seen in
+    stretches_from c.args.want.now was made (d.state c.fit_and_put.new.disk).seen
+    (files_kept c.args.want.now was made (c.make_folders.ensures.performs told).seen)
+    (c.fit_and_put.ensures.stretches told)

@@ -6,7 +6,7 @@ use Rattle.payload_files.proofs.Keeping.{made_none}
 use Rattle.resume_core.specs.Openings.{IsNoControl, is_compared}
 use Rattle.resume_core.specs.Refusals.{open_refusal}
 use Rattle.resume_core.proofs.Filed.{files_kept}
-use Rattle.resume_core.proofs.Fitted.{fits_from, has_same}
+use Rattle.resume_core.proofs.Fitted.{fits_from, has_same, stretches_from, stretches_same}
 use Rattle.resume_core.proofs.Moved.{disk_cause_moved, refuses_disk, refuses_store, plain_disk, plain_store, told_plain}
 use Rattle.resume_core.proofs.Openings.{matches_same}
 use Rattle.resume_core.proofs.Opens.{compared_listed, compared_matches, covers, covers_absent, covers_pieces, given_pieces, hashes_none, looked, looked_besides, looked_both, looked_for, looked_given, looked_sound, no_reason, opens_same, sound_matches, survey_stood, survey_whole, whole_besides, whole_given, whole_pieces, whole_sound}
@@ -541,3 +541,43 @@ returns-clause-only g c told =
     subst (λ (l : List (List ℕ)). MakesFoldersOf want.dir want.layout l made)
     ((c.opened_of.ensures.looks told).folders ∙ (c.look_up.ensures.looks told).folders)
     (c.write_opened.ensures.only told)
+
+pub returns-in_err-survey-clause-stretches : goal.returns-in_err-survey-clause-stretches
+returns-in_err-survey-clause-stretches g c told =
+    let d = g.D.Disk in
+    let want = c.args.want.now in
+    let s0 = d.state c.args.disk.now in
+    let s1 = d.state c.look_up.new.disk in
+    stretches_same want s0.seen s1.seen (files_kept want s0.seen s1.seen (c.look_up.ensures.looks told).stays.seen)
+
+pub returns-in_err-opened-clause-stretches : goal.returns-in_err-opened-clause-stretches
+returns-in_err-opened-clause-stretches g c told =
+    let d = g.D.Disk in
+    let want = c.args.want.now in
+    let s0 = d.state c.args.disk.now in
+    let s2 = d.state c.opened_of.new.disk in
+    let looks = looked_both (IsNoControl want) (IsOther want.dir want.layout) s0 (d.state c.look_up.new.disk) s2
+    (c.look_up.ensures.looks told) (c.opened_of.ensures.looks told) in
+    stretches_same want s0.seen s2.seen (files_kept want s0.seen s2.seen looks.stays.seen)
+
+pub returns-in_err-write_opened-clause-stretches : goal.returns-in_err-write_opened-clause-stretches
+returns-in_err-write_opened-clause-stretches g c told =
+    let d = g.D.Disk in
+    let want = c.args.want.now in
+    let s0 = d.state c.args.disk.now in
+    let s2 = d.state c.opened_of.new.disk in
+    let looks = looked_both (IsNoControl want) (IsOther want.dir want.layout) s0 (d.state c.look_up.new.disk) s2
+    (c.look_up.ensures.looks told) (c.opened_of.ensures.looks told) in
+    stretches_from want s0.seen s2.seen (d.state c.write_opened.new.disk).seen
+    (files_kept want s0.seen s2.seen looks.stays.seen) (c.write_opened.ensures.stretches told)
+
+pub returns-clause-stretches : goal.returns-clause-stretches
+returns-clause-stretches g c told =
+    let d = g.D.Disk in
+    let want = c.args.want.now in
+    let s0 = d.state c.args.disk.now in
+    let s2 = d.state c.opened_of.new.disk in
+    let looks = looked_both (IsNoControl want) (IsOther want.dir want.layout) s0 (d.state c.look_up.new.disk) s2
+    (c.look_up.ensures.looks told) (c.opened_of.ensures.looks told) in
+    stretches_from want s0.seen s2.seen (d.state c.write_opened.new.disk).seen
+    (files_kept want s0.seen s2.seen looks.stays.seen) (c.write_opened.ensures.stretches told)
