@@ -6,22 +6,26 @@ ghost use Rattle.std.specs.Prelude.{false};
 
 use crate::disk::FileDisk;
 use crate::faults::{NotedFaults, told};
+use crate::opened::Opened;
 use dl_disk::Disk;
 use dl_kinds::IoErr;
 use fault_notes::{Noted, Notes};
 use std::fs::{File, Files};
 use std::io::ErrorKind;
-use std::os::unix::fs::FileExt;
 use std::path::Path;
 use std::{fs, io};
 
 /// The files below a folder, to be read alone. There is no file but a plain one at a name, and none where a part of the name
 /// below the folder is a symbolic link, so that no link leads out of it.
+///
+/// A file that was read, but not up to its end, stays open. It is read further where the last look at its length found that
+/// very file, unchanged; else it is opened anew.
 #[derive(Drop)]
 pub struct FolderDisk<'a, R: Files<File = File> + AllocGlobal> {
     rt: &'a R,
     // So many bytes stand before the part below the folder in each name.
     root: usize,
+    opened: Opened,
     faults: NotedFaults,
 }
 
@@ -31,6 +35,7 @@ impl<'a, R: Files<File = File> + AllocGlobal> FolderDisk<'a, R> {
         FolderDisk {
             rt,
             root: if dir == "." { 0 } else { dir.len() },
+            opened: Opened::new(rt.alloc()),
             faults: NotedFaults::new(rt.alloc()),
         }
     }
@@ -69,12 +74,13 @@ impl<'a, R: Files<File = File> + AllocGlobal> FolderDisk<'a, R> {
         Ok(true)
     }
 
-    fn length(&self, name: &str) -> io::Result<Option<u64>> {
+    // What the system tells of the file, where there is one.
+    fn find(&self, name: &str) -> io::Result<Option<fs::Metadata>> {
         if !self.is_in_folders(name)? {
             return Ok(None);
         }
         match self.look_at(name)? {
-            Some(about) if about.is_file() => Ok(Some(about.len())),
+            Some(about) if about.is_file() => Ok(Some(about)),
             _ => Ok(None),
         }
     }
@@ -99,12 +105,13 @@ impl<'a, R: Files<File = File> + AllocGlobal> Disk for FolderDisk<'a, R> {
     }
 
     fn len(&mut self, name: &str) -> Result<Option<u64>, IoErr> {
-        let outcome = self.length(name);
+        let found = self.find(name);
+        let outcome = self.opened.length(name, found);
         self.faults.note(name, told(outcome))
     }
 
     fn read_at(&mut self, name: &str, at: u64, into: &mut [u8]) -> Result<(), IoErr> {
-        let outcome = File::open(self.rt, name).and_then(|file| file.read_exact_at(into, at));
+        let outcome = self.opened.read(self.rt, name, at, into);
         self.faults.note(name, told(outcome))
     }
 

@@ -10,6 +10,7 @@ mod files;
 mod folder;
 mod lasting;
 mod links;
+mod opened;
 mod output;
 mod patience;
 
