@@ -60,7 +60,8 @@ def can_unshare():
 
 def lacking():
     """What cases need, and isn't here."""
-    commands = ("nginx", "mktorrent", "transmission-create", "transmission-show", "aria2c", "unshare", "setpriv", "cc")
+    makers = ("mktorrent", "transmission-create", "transmission-show")
+    commands = ("nginx", *makers, "aria2c", "curl", "wget", "unshare", "setpriv", "cc")
     gone = {it for it in commands if shutil.which(it) is None}
     if not has_ipv6():
         gone.add("ipv6")

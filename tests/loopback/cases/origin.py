@@ -2,12 +2,16 @@
 import concurrent.futures
 import contextlib
 import os
+import signal
 import socket
+import subprocess
 import time
 
+from lib.faults import Faults
 from lib.origins import (
     BAD_REQUEST,
     DOORS,
+    FAILED,
     NOT_ALLOWED,
     NOT_FOUND,
     Origin,
@@ -22,8 +26,8 @@ from lib.origins import (
     whole,
 )
 from lib.payloads import LONG, MIB, SMALL, SPREAD
-from lib.rooms import PLAIN, case
-from lib.wants import about, want, want_within
+from lib.rooms import LIMIT, PLAIN, PROGRAM, case
+from lib.wants import about, want, want_in_time, want_within
 
 HELLO = {"f": b"hello"}
 
@@ -55,6 +59,11 @@ def _(room):
         want(b"Content-Length: 5" in fields, f"{fields}")
         line, _, content = curled("-C", "2", origin.url())
         want((line, content) == (b"HTTP/1.1 206 Partial Content", b"llo"), f"{line} {content}")
+        # it goes on with what stands, and asks for no more where all of it does
+        for stands in (b"he", b"", b"hello"):
+            room.put("came", stands)
+            fetched(room, "curl", "-sS", "-C", "-", "-o", "came", origin.url())
+            want(room.get("came") == b"hello", f"curl went on from {stands} to {room.get('came')}")
         line, _, content = curled("--http1.0", origin.url())
         want((line, content) == (b"HTTP/1.1 200 OK", b"hello"), f"{line} {content}")
 
@@ -131,6 +140,42 @@ def _(room):
                 want((line, came) == (b"HTTP/1.1 200 OK", content), f"{line} {came}")
 
 
+@case("targets that are spelled so as to lead out of the folder")
+def _(room):
+    room.put("f", b"outside")
+    targets = (
+        b"/%2e%2e%2ff",
+        b"/..%2ff",
+        b"/%252e%252e/f",
+        b"/%252e%252e%252ff",
+        b"/..\\f",
+        b"/..%5cf",
+        b"/%2e%2e%5cf",
+        b"\\..\\f",
+        b"/./../f",
+        b"/%c0%ae%c0%ae/f",
+        b"/..;/f",
+        b"../f",
+        b"%2f..%2ff",
+        b"http://127.0.0.1/../f",
+    )
+    with Origin(room, HELLO) as origin:
+        for target in targets:
+            with about(target):
+                origin.wants(asking(target), refused(NOT_FOUND))
+        origin.wants(asking(b"/\xc0\xae\xc0\xae/f"), refused(BAD_REQUEST))
+        # only a target that begins with a slash names a file
+        for target in (b"http://127.0.0.1/f", b"f", b"*", b"//127.0.0.1/f"):
+            with about(target):
+                origin.wants(asking(target), refused(NOT_FOUND))
+        # decoded once these are names like others
+        for name in ("%2e%2e/f", "..\\f"):
+            room.put(f"served/{name}", b"inside")
+        for target in (b"/%252e%252e/f", b"/..\\f", b"/..%5cf"):
+            with about(f"{target}, which stands in the folder"):
+                origin.wants(asking(target), whole(b"inside"))
+
+
 @case("links, pipes, folders and devices are no files", "curl")
 def _(room):
     room.put("outside", b"outside")
@@ -158,6 +203,71 @@ def _(room):
         origin.wants(asking(), whole(b"other bytes"))
         os.remove(origin.path("f"))
         origin.wants(asking(), refused(NOT_FOUND))
+
+
+@case("a file changes between two parts of one reply")
+def _(room):
+    # of the other length, at the same place, and by a new file of the same length
+    for name, change in (
+        ("cut", lambda path: os.truncate(path, 500_000)),
+        ("a folder in its place", lambda path: (os.remove(path), os.mkdir(path))),
+        ("a link in its place", lambda path: (os.rename(path, f"{path}-aside"), os.symlink(f"{path}-aside", path))),
+        ("a link above it", lambda path: linked_above(path)),
+        ("gone", os.remove),
+    ):
+        payload = LONG * 16
+        with about(name), Origin(room, {**HELLO, "d/long": payload}, folder=f"served {name}") as origin:
+            with origin.deaf(b"/d/long") as link:
+                begin = waits_for(link, 100_000)
+                change(origin.path("d/long"))
+                came = begin + waits_for(link, len(payload) * 2)
+            right = whole(payload)
+            want(len(came) < len(right), "all of it came")
+            want(right.startswith(came), "other bytes came, or another reply behind them")
+            origin.wants(asking(), whole(b"hello"))
+
+
+def linked_above(path):
+    """The folder of a file takes another name, to which a link leads from its old one."""
+    folder = os.path.dirname(path)
+    os.rename(folder, f"{folder}-aside")
+    os.symlink(f"{folder}-aside", folder)
+
+
+@case("a file is replaced by another between two parts of one reply")
+def _(room):
+    payload, other = LONG * 16, bytes(len(LONG) * 16)
+    with Origin(room, {"long": payload, "aside": other}) as origin:
+        with origin.deaf(b"/long") as link:
+            begin = waits_for(link, 100_000)
+            os.replace(origin.path("aside"), origin.path("long"))
+            came = begin + waits_for(link, len(whole(payload)) - len(begin))
+        right = whole(payload)
+        want(len(came) == len(right), f"{len(came)} bytes came, and not {len(right)}")
+        # up to a place it is the one file, and from there on the other
+        head = len(right) - len(payload)
+        place = next(at for at in range(len(came) - 1, -1, -1) if came[at]) + 1
+        want(came[:place] == right[:place], "what came first isn't of the file that stood")
+        want(100_000 <= place < len(came) and (place - head) % 65_536 == 0, f"the other file begins at {place - head}")
+        origin.wants(asking(b"/long", b"Range: bytes=0-4"), part(other, 0, 4))
+
+
+@case("what isn't served any more isn't kept from the system")
+def _(room):
+    with Origin(room, {**HELLO, "long": LONG}) as origin:
+
+        def kept():
+            folder = f"/proc/{origin.started.pid}/fd"
+            return [it for it in os.listdir(folder) if os.readlink(f"{folder}/{it}").startswith(origin.path(""))]
+
+        for _ in range(3):
+            origin.wants(asking(b"/long") + asking(), whole(LONG) + whole(b"hello"))
+            want(kept() == [], f"{len(kept())} files stay open")
+        # what was left in the midst is let go of once it is seen to be gone
+        origin.wants(asking(b"/long", b"Range: bytes=0-9"), part(LONG, 0, 9))
+        os.remove(origin.path("long"))
+        origin.wants(asking(b"/long"), refused(NOT_FOUND))
+        want(kept() == [], f"{len(kept())} files stay open")
 
 
 @case("a sparse file of more than 4 GiB", "curl", "disk", slow=True)
@@ -282,6 +392,71 @@ def _(room):
             want(waits_for(deaf, len(right)) == right, "the deaf one got other bytes")
 
 
+# A client that takes nothing is waited for so many seconds.
+PATIENCE = 60
+
+
+@case("clients that never read are hung up, and others served meanwhile", slow=True)
+def _(room):
+    payload = LONG * 16
+    with Origin(room, {**HELLO, "long": payload}) as origin, contextlib.ExitStack() as stack:
+        begun = time.monotonic()
+        deaf = [stack.enter_context(origin.deaf(b"/long")) for _ in range(DOORS - 1)]
+        for _ in range(10):
+            asked = time.monotonic()
+            origin.wants(asking(), whole(b"hello"))
+            want_within(time.monotonic() - asked, 5)
+            time.sleep(0.5)
+        # now no door is free
+        deaf.append(stack.enter_context(origin.deaf(b"/long")))
+        time.sleep(1)
+        link = stack.enter_context(origin.connected())
+        link.sendall(asking())
+        right = whole(b"hello")
+        came = waits_for(link, len(right), 2 * PATIENCE)
+        seconds = time.monotonic() - begun
+        want(came == right, f"the one that waited got {came[:200]!r}")
+        want(seconds > PATIENCE - 1, f"it was answered {seconds:.1f} seconds behind the first that doesn't read")
+        want_within(seconds, PATIENCE + 10, "the answer to one that waits for a door")
+        time.sleep(max(0, begun + PATIENCE + 10 - time.monotonic()))
+        for it in deaf[: DOORS - 1]:
+            came = waits_for(it, 2 * len(payload))
+            want(len(came) < len(payload) and whole(payload).startswith(came), f"{len(came)} bytes came, or others")
+
+
+# The origin has so much memory at most, whatever clients do: each door has a buffer for what comes and one for a part of a file.
+MOST_MEMORY = 16 * MIB
+
+
+@case("memory stays bounded, whatever clients send")
+def _(room):
+    sends = (
+        b"GET /" + b"x" * (8 * MIB),
+        b"GET /f HTTP/1.1\r\nX: " + b"x" * (8 * MIB),
+        asking(b"/f", *(b"X%d: x" % it for it in range(100_000))),
+        b"\r\n" * (4 * MIB),
+        b"\0" * (8 * MIB),
+        asking(b"/f", b"Content-Length: 8388608") + b"x" * (8 * MIB),
+        asking(b"/%61" + b"/%61" * 15_000) * 100,
+        asking(b"/f", b"Range: bytes=" + b"0-1," * 15_000) * 100,
+        asking(b"/long") * 500,
+    )
+    with Origin(room, {**HELLO, "long": LONG * 16}) as origin:
+
+        def client(number):
+            with contextlib.closing(origin.deaf(b"/f")) as link, contextlib.suppress(OSError):
+                link.settimeout(1)
+                link.sendall(sends[number % len(sends)])
+                link.recv(10_000)
+
+        with concurrent.futures.ThreadPoolExecutor(max_workers=16) as pool:
+            for it in [pool.submit(client, number) for number in range(12 * len(sends))]:
+                it.result()
+        origin.wants(asking(), whole(b"hello"))
+        most = origin.most_memory()
+        want(most <= MOST_MEMORY, f"it had {most} bytes of memory")
+
+
 @case("clients that go in the middle")
 def _(room):
     with Origin(room, {**HELLO, "long": LONG * 8}) as origin:
@@ -341,3 +516,85 @@ def _(room):
         with about(words):
             ended, wrote = room.run(*words)
             want(ended != 0 and wrote.startswith(b"error "), f"status {ended}, {wrote[:100]!r}")
+
+
+@case("an origin that ^C ends while a client fetches")
+def _(room):
+    payload = LONG * 16
+    with contextlib.ExitStack() as stack:
+        stood = None
+        for _ in range(2):
+            origin = Origin(room, {**HELLO, "long": payload})
+            origin.__enter__()
+            stack.callback(origin.started.kill)
+            stood = stood or room.standing()
+            with origin.deaf(b"/long") as link:
+                came = waits_for(link, 100_000)
+                ended = origin.interrupted()
+                want(ended == -signal.SIGINT, f"it ended with {ended}")
+                with contextlib.suppress(ConnectionResetError):
+                    came += waits_for(link, 2 * len(payload))
+            want(len(came) < len(payload) and whole(payload).startswith(came), f"{len(came)} bytes came, or others")
+            want(room.standing() == stood, "another file stands")
+
+
+@case("a port that is taken has nobody served, and is told")
+def _(room):
+    room.put("served/f", b"hello")
+    with socket.socket() as taken:
+        taken.bind(("127.0.0.1", 0))
+        taken.listen()
+        port = taken.getsockname()[1]
+        words = [PROGRAM, "--serve-dir=served", f"--rpc-listen-port={port}"]
+        ran = subprocess.run(words, cwd=room.folder, stdin=subprocess.DEVNULL, capture_output=True, timeout=LIMIT, check=False)
+    begin = b"aria_cli: can't listen at port %d of 127.0.0.1: " % port
+    want(ran.stderr.startswith(begin) and ran.stderr.count(b"\n") == 1, f"it said {ran.stderr!r}")
+    want((ran.returncode, ran.stdout) == (0, b""), f"it ended with {ran.returncode}, and wrote {ran.stdout!r}")
+
+
+@case("a file that can't be looked up is answered by 500", "cc")
+def _(room):
+    faults = Faults(room.folder)
+    with Origin(room, HELLO, shell=faults.noting()) as origin:
+        origin.wants(asking(), whole(b"hello"))
+    looks = [it.number for it in faults.notes() if it.does == "look" and it.path == os.path.realpath(room.path("served/f"))]
+    want(looks, "the file wasn't looked up")
+    with Origin(room, HELLO, shell=faults.shell(FAULT_AT=looks[0], FAULT_DOES="fails")) as origin:
+        # the connection goes on
+        origin.wants(asking() + asking(), refused(FAILED) + whole(b"hello"))
+
+
+@case("a file that can't be read has its reply cut behind the head", "setpriv")
+def _(room):
+    nobody = ("setpriv", "--reuid=65534", "--regid=65534", "--clear-groups")
+    os.chmod(room.folder, 0o755)
+    with Origin(room, {**HELLO, "closed": b"hello", "d/f": b"hello"}, within=nobody) as origin:
+        for name in ("served/f", "served/closed", "served/d/f"):
+            os.chmod(room.path(name), 0o644)
+        os.chmod(origin.path(""), 0o755)
+        os.chmod(origin.path("d"), 0o700)
+        for _ in range(2):
+            origin.wants(asking(), whole(b"hello"))
+            os.chmod(origin.path("closed"), 0o600)
+            # its length can be told
+            origin.wants(asking(b"/closed", method=b"HEAD"), whole(b"hello", is_head=True))
+            origin.wants(asking(b"/closed") + asking(), whole(b"hello", is_head=True))
+            # where its folder may not be searched not even that
+            origin.wants(asking(b"/d/f") + asking(), refused(FAILED) + whole(b"hello"))
+            os.chmod(origin.path("closed"), 0o644)
+            origin.wants(asking(b"/closed"), whole(b"hello"))
+
+
+@case("a right that goes between two parts of one reply ends it", "setpriv")
+def _(room):
+    nobody = ("setpriv", "--reuid=65534", "--regid=65534", "--clear-groups")
+    payload = LONG * 16
+    os.chmod(room.folder, 0o755)
+    with Origin(room, {"long": payload}, within=nobody) as origin:
+        os.chmod(origin.path(""), 0o755)
+        os.chmod(origin.path("long"), 0o644)
+        with origin.deaf(b"/long") as link:
+            begin = waits_for(link, 100_000)
+            os.chmod(origin.path("long"), 0o600)
+            came = begin + waits_for(link, len(payload) * 2)
+        want(len(came) < len(payload) and whole(payload).startswith(came), f"{len(came)} bytes came, or others")

@@ -1,6 +1,7 @@
 """The program as an HTTP origin, and clients of it."""
 import os
 import re
+import signal
 import socket
 import subprocess
 import time
@@ -19,6 +20,7 @@ PARTIAL = b"206 Partial Content"
 BAD_REQUEST = b"400 Bad Request"
 NOT_FOUND = b"404 Not Found"
 NOT_ALLOWED = b"405 Method Not Allowed"
+FAILED = b"500 Internal Server Error"
 OUTSIDE = b"416 Range Not Satisfiable"
 
 TYPE = b"Content-Type: application/octet-stream"
@@ -59,20 +61,24 @@ def asking(target=b"/f", *fields, method=b"GET", version=b"HTTP/1.1"):
 
 
 class Origin:
-    """The program, which serves a folder of the room until it is stopped."""
+    """The program, which serves a folder of the room until it is stopped.
 
-    def __init__(self, room, files=None, folder="served"):
+    A line of shell may come first, another command begin it all.
+    """
+
+    def __init__(self, room, files=None, folder="served", shell="", within=()):
         self.room = room
         self.folder = folder
         self.port = free_port("127.0.0.1")
+        begin = ["sh", "-c", f'{shell}\nexec "$@"', "sh"] if shell else []
+        self.words = [*within, *begin, PROGRAM, f"--serve-dir={folder}", f"--rpc-listen-port={self.port}"]
         os.makedirs(room.path(folder), exist_ok=True)
         for name, content in (files or {}).items():
             room.put(f"{folder}/{name}", content)
 
     def __enter__(self):
-        words = [PROGRAM, f"--serve-dir={self.folder}", f"--rpc-listen-port={self.port}"]
         self.started = subprocess.Popen(
-            words, cwd=self.room.folder, stdin=subprocess.DEVNULL, stdout=subprocess.PIPE, stderr=subprocess.PIPE
+            self.words, cwd=self.room.folder, stdin=subprocess.DEVNULL, stdout=subprocess.PIPE, stderr=subprocess.PIPE
         )
         wait_for(self.port, self.started)
         return self
@@ -80,10 +86,31 @@ class Origin:
     def __exit__(self, kind, *_):
         ended = self.started.poll()
         self.started.kill()
-        wrote, _ = self.started.communicate()
+        wrote, said = self.started.communicate()
         if kind is None:
             want(ended is None, f"it ended with {ended}")
-            want(wrote == b"", f"it wrote {wrote[:200]!r}")
+            self.tells(wrote, said)
+
+    def tells(self, wrote, said):
+        """It wrote nothing, and said where it serves what."""
+        want(wrote == b"", f"it wrote {wrote[:200]!r}")
+        right = f"aria_cli: the files below {self.folder} are served at http://127.0.0.1:{self.port}/\n"
+        want(said == right.encode(), f"it said {said[:300]!r}, and not {right!r}")
+
+    def interrupted(self):
+        """How it ends by ^C."""
+        self.started.send_signal(signal.SIGINT)
+        try:
+            wrote, said = self.started.communicate(timeout=LIMIT)
+        except subprocess.TimeoutExpired:
+            raise Late(f"it had not ended {LIMIT} seconds behind ^C") from None
+        self.tells(wrote, said)
+        return self.started.returncode
+
+    def most_memory(self):
+        """The most bytes of memory that it has had."""
+        with open(f"/proc/{self.started.pid}/status", encoding="ascii") as it:
+            return int(re.search(r"VmHWM:\s+(\d+) kB", it.read())[1]) << 10
 
     def path(self, name):
         return self.room.path(f"{self.folder}/{name}")
@@ -106,6 +133,14 @@ class Origin:
 
     def connected(self):
         return socket.create_connection(("127.0.0.1", self.port), LIMIT)
+
+    def deaf(self, target):
+        """A connection that asks for a file, and reads none of it. The system takes little of it either."""
+        link = socket.socket()
+        link.setsockopt(socket.SOL_SOCKET, socket.SO_RCVBUF, 65_536)
+        link.connect(("127.0.0.1", self.port))
+        link.sendall(asking(target))
+        return link
 
     def wants(self, sent, right, pause=None):
         """Just these bytes come for those."""
@@ -137,10 +172,10 @@ def statuses(came):
     return [int(it) for it in re.findall(rb"HTTP/1\.1 (\d+) ", came)]
 
 
-def waits_for(link, most):
+def waits_for(link, most, seconds=LIMIT):
     """So many bytes that come, or all up to the end."""
     came = b""
-    end = time.monotonic() + LIMIT
+    end = time.monotonic() + seconds
     while len(came) < most:
         link.settimeout(max(end - time.monotonic(), 0.01))
         try:
