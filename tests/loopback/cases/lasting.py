@@ -161,13 +161,12 @@ def _(room):
 SLOW_SYNC, MOST_SYNCS = 0.05, 4
 
 
-@case("a console is answered while a slow disk writes out what one connection brings", "cc", slow=True)
-def _(room):
+def longest_call(room, sync, *words):
+    """How long the longest call to a console takes while 20 downloads come and a sync takes so many seconds."""
     faults = Faults(room.folder)
     files = {f"/{it}": noise(100_000) for it in range(20)}
     took = []
-    one = ("--split=1", "--max-concurrent-downloads=1")
-    with Site(files) as site, steered(room, *one, shell=faults.shell(FAULT_SLOW=int(1000 * SLOW_SYNC))) as (console, ended_with):
+    with Site(files) as site, steered(room, *words, shell=faults.shell(FAULT_SLOW=int(1000 * sync))) as (console, ended_with):
 
         def timed(method, *params):
             begun = time.monotonic()
@@ -181,8 +180,27 @@ def _(room):
             time.sleep(0.005)
         console.call("aria2.shutdown")
     want(ended_with[0] == 0, f"it ended with {ended_with[0]}")
+    for target, content in files.items():
+        want(room.get(target[1:]) == content, f"{target} has other bytes")
+    return max(took)
+
+
+@case("a console is answered while a slow disk writes out what one connection brings", "cc", slow=True)
+def _(room):
+    longest = longest_call(room, SLOW_SYNC, "--split=1", "--max-concurrent-downloads=1")
     # the program's own work comes besides
-    want_within(max(took), MOST_SYNCS * SLOW_SYNC + 0.03, f"a call of {len(took)}")
+    want_within(longest, MOST_SYNCS * SLOW_SYNC + 0.03, "the longest call")
+
+
+# So many downloads are active at once by default. A call may wait for a turn of each, and for one that began before them.
+ACTIVE = 5
+
+for _sync in (SLOW_SYNC, 4 * SLOW_SYNC):
+
+    @case(f"a console is answered while a slow disk writes out what five downloads bring, by syncs of {_sync} seconds", "cc", slow=True)
+    def _(room, sync=_sync):
+        longest = longest_call(room, sync, "--split=5")
+        want_within(longest, (ACTIVE + 1) * MOST_SYNCS * sync, "the longest call")
 
 
 def folders_above(room):

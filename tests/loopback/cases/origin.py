@@ -205,6 +205,10 @@ def _(room):
         origin.wants(asking(), refused(NOT_FOUND))
 
 
+# The system takes some 4 MiB of a reply before its reader does: behind that a longer one still has parts to be read.
+TIMES_LONG = 5
+
+
 @case("a file changes between two parts of one reply")
 def _(room):
     # of the other length, at the same place, and by a new file of the same length
@@ -215,7 +219,7 @@ def _(room):
         ("a link above it", lambda path: linked_above(path)),
         ("gone", os.remove),
     ):
-        payload = LONG * 16
+        payload = LONG * TIMES_LONG
         with about(name), Origin(room, {**HELLO, "d/long": payload}, folder=f"served {name}") as origin:
             with origin.deaf(b"/d/long") as link:
                 begin = waits_for(link, 100_000)
@@ -236,7 +240,7 @@ def linked_above(path):
 
 @case("a file is replaced by another between two parts of one reply")
 def _(room):
-    payload, other = LONG * 16, bytes(len(LONG) * 16)
+    payload, other = LONG * TIMES_LONG, bytes(len(LONG) * TIMES_LONG)
     with Origin(room, {"long": payload, "aside": other}) as origin:
         with origin.deaf(b"/long") as link:
             begin = waits_for(link, 100_000)
@@ -588,7 +592,7 @@ def _(room):
 @case("a right that goes between two parts of one reply ends it", "setpriv")
 def _(room):
     nobody = ("setpriv", "--reuid=65534", "--regid=65534", "--clear-groups")
-    payload = LONG * 16
+    payload = LONG * TIMES_LONG
     os.chmod(room.folder, 0o755)
     with Origin(room, {"long": payload}, within=nobody) as origin:
         os.chmod(origin.path(""), 0o755)

@@ -4,8 +4,9 @@ import socket
 
 from lib.acting import BROKEN, BUSY, GONE, SHUT, acts, acts_by_chance
 from lib.choices import Model, Way
+from lib.killing import Slow
 from lib.mirrors import Mirror, Site, free_port, head, reply, sends_and_stays
-from lib.payloads import LONG, MIB, MIB_CLAIMS, PIECE, THREE, turned
+from lib.payloads import LONG, MIB, MIB_CLAIMS, PIECE, THREE, noise, turned
 from lib.rooms import ONCE, PLAIN, case, want_asked
 from lib.wants import about, want
 
@@ -29,6 +30,34 @@ def _(room):
             room.torrent(site.url())
             room.fails(status, b"hello", words=PLAIN, stands=b"hellO" if status == 32 else None)
             want_asked(site, [("/a.bin", 0, 4)] * 5)
+
+
+# What a broken mirror is asked at most for 8 MiB that a good one brings as fast as it can: where it has no such file, and where it leads
+# to itself.
+MOST_ASKED = {"gone": 260, "led in a circle": 2_100}
+
+
+class Circle(Site):
+    """Leads each request to itself."""
+
+    def answer(self, asked):
+        return head(b"Location: /a.bin", b"Content-Length: 0", status=b"302 Found")
+
+
+@case("how often a broken mirror is asked beside a good one")
+def _(room):
+    payload = noise(8 * MIB)
+    for name, kind in (("gone", Site), ("led in a circle", Circle)):
+        for words in (PLAIN, ("--split=5", *PLAIN), ("--split=5", "--max-connection-per-server=4", "--min-split-size=1M", *PLAIN)):
+            for length, rate in ((MIB, None), (MIB // 4, 4 * MIB), (MIB // 8, MIB)):
+                with about(f"{name}, {words}, pieces of {length}"), kind() as broken, Slow({"/a.bin": payload}, rate) as good:
+                    # each is a host of its own
+                    room.torrent([broken.url("localhost"), good.url()], payload, piece_length=length)
+                    room.fetches(payload, words=words)
+                    count = len(broken.requests)
+                    # a slow one leaves time for each of the five tries of each piece, of which each follows 20 redirects
+                    most = 5 * len(payload) // length * (21 if kind is Circle else 1)
+                    want(0 < count <= (min(most, MOST_ASKED[name]) if rate is None else most), f"it was asked {count} times")
 
 
 @case("a hundred tries")
