@@ -1,16 +1,18 @@
 -- Pieces that are read ahead: what a read of several finds, and what stays where they are passed over.
-use Rattle.std.proofs.Common.{◌≡◌, ◌∙◌, ap, sym, subst, ℕ, ◌+◌, ◌-◌, ◌*◌, ◌<◌, ◌≤◌, true, List, length, take, drop, Option, arith}
+use Rattle.std.proofs.Common.{◌≡◌, ◌∙◌, ap, sym, subst, ℕ, ◌+◌, ◌-◌, ◌*◌, ◌<◌, ◌≤◌, true, List, ◌++◌, length, take, drop, Option, arith, inl, inr}
 use Rattle.std.specs.Prelude.{IsTrue}
-use Rattle.std.proofs.lemmas.List.{drop-drop}
+use Rattle.std.proofs.Math.Seq.{take-append_seam}
+use Rattle.std.proofs.lemmas.Bool.{cases_lt}
+use Rattle.std.proofs.lemmas.List.{drop-drop, length-take-le}
 use Rattle.dl_disk.specs.Files.{Files, IsSame, MayMake, ReadsAt, file_bytes}
 use Rattle.dl_disk.specs.State.{DiskState}
 use Rattle.dl_kinds.specs.Lists.{part_at}
 use Rattle.merkle_trees.specs.Leaves.{leaves_of}
-use Rattle.payload_repair.specs.Ahead.{AreRight, IsRightPart}
+use Rattle.payload_repair.specs.Ahead.{AreRight, AreRightUpTo, IsRightPart}
 use Rattle.payload_repair.specs.Jobs.{hashed, own_bytes, copy_bytes, IsRepairJob}
-use Rattle.payload_repair.specs.Mending.{ChangesPiece, IsMended, PutsPiece}
+use Rattle.payload_repair.specs.Mending.{ChangesPiece, PutsPiece}
 use Rattle.payload_repair.specs.Mends.{Mends}
-use Rattle.payload_repair.specs.Pieces.{is_right, leaves_in_piece, piece_ends_at, piece_starts_at}
+use Rattle.payload_repair.specs.Pieces.{is_right, leaves_in_piece}
 use Rattle.payload_repair.specs.Placed.{IsInPlace}
 use Rattle.payload_repair.specs.Repairs.{IsWrittenByte, MendsPiece, falls_short, is_mended, piece_counts}
 use Rattle.payload_repair.specs.StepsBy.{StepsBy}
@@ -48,7 +50,36 @@ right_by_part job first at content bytes place is reads part =
     (reads_part content at bytes from job.plan.piece_len part.1 reads) in
     sym (right_found file (take job.len (file_bytes content)) piece read (leaves_of read) true found (sym part.0.hash))
 
+-- the right ones are pieces of the file
+pub right_within : (job : RepairJob) (first at : ℕ) (bytes : List ℕ) (count : ℕ) → first < job.plan.pieces
+    → AreRightUpTo job first at bytes count → first + count ≤ job.plan.pieces
+right_within job first at bytes count begins parts = elim (cases_lt 0 count) [
+  | inl some ↦ let last = (parts (count - 1) (omega (arith, some))).0.exists in omega (arith, last, some)
+  | inr none ↦ omega (arith, none, begins)
+]
+
+pub front_len : (size : ℕ) (xs read : List ℕ) → size ≤ length xs
+    → length read ≡ length (take size xs) → length read ≡ size
+front_len size xs read fits kept = kept ∙ length-take-le size xs fits
+
+-- what was read into the front of a buffer, behind calls that change nothing
+pub reads_in_front : (name : List ℕ) (old new : Files) (at count : ℕ) (read rest : List ℕ)
+    → IsSame old new → length read ≡ count → ReadsAt (old name) at read → ReadsAt (new name) at (take count (read ++ rest))
+reads_in_front name old new at count read rest same size reads =
+    subst (λ (content : Option (List ℕ)). ReadsAt content at (take count (read ++ rest))) (sym (same name))
+    (subst (ReadsAt (old name) at)
+    (sym (ap (λ (n : ℕ). take n (read ++ rest)) (sym size) ∙ take-append_seam read rest)) reads)
+
 -- ---- behind calls that change nothing
+
+-- a piece behind the first ones that is right after such calls was so before them
+pub right_before : (job : RepairJob) (first count k : ℕ) (a b : DiskState) → StepsBy IsSame a b → count ≤ k
+    → is_right (hashed job) (own_bytes job b.seen) (first + count + (k - count)) ≡ true
+    → is_right (hashed job) (own_bytes job a.seen) (first + k) ≡ true
+right_before job first count k a b same behind right =
+    let place : first + count + (k - count) ≡ first + k = omega (arith, behind) in
+    subst (λ (own : List ℕ). is_right (hashed job) own (first + k) ≡ true) (own_same job a.seen b.seen same.seen)
+    (subst (λ (n : ℕ). is_right (hashed job) (own_bytes job b.seen) n ≡ true) place right)
 
 module _ (job : RepairJob) (piece : ℕ) (a b c : DiskState) (same : StepsBy IsSame a b) where
   pub right_behind : (count first : ℕ) → AreRight job count first a.seen → AreRight job count first b.seen

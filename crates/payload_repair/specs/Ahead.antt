@@ -1,5 +1,5 @@
 -- Pieces that are hashed ahead.
-use Rattle.std.specs.Prelude.{◌≡◌, ◌+◌, ◌*◌, ◌<◌, ◌≤◌, ℕ, true, false, Bool, IsTrue, List, length, slice_index_or}
+use Rattle.std.specs.Prelude.{◌≡◌, ◌+◌, ◌*◌, ◌<◌, ◌≤◌, ℕ, true, false, Bool, List, length, slice_index_or}
 use Rattle.dl_disk.specs.Files.{Files}
 use Rattle.dl_kinds.specs.Lists.{part_at}
 use Rattle.merkle_trees.specs.Leaves.{leaves_of}

@@ -123,7 +123,8 @@ fn repair_files<R: Threads + Sync, D: Disk, W: RepairWatch>(
 {
     names_differ();
     let mut buffer = Vec::new(alloc);
-    buffer.resize(room_ahead(meta.piece_len, threads), 0)?;
+    let total = total_len(meta.files.as_slice());
+    buffer.resize(room_ahead(meta.piece_len, threads, total), 0)?;
     let counts = mend_files(
         rt,
         alloc,
@@ -145,8 +146,8 @@ fn repair_files<R: Threads + Sync, D: Disk, W: RepairWatch>(
 /// missing, which gets its folder and its length first. A file that is longer stays so. Without a copy nothing is written.
 /// The first failure ends it.
 ///
-/// Pieces are hashed by at most `threads` threads at once, and by one at least. It holds a piece in memory for each, or a MiB of
-/// shorter ones, and no more than 64 MiB in all.
+/// Pieces are hashed by at most `threads` threads at once, and by one at least, while the next ones are read. It holds a piece in
+/// memory for each thread, or 16 MiB of shorter ones: no more than 64 MiB in all, and than the payload has, or else one piece.
 pub fn repair<R: Threads + Sync, D: Disk, W: RepairWatch>(
     rt: &R,
     alloc: Global,

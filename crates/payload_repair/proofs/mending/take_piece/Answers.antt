@@ -1,10 +1,10 @@
-use Rattle.std.proofs.Common.{◌≡◌, ◌∙◌, ap, sym, subst, ℕ, ◌+◌, ◌≤◌, true, List, length, IsTrue, arith}
+use Rattle.std.proofs.Common.{◌≡◌, subst, ℕ, ◌+◌, true, IsTrue, arith}
 use Rattle.std.proofs.lemmas.Bool.{both_ways}
 use Rattle.payload_repair.specs.Jobs.{hashed, own_bytes, copy_bytes}
 use Rattle.payload_repair.specs.Pieces.{is_right}
 use Rattle.payload_repair.specs.Repairs.{is_mended}
-use Rattle.payload_repair.proofs.AheadLemmas.{right_behind, counts_behind, puts_behind, changes_behind}
-use Rattle.payload_repair.proofs.MendingLemmas.{right_unmended, counts_right, keeps_same, fitted_same, content_same}
+use Rattle.payload_repair.proofs.AheadLemmas.{right_behind, puts_behind, changes_behind}
+use Rattle.payload_repair.proofs.MendingLemmas.{right_unmended, counts_right, keeps_same}
 use Rattle.payload_repair.proofs.mending.take_piece.Goals as goal
 
 pub returns-in_err-look_ahead-clause-keeps : goal.returns-in_err-look_ahead-clause-keeps
