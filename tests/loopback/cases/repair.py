@@ -1,12 +1,14 @@
 """The cases of payloads of version 2 torrents that are checked and repaired, beside libtorrent and hashlib."""
 import os
+import re
 
+from cases.readout import CLEARED, shown_on_a_terminal
 from lib.faults import Faults
-from lib.payloads import noise
+from lib.payloads import MIB, noise
 from lib.rooms import case
 from lib.torrents import Raw, bencoded
-from lib.version2 import BLOCK, Payload2, checked
-from lib.wants import about, want
+from lib.version2 import BLOCK, Payload2, checked, made, said_of
+from lib.wants import about, want, want_in_time
 
 PIECE = 32_768
 # Three leaves in two pieces.
@@ -27,7 +29,14 @@ MANY = {
 LONG = noise(500 * BLOCK + 77)
 KINDS = ("plain", "hybrid")
 
+# The longest pieces that there are.
+GREATEST = 1 << 26
+
 WORDS = ("--verify-v2=t.torrent", "--dir=own", "--copy-dir=copy")
+# Begins a program as nobody.
+NOBODY = 'exec setpriv --reuid=65534 --regid=65534 --clear-groups "$@"'
+# A line of progress of half a GiB. A check has no connections.
+DRAWN = re.compile(rb"\[([0-9.]+)MiB/512\.0MiB\((\d+)%\) CN:0 DL:[0-9.]+(?:[KM]i)?B(?: ETA:(?:\d+m)?\d+s)?\]")
 
 
 def flipped(content, at):
@@ -129,8 +138,9 @@ def _(room):
 @case("a folder that is its own copy stays as it is", "libtorrent")
 def _(room):
     payload = Payload2(room, MANY, "many", PIECE, "plain")
+    os.symlink("own", room.path("link"))
     for damage, own in damages(payload.files.files):
-        for other in ("own", "own/.", "../" + os.path.basename(room.folder) + "/own"):
+        for other in ("own", "own/.", "../" + os.path.basename(room.folder) + "/own", "link"):
             with about(f"{damage}, by the name {other}"):
                 room.clear("own")
                 payload.put("own", own)
@@ -187,6 +197,73 @@ def _(room):
     os.makedirs(room.path("copy/many/forty"))
     ended = checked(room, *WORDS)
     want(ended == (17, b""), f"with the copy's it ended with {ended}")
+
+
+@case("a file of a payload that this user may not read ends a check", "libtorrent", "setpriv")
+def _(room):
+    payload = Payload2(room, {"forty": FORTY, "small": b"small"}, "p", PIECE, "plain")
+    payload.put("own", payload.files.files)
+    payload.put("copy", payload.files.files)
+    room.put("own/p/forty", flipped(FORTY, 0))
+    os.chmod(room.folder, 0o755)
+    for name, words in (("own/p/small", WORDS[:2]), ("copy/p/forty", WORDS)):
+        with about(name):
+            before = room.standing()
+            os.chmod(room.path(name), 0o600)
+            status, wrote, said = said_of(room, *words, shell=NOBODY)
+            want((status, wrote) == (17, b""), f"it ended with {status}, and wrote {wrote!r}")
+            want(f"{name}: there is no right to it\n" in said.decode(), f"it told {said!r}")
+            want(room.standing() == before, "a file was changed")
+            os.chmod(room.path(name), 0o644)
+    status, wrote, said = said_of(room, *WORDS[:2], shell=NOBODY)
+    want((status, wrote) == (32, b"pieces 3 right 2 repaired 0 blocks 0\n"), f"with the right to it {status}, {wrote!r}, {said!r}")
+
+
+@case("a payload in the longest pieces is repaired, block by block", "libtorrent", slow=True)
+def _(room):
+    content = noise(MIB) * (GREATEST // MIB) + noise(BLOCK + 1)
+    payload = Payload2(room, content, "a", GREATEST, "plain")
+    # the last byte of the first piece, and the first of the next one
+    own = {"a": flipped(flipped(content, GREATEST - 1), GREATEST)}
+    payload.put("own", own)
+    payload.put("copy", payload.files.files)
+    want_check(payload, WORDS[:2], own, {}, 32)
+    want_check(payload, WORDS, own, payload.files.files, 0)
+    want(payload.is_whole("own"), "libtorrent finds a piece that is wrong")
+    ended = checked(room, *WORDS)
+    want(ended == (0, b"pieces 2 right 2 repaired 0 blocks 0\n"), f"the next check ended with {ended}")
+    payload.put("own", own)
+    ended = checked(room, *WORDS)
+    want(ended == (0, b"pieces 2 right 0 repaired 2 blocks 2\n"), f"it ended with {ended}")
+
+
+@case("a line of progress of a check on a terminal", "libtorrent", slow=True)
+def _(room):
+    os.mkdir(room.path("own"))
+    with open(room.path("own/a"), "wb") as it:
+        it.truncate(512 * MIB)
+    made(room, "own/a", MIB, "plain")
+    # one processor takes some seconds for it
+    ours = os.sched_getaffinity(0)
+    os.sched_setaffinity(0, {min(ours)})
+    try:
+        drawn, wrote, status = shown_on_a_terminal(room, *WORDS[:2])
+    finally:
+        os.sched_setaffinity(0, ours)
+    want((wrote, status) == (b"pieces 512 right 512 repaired 0 blocks 0\n", 0), f"status {status}, output {wrote!r}")
+    front, *lines = drawn.split(CLEARED)
+    want(front == b"", f"it began with {front!r}")
+    want(lines and lines[-1] == b"", f"it drew {lines}")
+    done = []
+    for it in lines[:-1]:
+        fields = DRAWN.fullmatch(it)
+        want(fields, f"it drew {it!r}")
+        done.append(float(fields[1]))
+        want(int(fields[2]) == done[-1] * 100 // 512, f"it drew {it!r}")
+    want(done == sorted(set(done)), f"it drew {lines}")
+    # the first is drawn at once
+    want(done[:1] == [1.0], f"it drew {lines}")
+    want_in_time(2 <= len(done) <= 12, f"it drew {lines}")
 
 
 def long_payload(room):

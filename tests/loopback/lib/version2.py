@@ -133,6 +133,11 @@ class Files:
         return counts, left
 
 
+def made(room, path, piece_length, kind):
+    """Makes the metainfo file of what stands at a path in a room."""
+    told_by(MAKES, room.path(path), str(piece_length), kind, room.path("t.torrent"))
+
+
 class Payload2:
     """A payload that stands right in a folder `right` of a room, and its metainfo file."""
 
@@ -143,7 +148,7 @@ class Payload2:
         self.files = Files(files, piece_length)
         for path, it in files.items():
             room.put(f"right/{path}", it)
-        told_by(MAKES, room.path(f"right/{name}"), str(piece_length), kind, room.path("t.torrent"))
+        made(room, f"right/{name}", piece_length, kind)
 
     def stands(self, folder):
         """The files in a folder of the room; a missing one isn't there."""
@@ -167,8 +172,8 @@ def begun(room, *words, shell=""):
     )
 
 
-def checked(room, *words, shell="", limit=60):
-    """How a check ends on these words: its status, and what it wrote."""
+def said_of(room, *words, shell="", limit=60):
+    """How a check ends on these words: its status, what it wrote, and what it told on standard error."""
     started = begun(room, *words, shell=shell)
     try:
         wrote, said = started.communicate(timeout=limit)
@@ -179,7 +184,12 @@ def checked(room, *words, shell="", limit=60):
             started.kill()
             started.communicate()
     want_told(said, wrote, started.returncode)
-    return started.returncode, wrote
+    return started.returncode, wrote, said
+
+
+def checked(room, *words, shell="", limit=60):
+    """How a check ends on these words: its status, and what it wrote."""
+    return said_of(room, *words, shell=shell, limit=limit)[:2]
 
 
 TOLD = re.compile(r".+: (?:piece \d+ is wrong|wrote block \d+|wrote blocks (\d+) to (\d+)|(\d+) wrong, (\d+) repaired)")
