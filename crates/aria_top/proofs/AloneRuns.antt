@@ -7,7 +7,7 @@ use Rattle.command_line.specs.Lines.{IsLine}
 use Rattle.command_line.specs.declared.line.CommandLine.{CommandLine}
 use Rattle.conn_worker.specs.Brought.{IsLaterLink, LinksGoOn}
 use Rattle.conn_worker.specs.Hands.{link_at}
-use Rattle.console_session.specs.SessionLaws.{CallsStandWhereReplied}
+use Rattle.console_session.specs.SessionLaws.{CallsStandWhereReplied, RepliesAreOfTheHistory}
 use Rattle.dl_clock.specs.declared.clock.Clock.{Ghosts as ClockSays}
 use Rattle.dl_disk.specs.declared.disk.Disk.{Ghosts as DiskSays}
 use Rattle.dl_kinds.specs.declared.outside.Sink.{Ghosts as SinkSays}
@@ -16,7 +16,7 @@ use Rattle.run_lifecycle.specs.Consoles.{is_console_on}
 use Rattle.run_lifecycle.specs.declared.console.ConsoleTerms.{ConsoleTerms}
 use Rattle.run_lifecycle.specs.declared.ended.Ended.{Ended}
 use Rattle.served_runs.specs.Over.{IsRunOver}
-use Rattle.shared_run.specs.DoorsCauses.{IsPlaceOfCall}
+use Rattle.shared_run.specs.DoorsCauses.{IsOwnPlace, IsPlaceOfCall}
 use Rattle.shared_run.proofs.Untouched.{GoOn, stays, worker_goes_on}
 use Rattle.solo_run.specs.Runs.{RunsOver, TurnNoConsoleOn}
 use Rattle.aria_top.proofs.OwnCalls.{own_alone}
@@ -91,12 +91,13 @@ module _ {D L K O : Type 0} {says : DiskSays D} {links : LinkSays L} {clocks : C
 
 pub calls_are_own : {D O L K : Type 0} {says : DiskSays D} {sinks : SinkSays O} {limited : Bool} {links : LinkSays L}
     {words : List (List ℕ)} {gids doors : ℕ} {disk : D} {olds : List (L × K)} {out : O} {ended : Ended D}
-    {news : List (L × K)} {out' : O} → CallsStandWhereReplied → TurnNoConsoleOn words
+    {news : List (L × K)} {out' : O} → RepliesAreOfTheHistory → CallsStandWhereReplied
+    → TurnNoConsoleOn words
     → IsRunOver says sinks limited links words gids doors disk olds out ended news out'
-    → (session place : ℕ) → IsPlaceOfCall ended.journal.events.items session place → session ≡ 0
-calls_are_own stand off (inl never) session place is =
+    → (session place : ℕ) → IsPlaceOfCall ended.journal.events.items session place → IsOwnPlace session place
+calls_are_own replies stand off (inl never) session place is =
     none_at place (Called session is.0 is.1) (ap (λ (es : List Event). slice_get es place) (sym never.journal) ∙ is.2)
-calls_are_own stand off (inr run) session place is =
-    own_alone stand run
+calls_are_own replies stand off (inr run) session place is =
+    own_alone replies stand run
     (ap (λ (c : ConsoleTerms). c.is_on) run.ran.begins.console_is ∙ off run.ran.begins.line run.ran.begins.means)
     session place is

@@ -76,7 +76,7 @@ module _ {D L K A O : Type 0} {says : DiskSays D} {links : LinkSays L} {clocks :
   untouched = ⊎_elim (λ was. refused_links says links doors sinks run was.0)
       (λ downloads. ⊎_elim (λ alone. alone.untouched) (λ shared. shared.untouched) downloads) by_line
 
-  pub shown : ShowsDoors doors run.given.words run.given.gids (edges run.given.links run.given.doors) run.came.ended
-      (edges run.came.links run.came.doors) run.came.transcripts
-  shown = ⊎_elim (λ was. refused_doors says links doors sinks run was.0)
+  pub shown : ShowsDoors doors clocks run.given.words run.given.gids (edges run.given.links run.given.doors)
+      run.came.ended (edges run.came.links run.came.doors) run.came.transcripts
+  shown = ⊎_elim (λ was. refused_doors says links doors sinks run was.0 clocks)
       (λ downloads. ⊎_elim (λ alone. alone.shown) (λ shared. shared.shown) downloads) by_line

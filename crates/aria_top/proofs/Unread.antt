@@ -1,5 +1,6 @@
 -- A run that was refused left all as it was.
-use Rattle.std.proofs.Common.{◌≡◌, inl, inr, ℕ, List, [], Some, length, refl, sym, ap, ◌∙◌, subst, arith, slice_get}
+use Rattle.std.proofs.Common.{◌≡◌, inl, inr, ℕ, List, [], Some, length, refl, sym, ap, subst, arith, slice_get}
+use Rattle.dl_clock.specs.declared.clock.Clock.{Ghosts as ClockSays}
 use Rattle.dl_disk.specs.Files.{Files}
 use Rattle.dl_disk.specs.Passes.{passes_none}
 use Rattle.dl_disk.specs.declared.disk.Disk.{Ghosts as DiskSays}
@@ -7,7 +8,6 @@ use Rattle.dl_kinds.specs.declared.outside.Sink.{Ghosts as SinkSays}
 use Rattle.door_source.specs.declared.Doors.{Ghosts as DoorSays}
 use Rattle.link_source.specs.declared.Links.{Ghosts as LinkSays}
 use Rattle.machine_core.specs.declared.events.Event.{Event}
-use Rattle.machine_core.specs.declared.events.Event.TheVariants.{Called}
 use Rattle.run_lifecycle.specs.Begins.{IsRead}
 use Rattle.run_lifecycle.specs.Finishes.{NeverBegan}
 use Rattle.run_report.specs.declared.endings.RunEnding.TheVariants.{NoMemory}
@@ -56,12 +56,7 @@ module _ {D L K A O : Type 0} (says : DiskSays D) (links : LinkSays L) (doors : 
     places = same_go_on links run.given.links run.came.links was.left.links;
   }
 
-  pub refused_doors : ShowsDoors doors run.given.words run.given.gids (edges run.given.links run.given.doors)
-      run.came.ended (edges run.came.links run.came.doors) run.came.transcripts
-  refused_doors = inl (record {
-    same = was.left.doors;
-    untold = was.left.untold;
-    why = inl was.left.none;
-    calls = λ session place is.
-        none_at place (Called session is.0 is.1) (ap (λ (es : List Event). slice_get es place) (sym was.left.none) ∙ is.2);
-  })
+  module _ (clocks : ClockSays K) where
+    pub refused_doors : ShowsDoors doors clocks run.given.words run.given.gids (edges run.given.links run.given.doors)
+        run.came.ended (edges run.came.links run.came.doors) run.came.transcripts
+    refused_doors = inl (record { same = was.left.doors; untold = was.left.untold; none = was.left.none })

@@ -28,7 +28,7 @@ use Rattle.served_runs.specs.CompletesUris.{CompletesUris}
 use Rattle.served_runs.specs.LinksCauses.{LinksCauses}
 use Rattle.served_runs.specs.Served.{HoldsNothing}
 use Rattle.served_runs.specs.Unfinished.{ShowsUnfinished}
-use Rattle.shared_run.specs.DoorsCauses.{ShowsDoors}
+use Rattle.shared_run.specs.DoorsCauses.{DoorsCauses}
 use Rattle.shared_run.specs.LinksLeft.{LeavesLinks}
 use Rattle.shared_run.specs.RunsTogether.{RunsTogether, edges}
 use Rattle.solo_run.specs.Bounded.{BoundsFirst}
@@ -130,9 +130,9 @@ module _ {D L K A O : Type 0} (links : LinkSays L) (run : OneRun D L K A O) wher
     LeavesUntouched = OfLine run (λ line.
         LeavesLinks says links run.given.disk run.given.links run.came.ended run.came.links)
 
-abbrev pub TellsDoors : {D L K A O : Type 0} → DoorSays A → OneRun D L K A O → Type 0
-TellsDoors doors run = OfLine run (λ line.
-    ShowsDoors doors run.given.words run.given.gids (edges run.given.links run.given.doors) run.came.ended
+abbrev pub TellsDoors : {D L K A O : Type 0} → DoorSays A → ClockSays K → OneRun D L K A O → Type 0
+TellsDoors doors clocks run = OfBegun run (λ line.
+    DoorsCauses doors clocks run.given.words run.given.gids (edges run.given.links run.given.doors) run.came.ended
     (edges run.came.links run.came.doors) run.came.transcripts)
 
 -- ---- what is served comes

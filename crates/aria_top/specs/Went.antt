@@ -64,8 +64,8 @@ module _ {D L K A O : Type 0} (says : DiskSays D) (links : LinkSays L) (clocks :
     pub bounds : BoundsFirst says sinks links run.given.words run.given.gids run.given.disk run.given.links run.given.out
         run.came.ended run.came.links run.came.out
     pub untouched : LeavesLinks says links run.given.disk run.given.links run.came.ended run.came.links
-    pub shown : ShowsDoors doors run.given.words run.given.gids (edges run.given.links run.given.doors) run.came.ended
-        (edges run.came.links run.came.doors) run.came.transcripts
+    pub shown : ShowsDoors doors clocks run.given.words run.given.gids (edges run.given.links run.given.doors)
+        run.came.ended (edges run.came.links run.came.doors) run.came.transcripts
 
   -- several links came, or a console was asked for
   pub record WentTogether (line : CommandLine) : Type 0 where
@@ -76,8 +76,8 @@ module _ {D L K A O : Type 0} (says : DiskSays D) (links : LinkSays L) (clocks :
         run.came.transcripts run.came.out
     pub over : WentOver line
     pub untouched : LeavesLinks says links run.given.disk run.given.links run.came.ended run.came.links
-    pub shown : ShowsDoors doors run.given.words run.given.gids (edges run.given.links run.given.doors) run.came.ended
-        (edges run.came.links run.came.doors) run.came.transcripts
+    pub shown : ShowsDoors doors clocks run.given.words run.given.gids (edges run.given.links run.given.doors)
+        run.came.ended (edges run.came.links run.came.doors) run.came.transcripts
 
   -- ---- by the words
 

@@ -14,7 +14,7 @@ use check_run::check_payload;
 use command_line::lines_are_one;
 use command_meanings::{CheckLine, ServeLine};
 use conn_worker::turns_bring_what_came;
-use console_session::calls_stand_where_replied;
+use console_session::{calls_stand_where_replied, replies_are_of_the_history};
 use dl_clock::{Clock, MemClock};
 use dl_disk::Disk;
 use dl_kinds::Sink;
@@ -74,6 +74,7 @@ pub(crate) fn alone<D: Disk, L: Links, K: Clock, A: Doors, O: Sink>(
 {
     lines_are_one();
     turns_bring_what_came();
+    replies_are_of_the_history();
     calls_stand_where_replied();
     let Finished {
         ending,

@@ -208,8 +208,8 @@ pub fn run<
         links.items doors.items out.old result out.new) D.Disk }
     // Each door was served by the session of its number, and what its clients were told is of the one history, all calls of
     // which are theirs or the line's own; or none was.
-    ensures doors { TellsDoors A.Doors (one_run (map string_bytes words.now) gids disk links.items
-        doors.items out.old result out.new) }
+    ensures doors { TellsDoors A.Doors K.Clock (one_run (map string_bytes words.now) gids disk
+        links.items doors.items out.old result out.new) }
     // Words that ask for a load have it run, over a disk and links of its own, and its line printed.
     ensures load { RunsLoads ⟦<SoundDisk as Disk>⟧ ⟦<SoundLinks as Links>⟧ ⟦<MemClock as Clock>⟧
         ⟦<MemDoors as Doors>⟧ ⟦<UnseenSink as Sink>⟧ O.Sink (one_run (map string_bytes words.now) gids

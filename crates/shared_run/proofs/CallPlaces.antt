@@ -1,8 +1,8 @@
 -- Where the calls of a session stand among events, and which turns it calls by.
-use Rattle.std.proofs.Common.{◌≡◌, ⊎_elim, ℕ, zero, suc, Bool, true, false, cond, eqb, List, [], ◌∷◌, ◌++◌, Some, refl, sym, ap, ◌∙◌, subst, arith, slice_get}
+use Rattle.std.proofs.Common.{◌≡◌, ⊎_elim, ℕ, zero, suc, Bool, true, false, cond, eqb, List, [], ◌∷◌, ◌++◌, Some, refl, sym, ap, ◌∙◌, subst, append-nil, arith, slice_get}
 use Rattle.std.specs.Prelude.{◌+◌, All, Contains, if◌then◌else◌}
 use Rattle.std.proofs.lemmas.Bool.{eq-eqb, false≢true}
-use Rattle.std.proofs.lemmas.List.Elements.{All-head, All-tail, Contains-append_right}
+use Rattle.std.proofs.lemmas.List.Elements.{All-head, All-tail, Contains-append_right, filter-append}
 use Rattle.served_runs.proofs.TurnLists.{behind, first_or_later, here, none_there}
 use Rattle.console_session.specs.CallTurns.{IsOfSession, call_turns, is_call, reply_places}
 use Rattle.console_session.specs.SessionLaws.{call_places_from, calls_by, is_call_of, turns_calling}
@@ -91,22 +91,49 @@ calls_of_pass session k (t ∷ ts) only =
         ∙ sym (ap (λ (b : Bool). cond b (t ∷ turns_calling session (turns_by k ts)) (turns_calling session (turns_by k ts))) is)
     by false is false at rest = rest
 
--- the calls of a session's own turns
-pub own_calls : (session : ℕ) (before : List RunTurn) (last : RunTurn)
-    → All (λ (t : RunTurn). IsOfSession session t.op) before → last.op ≡ operation.Leave
-    → turns_calling session (before ++ last ∷ []) ≡ call_turns before
-own_calls session [] last kinds leaves =
-    ap (λ (b : Bool). cond b (last ∷ []) []) (ap (calls_by session) leaves)
-own_calls session (t ∷ ts) last kinds leaves =
+-- the session calls by all calls among turns of its own
+pub session_calls : (session : ℕ) (ts : List RunTurn) → All (λ (t : RunTurn). IsOfSession session t.op) ts
+    → turns_calling session ts ≡ call_turns ts
+session_calls session [] kinds = refl
+session_calls session (t ∷ ts) kinds =
     by t.op refl (All-head (λ (u : RunTurn). IsOfSession session u.op) t ts kinds)
-    (own_calls session ts last (All-tail (λ (u : RunTurn). IsOfSession session u.op) t ts kinds) leaves)
+    (session_calls session ts (All-tail (λ (u : RunTurn). IsOfSession session u.op) t ts kinds))
   where
-    by : (op : Operation) → t.op ≡ op → IsOfSession session op → turns_calling session (ts ++ last ∷ []) ≡ call_turns ts
-        → cond (calls_by session op) (t ∷ turns_calling session (ts ++ last ∷ [])) (turns_calling session (ts ++ last ∷ []))
+    by : (op : Operation) → t.op ≡ op → IsOfSession session op → turns_calling session ts ≡ call_turns ts
+        → cond (calls_by session op) (t ∷ turns_calling session ts) (turns_calling session ts)
         ≡ (if is_call op then t ∷ call_turns ts else call_turns ts)
     by (operation.Call number call now) at is rest =
-        ap (λ (b : Bool). cond b (t ∷ turns_calling session (ts ++ last ∷ [])) (turns_calling session (ts ++ last ∷ [])))
-        (eq-eqb number session is)
+        ap (λ (b : Bool). cond b (t ∷ turns_calling session ts) (turns_calling session ts)) (eq-eqb number session is)
         ∙ (λ i. t ∷ rest i)
     by operation.Pulse at is rest = rest
     by other at is rest = absurd is
+
+-- .. behind which it leaves
+pub own_calls : (session : ℕ) (before : List RunTurn) (last : RunTurn)
+    → All (λ (t : RunTurn). IsOfSession session t.op) before → last.op ≡ operation.Leave
+    → turns_calling session (before ++ last ∷ []) ≡ call_turns before
+own_calls session before last kinds leaves =
+    filter-append (λ (t : RunTurn). calls_by session t.op) before (last ∷ [])
+    ∙ (ap (λ (b : Bool). turns_calling session before ++ cond b (last ∷ []) []) (ap (calls_by session) leaves)
+    ∙ (append-nil (turns_calling session before) ∙ session_calls session before kinds))
+
+-- it calls by none of these turns
+pub calls_none : (session : ℕ) (ts : List RunTurn)
+    → ((t : RunTurn) → Contains ts t → calls_by session t.op ≡ true → ⊥) → turns_calling session ts ≡ []
+calls_none session [] none = refl
+calls_none session (t ∷ ts) none =
+    by (calls_by session t.op) refl (calls_none session ts (λ u there. none u (behind t ts u there)))
+  where
+    by : (b : Bool) → calls_by session t.op ≡ b → turns_calling session ts ≡ []
+        → cond b (t ∷ turns_calling session ts) (turns_calling session ts) ≡ []
+    by true calls rest = absurd (none t (here t ts) calls)
+    by false calls rest = rest
+
+-- .. nor behind these
+pub calls_in_front : (session : ℕ) (front back : List RunTurn)
+    → ((t : RunTurn) → Contains back t → calls_by session t.op ≡ true → ⊥)
+    → turns_calling session (front ++ back) ≡ turns_calling session front
+calls_in_front session front back none =
+    filter-append (λ (t : RunTurn). calls_by session t.op) front back
+    ∙ (ap (λ (ts : List RunTurn). turns_calling session front ++ ts) (calls_none session back none)
+    ∙ append-nil (turns_calling session front))

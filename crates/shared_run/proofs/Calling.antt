@@ -10,7 +10,7 @@ use Rattle.served_runs.proofs.WorkEnds.{worked_work}
 use Rattle.served_runs.proofs.Workers.{is_stopping}
 use Rattle.served_runs.specs.Over.{IsWork}
 use Rattle.console_session.specs.CallTurns.{IsOfSession, reply_places}
-use Rattle.console_session.specs.SessionLaws.{CallsStandWhereReplied, call_places, calls_by, turns_calling}
+use Rattle.console_session.specs.SessionLaws.{CallsStandWhereReplied, RepliesAreOfTheHistory, call_places, calls_by, turns_calling}
 use Rattle.console_session.specs.declared.serving.Transcript.{Transcript}
 use Rattle.desk_participants.specs.Uses.{Use}
 use Rattle.desk_participants.proofs.Seating.{get_at}
@@ -30,11 +30,12 @@ use Rattle.run_lifecycle.specs.Stops.{all_turns}
 use Rattle.run_lifecycle.specs.declared.ended.Ended.{Ended}
 use Rattle.run_lifecycle.proofs.Ran as ran_facts
 use Rattle.run_lifecycle.proofs.Turns.{all_reversed, cut_at}
-use Rattle.shared_run.specs.DoorsCauses.{IsNamedPlace, IsPlaceOfCall}
+use Rattle.shared_run.specs.DoorsCauses.{IsNamedPlace, IsOwnPlace, IsPlaceOfCall}
 use Rattle.shared_run.specs.Participants.{session_of}
 use Rattle.shared_run.specs.RunsTogether.{RanTogether, used_edges}
-use Rattle.shared_run.specs.Together.{Edges, NobodyWorked, WorkedTogether, own_before}
-use Rattle.shared_run.proofs.CallPlaces.{call_placed, calling_turn, calls_of_pass, own_calls, replied_turn}
+use Rattle.shared_run.specs.Together.{Edges, NobodyWorked, UsesLink, WorkedTogether, own_before}
+use Rattle.shared_run.proofs.CallPlaces.{call_placed, calling_turn, calls_in_front, calls_of_pass, own_calls, replied_turn}
+use Rattle.shared_run.proofs.FirstCall.{first_place}
 use Rattle.shared_run.proofs.Framed.{cut, framed}
 use Rattle.shared_run.proofs.Passes.{by_pass}
 
@@ -64,16 +65,17 @@ own_session session (Some call) own short is t there calls = ⊎_elim (λ (none 
     sym (eqb-true 0 session (sym (ap (calls_by session) op_is) ∙ calls)))
     (Contains-push_cases [] is.0 t (subst (λ (ts : List RunTurn). Contains ts t) is.1 there))
 
-before_session : (session worker : ℕ) (call : Option Call) (own : List RunTurn) (short : Bool) → IsOwnCall call own short
-    → (t : RunTurn) → Contains (own_before worker own) t → calls_by session t.op ≡ true → session ≡ 0
-before_session session zero call own short is t there calls = own_session session call own short is t there calls
-before_session session (suc worker) call own short is t there calls = none_there t there
+-- .. and of the first worker's pass
+before_pass : (worker : ℕ) (own : List RunTurn) (t : RunTurn) → Contains (own_before worker own) t
+    → (worker ≡ 0) × Contains own t
+before_pass zero own t there = (refl, there)
+before_pass (suc worker) own t there = none_there t there
 
 module _ {D L A K O : Type 0} {says : DiskSays D} {links : LinkSays L} {clocks : ClockSays K} {doors : DoorSays A}
     {sinks : SinkSays O}
     {words : List (List ℕ)} {gids : ℕ} {disk : D} {olds : Edges L A K} {out : O} {ended : Ended D} {news : Edges L A K}
     {transcripts : List Transcript} {out' : O} where
-  module _ (stand : CallsStandWhereReplied)
+  module _ (replies : RepliesAreOfTheHistory) (stand : CallsStandWhereReplied)
       (ran : RanTogether says links clocks doors sinks words gids disk olds out ended news transcripts out') where
     abbrev turns : List RunTurn
     turns = ran.goes_on.goes.works.turns
@@ -117,17 +119,29 @@ module _ {D L A K O : Type 0} {says : DiskSays D} {links : LinkSays L} {clocks :
         ∙ (ap (λ (ts : List RunTurn). reply_places (turns_calling session ts)) (reverse-reverse all)
         ∙ ap reply_places (calling_all session)))
 
+    placed_there : (session place : ℕ) → IsPlaceOfCall items session place → Contains (call_places session items) place
+    placed_there session place is =
+        subst (λ (n : ℕ). Contains (call_places session items) n) (let none : 0 + place ≡ place = omega arith in none)
+        (call_placed session is.0 is.1 0 items place is.2)
+
     -- a call that stands there came by a turn of its session
     called_by : (session place : ℕ) → IsPlaceOfCall items session place
         → (t : RunTurn) × Contains turns t × (calls_by session t.op ≡ true)
     called_by session place is =
-        let placed_there : Contains (call_places session items) place =
-        subst (λ (n : ℕ). Contains (call_places session items) n) (let none : 0 + place ≡ place = omega arith in none)
-        (call_placed session is.0 is.1 0 items place is.2) in
         let replied = replied_turn (turns_calling session turns) place
-        (subst (λ (ps : List ℕ). Contains ps place) (placed session) placed_there) in
+        (subst (λ (ps : List ℕ). Contains ps place) (placed session) (placed_there session place is)) in
         let calls = calling_turn session turns replied.0 replied.1 in
         (replied.0, calls.there, calls.calls)
+
+    -- where the own call is the only one of session 0 it comes before all else
+    own_place : turns_calling 0 turns ≡ turns_calling 0 ran.begun.desk.own → (session place : ℕ)
+        → IsPlaceOfCall items session place → session ≡ 0 → IsOwnPlace session place
+    own_place only session place is own = (
+      own,
+      first_place replies (framed ran) place
+          (subst (λ (ps : List ℕ). Contains ps place)
+          (ap (λ (s : ℕ). call_places s items) own ∙ (placed 0 ∙ ap reply_places only)) (placed_there session place is)),
+    )
 
     module _ (worked : Together) where
       -- the turn is one of this session's own, at its door
@@ -137,22 +151,29 @@ module _ {D L A K O : Type 0} {says : DiskSays D} {links : LinkSays L} {clocks :
         by : session ≡ session_of door
         pass : t.pass ≡ length worked.uses + door
 
-      by_link : (session : ℕ) (t : RunTurn) → Contains turns t → calls_by session t.op ≡ true → t.pass < length worked.uses
-          → session ≡ 0
-      by_link session t there calls low =
-          let here = get_at worked.uses t.pass low in
-          let used = worked.each t.pass here.0 here.1 in
+      -- a worker calls by none of its turns
+      works_not : {P : Type 0} (session worker : ℕ) (one : Use L K Bool)
+          (used : UsesLink D links clocks ran.begun.desk.own turns worker one) (t : RunTurn)
+          → Contains (used.by_clock.its.worked ++ used.by_clock.its.stop) t → calls_by session t.op ≡ true → P
+      works_not session worker one used t there calls =
           let its = used.by_clock.its in
-          ⊎_elim (λ (before : Contains (own_before t.pass ran.begun.desk.own) t).
-          before_session session t.pass ran.begins.call ran.begun.desk.own ran.begun.is_short ran.begins.own t before calls)
-          (λ (mine : Contains (its.worked ++ its.stop) t). ⊎_elim
-          (λ (is : Contains its.worked t). work_calls_not session t.op
-          (worked_work links t.pass used.from here.0.old.0 used.to here.0.new.0 (Ok used.came) its t is) calls)
+          ⊎_elim (λ (is : Contains its.worked t). work_calls_not session t.op
+          (worked_work links worker used.from one.old.0 used.to one.new.0 (Ok used.came) its t is) calls)
           (λ (stopped : Contains its.stop t). op_calls_not session t.op
           (operation.Stop (record { 0 = its.b.moment }))
           (is_stopping (Ok used.came) its.b.moment its.stop t its.stops stopped) refl calls)
-          (Contains-append_cases its.worked its.stop t mine))
-          (Contains-append_cases (own_before t.pass ran.begun.desk.own) (its.worked ++ its.stop) t
+          (Contains-append_cases its.worked its.stop t there)
+
+      -- a call by the pass of a worker is the line's own
+      by_link : (session : ℕ) (t : RunTurn) → Contains turns t → calls_by session t.op ≡ true → t.pass < length worked.uses
+          → (t.pass ≡ 0) × Contains ran.begun.desk.own t
+      by_link session t there calls low =
+          let here = get_at worked.uses t.pass low in
+          let used = worked.each t.pass here.0 here.1 in
+          let mine = used.by_clock.its.worked ++ used.by_clock.its.stop in
+          ⊎_elim (λ (before : Contains (own_before t.pass ran.begun.desk.own) t). before_pass t.pass ran.begun.desk.own t before)
+          (λ (is : Contains mine t). works_not session t.pass here.0 used t is calls)
+          (Contains-append_cases (own_before t.pass ran.begun.desk.own) mine t
           (subst (λ (ts : List RunTurn). Contains ts t) used.own (by_pass t.pass turns t there refl)))
 
       by_door : (session : ℕ) (t : RunTurn) → Contains turns t → calls_by session t.op ≡ true → length worked.uses ≤ t.pass
@@ -181,12 +202,31 @@ module _ {D L A K O : Type 0} {says : DiskSays D} {links : LinkSays L} {clocks :
           }
 
       whose : (session : ℕ) (t : RunTurn) → Contains turns t → calls_by session t.op ≡ true
-          → (session ≡ 0) ⊎ IsOfDoor session t
+          → ((session ≡ 0) × (t.pass ≡ 0) × (0 < length worked.uses)) ⊎ IsOfDoor session t
       whose session t there calls = by (ltb t.pass (length worked.uses)) refl
         where
-          by : (low : Bool) → ltb t.pass (length worked.uses) ≡ low → (session ≡ 0) ⊎ IsOfDoor session t
-          by true is = inl (by_link session t there calls (ltb-true t.pass (length worked.uses) is))
+          by : (low : Bool) → ltb t.pass (length worked.uses) ≡ low
+              → ((session ≡ 0) × (t.pass ≡ 0) × (0 < length worked.uses)) ⊎ IsOfDoor session t
+          by true is =
+              let low = ltb-true t.pass (length worked.uses) is in
+              let own = by_link session t there calls low in inl (
+                own_session session ran.begins.call ran.begun.desk.own ran.begun.is_short ran.begins.own t own.1 calls,
+                own.0,
+                omega (arith, low),
+              )
           by false is = inr (by_door session t there calls (ltb-false t.pass (length worked.uses) is))
+
+      -- session 0 calls by the first pass alone, and there but once
+      own_only : 0 < length worked.uses → turns_calling 0 turns ≡ turns_calling 0 ran.begun.desk.own
+      own_only some =
+          let first = get_at worked.uses 0 some in
+          let used = worked.each 0 first.0 first.1 in
+          calls_of_pass 0 0 turns (λ t there calls.
+          ⊎_elim (λ own. own.1) (λ (by : IsOfDoor 0 t). absurd (let of_door : 0 ≡ by.door + 1 = by.by in omega (arith, of_door)))
+          (whose 0 t there calls))
+          ∙ (ap (turns_calling 0) used.own
+          ∙ calls_in_front 0 ran.begun.desk.own (used.by_clock.its.worked ++ used.by_clock.its.stop)
+          (λ t there calls. works_not 0 0 first.0 used t there calls))
 
       -- ---- transcripts
 
@@ -194,7 +234,7 @@ module _ {D L A K O : Type 0} {says : DiskSays D} {links : LinkSays L} {clocks :
       only_by : (door : ℕ) (t : RunTurn) → Contains turns t → calls_by (session_of door) t.op ≡ true
           → t.pass ≡ length worked.uses + door
       only_by door t there calls = ⊎_elim
-          (λ (none : session_of door ≡ 0). absurd (let zero_is : door + 1 ≡ 0 = none in omega (arith, zero_is)))
+          (λ own. absurd (let zero_is : door + 1 ≡ 0 = own.0 in omega (arith, zero_is)))
           (λ (is : IsOfDoor (session_of door) t).
           let same : door + 1 ≡ is.door + 1 = is.by in let pass = is.pass in omega (arith, same, pass))
           (whose (session_of door) t there calls)
@@ -211,9 +251,10 @@ module _ {D L A K O : Type 0} {says : DiskSays D} {links : LinkSays L} {clocks :
           ∙ sym (placed session))
 
       pub all_named : (session place : ℕ) → IsPlaceOfCall items session place
-          → (session ≡ 0) ⊎ IsNamedPlace worked.door_uses session place
+          → IsOwnPlace session place ⊎ IsNamedPlace worked.door_uses session place
       all_named session place is =
-          let came = called_by session place is in ⊎_elim (λ (none : session ≡ 0). inl none)
+          let came = called_by session place is in
+          ⊎_elim (λ own. inl (own_place (own_only own.2) session place is own.0))
           (λ (by : IsOfDoor session came.0).
           let its = get_at worked.door_uses by.door by.low in inr (record {
             door = by.door;
@@ -222,22 +263,23 @@ module _ {D L A K O : Type 0} {says : DiskSays D} {links : LinkSays L} {clocks :
             by = by.by;
             named = subst (λ (ps : List ℕ). Contains ps place)
                 (ap (λ (s : ℕ). call_places s items) by.by ∙ sym (names_all by.door its.0 its.1))
-                (subst (λ (n : ℕ). Contains (call_places session items) n)
-                (let none : 0 + place ≡ place = omega arith in none)
-                (call_placed session is.0 is.1 0 items place is.2));
+                (placed_there session place is);
           })) (whose session came.0 came.1 came.2)
 
       -- where no door is used there are no calls but the line's own
-      pub none_named : worked.door_uses ≡ [] → (session place : ℕ) → IsPlaceOfCall items session place → session ≡ 0
+      pub none_named : worked.door_uses ≡ [] → (session place : ℕ) → IsPlaceOfCall items session place
+          → IsOwnPlace session place
       none_named none session place is =
-          let came = called_by session place is in ⊎_elim (λ (own : session ≡ 0). own)
+          let came = called_by session place is in
+          ⊎_elim (λ own. own_place (own_only own.2) session place is own.0)
           (λ (by : IsOfDoor session came.0). absurd (let low = by.low in let no_doors = ap length none in
           omega (arith, low, no_doors)))
           (whose session came.0 came.1 came.2)
 
     -- nor where nobody worked
-    pub nobody_named : Nobody → (session place : ℕ) → IsPlaceOfCall items session place → session ≡ 0
+    pub nobody_named : Nobody → (session place : ℕ) → IsPlaceOfCall items session place → IsOwnPlace session place
     nobody_named nobody session place is =
         let came = called_by session place is in
-        own_session session ran.begins.call ran.begun.desk.own ran.begun.is_short ran.begins.own came.0
-        (subst (λ (ts : List RunTurn). Contains ts came.0) nobody.none came.1) came.2
+        own_place (ap (turns_calling 0) nobody.none) session place is
+        (own_session session ran.begins.call ran.begun.desk.own ran.begun.is_short ran.begins.own came.0
+        (subst (λ (ts : List RunTurn). Contains ts came.0) nobody.none came.1) came.2)

@@ -45,18 +45,20 @@ module _ {D L K : Type 0} (links : LinkSays L) (clocks : ClockSays K) (solo : Ru
         short_is = is.did.short_is;
       }
 
-module _ {D A K : Type 0} (doors : DoorSays A) (console : ConsoleTerms) (solo : RunSight D) (desk : RunDesk D)
-    (turns : List RunTurn) where
+module _ {D A K : Type 0} (doors : DoorSays A) (clocks : ClockSays K) (console : ConsoleTerms) (solo : RunSight D)
+    (desk : RunDesk D) (turns : List RunTurn) where
   door_used : (base door : ℕ) (used : Use A K Transcript) → 1 ≤ base
-      → UsedWithPass (ServesAt {K = K} doors console) solo desk turns base door used
-      → UsesDoor D doors console turns (base + door) door used
+      → UsedWithPass (ServesAt doors clocks console) solo desk turns base door used
+      → UsesDoor D doors clocks console turns (base + door) door used
   door_used base door used some is =
       let none = is.new.others (omega (arith, some)) in
-      let mine = is.did.before ++ is.did.last ∷ [] in record {
+      let its = is.did.its in
+      let mine = its.before ++ its.last ∷ [] in record {
         from = _;
         to = _;
-        its = is.did;
-        own = is.own ∙ (is.did.went.own ∙ ap (λ (ts : List RunTurn). ts ++ mine) none);
+        its = its;
+        asked = is.did.asked;
+        own = is.own ∙ (its.went.own ∙ ap (λ (ts : List RunTurn). ts ++ mine) none);
       }
 
 module _ {D L A K : Type 0} {links : LinkSays L} {clocks : ClockSays K} {doors : DoorSays A} (console : ConsoleTerms)
@@ -67,7 +69,7 @@ module _ {D L A K : Type 0} {links : LinkSays L} {clocks : ClockSays K} {doors :
     (k_new : (place : ℕ) (pass : RunPass D) → slice_get kp place ≡ Some pass
     → IsNewPass solo desk (length olds.links + place) pass)
     (w_took : AllTookPart desk (WorksAt links clocks) (participants_from 0 wp olds.links) ws')
-    (k_took : AllTookPart desk (ServesAt doors console) (participants_from 0 kp olds.doors) ks')
+    (k_took : AllTookPart desk (ServesAt doors clocks console) (participants_from 0 kp olds.doors) ks')
     (w_edges : map edge_of ws' ≡ news.links) (w_came : map came_in ws' ≡ map Some shorts)
     (k_edges : map edge_of ks' ≡ news.doors) (k_came : map came_in ks' ≡ map Some transcripts)
     (many_ws : length ws' ≡ length olds.links)
@@ -83,11 +85,11 @@ module _ {D L A K : Type 0} {links : LinkSays L} {clocks : ClockSays K} {doors :
       ∙ some_at (map pass_in ws' ++ map pass_in ks') passes' place pass passes_are
       (get_left (map pass_in ws') (map pass_in ks') place (Some pass) is)) closed
 
-  by_doors : UsedInTurns (ServesAt doors console) solo desk turns (length olds.links) olds.doors news.doors transcripts
+  by_doors : UsedInTurns (ServesAt doors clocks console) solo desk turns (length olds.links) olds.doors news.doors transcripts
   by_doors =
       let many = map_length pass_in ws' ∙ many_ws in
-      used_in_turns desk (ServesAt doors console) ties_run solo (length olds.links) kp olds.doors news.doors ks' transcripts
-      turns passes' (λ n s s' e e' y did. did.went.number) k_same k_new k_took k_edges k_came
+      used_in_turns desk (ServesAt doors clocks console) ties_run solo (length olds.links) kp olds.doors news.doors ks' transcripts
+      turns passes' (λ n s s' e e' y did. did.its.went.number) k_same k_new k_took k_edges k_came
       (λ place pass is.
       some_at (map pass_in ws' ++ map pass_in ks') passes' (length olds.links + place) pass passes_are
       (ap (λ (n : ℕ). slice_get (map pass_in ws' ++ map pass_in ks') (n + place)) (sym many)
@@ -128,6 +130,6 @@ module _ {D L A K : Type 0} {links : LinkSays L} {clocks : ClockSays K} {doors :
         numbered = subst (λ (n : ℕ). AreNumbered n turns) all closed.numbered;
         each = each_link;
         each_door = λ door one there.
-            subst (λ (n : ℕ). UsesDoor D doors console turns (n + door) door one) (sym many)
-            (door_used doors console solo desk turns (length olds.links) door one some (by_doors.each door one there));
+            subst (λ (n : ℕ). UsesDoor D doors clocks console turns (n + door) door one) (sym many)
+            (door_used doors clocks console solo desk turns (length olds.links) door one some (by_doors.each door one there));
       }

@@ -1,10 +1,12 @@
 -- What was done at the doors of a run, and what its history shows of that.
-use Rattle.std.proofs.Common.{◌≡◌, ◌⊎◌, inl, inr, ⊎_elim, ℕ, Bool, true, false, List, [], ◌∷◌, ◌++◌, Some, length, map, refl, sym, ap, ◌∙◌, subst, arith, slice_get}
-use Rattle.std.specs.Prelude.{◌||◌, ◌+◌, if◌then◌else◌, All, Contains}
-use Rattle.std.proofs.lemmas.List.Elements.{All-head, All-tail, Contains-append_cases, Contains-append_left, Contains-push_cases}
-use Rattle.served_runs.proofs.TurnLists.{behind, here}
+use Rattle.std.proofs.Common.{◌≡◌, ◌⊎◌, inl, inr, ⊎_elim, ℕ, Bool, true, false, List, [], ◌∷◌, ◌++◌, Some, length, map, refl, sym, ap, ◌∙◌, subst, slice_get}
+use Rattle.std.specs.Prelude.{◌||◌, ◌+◌, if◌then◌else◌, Contains}
+use Rattle.std.proofs.lemmas.List.Elements.{Contains-append_left, Contains-append_right}
+use Rattle.served_runs.proofs.TurnLists.{here}
 use Rattle.served_runs.proofs.Workers.{ends_so}
-use Rattle.console_session.specs.CallTurns.{IsOfSession, call_turns, is_call, places_by, reply_places}
+use Rattle.console_http.specs.declared.ends.DoorEnd.{DoorEnd}
+use Rattle.console_http.specs.declared.ends.DoorEnd.TheVariants.{Finished}
+use Rattle.console_session.specs.DoorSessions.{IsCauseOf}
 use Rattle.console_session.specs.SessionLaws.{CallsStandWhereReplied, RepliesAreOfTheHistory, call_places}
 use Rattle.console_session.specs.declared.serving.Transcript.{Transcript}
 use Rattle.desk_participants.specs.Uses.{Use}
@@ -16,14 +18,11 @@ use Rattle.dl_kinds.specs.declared.runs.Moment.{Moment}
 use Rattle.door_source.specs.declared.Doors.{Ghosts as DoorSays}
 use Rattle.engine_turns.specs.Told.{RunTurn}
 use Rattle.engine_turns.specs.TurnLaws.{TurnsAppend}
-use Rattle.engine_turns.specs.declared.operations.Operation.{Operation}
 use Rattle.engine_turns.specs.declared.operations.Operation.TheVariants as operation
-use Rattle.engine_turns.specs.declared.operations.Said.{Said}
 use Rattle.engine_turns.specs.declared.operations.Said.TheVariants as said
 use Rattle.link_source.specs.declared.Links.{Ghosts as LinkSays}
 use Rattle.machine_core.specs.declared.calls.Call.{Call}
 use Rattle.machine_core.specs.declared.events.Event.{Event}
-use Rattle.machine_core.specs.declared.events.Event.TheVariants.{Called}
 use Rattle.run_report.specs.declared.kinds.Reply.{Reply}
 use Rattle.run_report.specs.declared.endings.RunEnding.TheVariants.{NoMemory}
 use Rattle.turn_desk.specs.Turns.{events_of}
@@ -33,86 +32,16 @@ use Rattle.run_lifecycle.specs.Stops.{all_turns}
 use Rattle.run_lifecycle.specs.declared.console.ConsoleTerms.{ConsoleTerms}
 use Rattle.run_lifecycle.specs.declared.ended.Ended.{Ended}
 use Rattle.run_lifecycle.proofs.Ran as ran_facts
-use Rattle.shared_run.specs.DoorsCauses.{DoorsServed, IsPlaceOfCall, IsServedDoor, NoneServed, ShowsDoors}
+use Rattle.shared_run.specs.DoorsCauses.{DoorsServed, IsOwnPlace, IsPlaceOfCall, IsServedDoor, NoneServed, ShowsDoors}
 use Rattle.shared_run.specs.Participants.{session_of}
 use Rattle.shared_run.specs.RunsTogether.{RanTogether, RunsTogether, used_edges}
 use Rattle.shared_run.specs.Together.{Edges, NobodyWorked, UsesDoor, WorkedTogether}
-use Rattle.shared_run.proofs.Called.{place_of_call, stands_where_told}
+use Rattle.shared_run.proofs.Called.{finds_finished, place_of_call, stands_where_told}
 use Rattle.shared_run.proofs.Calling.{all_named, names_all, nobody_named, none_named}
 use Rattle.shared_run.proofs.Framed.{cut, framed}
 use Rattle.shared_run.proofs.Over.{none_mapped, or_middle}
 use Rattle.shared_run.proofs.Passes.{of_pass}
-
--- ---- calls that were replied to
-
--- a call of the session, among these turns, that was replied to at this place
-record RepliedAt (session : ℕ) (turns : List RunTurn) (place : ℕ) : Type 0 where
-  t : RunTurn
-  there : Contains turns t
-  call : Call
-  asked : Moment
-  op_is : t.op ≡ operation.Call session call asked
-  reply : Reply
-  starved : Bool
-  said_is : t.answer.said ≡ said.Replied place reply starved
-
-none_at : {P : Type 0} (place : ℕ) (e : Event) → slice_get [] place ≡ Some e → P
-none_at place e is = absurd cc
-
-no_place : {P : Type 0} (place : ℕ) → Contains [] place → P
-no_place place there = absurd (let within = there.1 in omega (arith, within))
-
-one_place : (p place : ℕ) → Contains (p ∷ []) place → p ≡ place
-one_place p place there = ⊎_elim (λ (none : Contains [] place). no_place place none) (λ (same : p ≡ place). same)
-    (Contains-push_cases [] p place there)
-
-later_reply : (session : ℕ) (t : RunTurn) (ts : List RunTurn) (place : ℕ) → RepliedAt session ts place
-    → RepliedAt session (t ∷ ts) place
-later_reply session t ts place is = record {
-  t = is.t;
-  there = behind t ts is.t is.there;
-  call = is.call;
-  asked = is.asked;
-  op_is = is.op_is;
-  reply = is.reply;
-  starved = is.starved;
-  said_is = is.said_is;
-}
-
--- a place that the replies tell is that of one of them
-reply_at : (session : ℕ) (turns : List RunTurn) → All (λ (t : RunTurn). IsOfSession session t.op) turns → (place : ℕ)
-    → Contains (reply_places (call_turns turns)) place → RepliedAt session turns place
-reply_at session [] kinds place there = no_place place there
-reply_at session (t ∷ ts) kinds place there =
-    by t.op refl (All-head (λ (u : RunTurn). IsOfSession session u.op) t ts kinds) there
-    (reply_at session ts (All-tail (λ (u : RunTurn). IsOfSession session u.op) t ts kinds) place)
-  where
-    by_said : (call : Call) (asked : Moment) (told : Said) → t.op ≡ operation.Call session call asked
-        → t.answer.said ≡ told → Contains (places_by told) place → RepliedAt session (t ∷ ts) place
-    by_said call asked (said.Replied at reply starved) op_is is within =
-        let same = one_place at place within in record {
-          t = t;
-          there = here t ts;
-          call = call;
-          asked = asked;
-          op_is = op_is;
-          reply = reply;
-          starved = starved;
-          said_is = subst (λ (n : ℕ). t.answer.said ≡ said.Replied n reply starved) same is;
-        }
-    by_said call asked other op_is is within = no_place place within
-
-    by : (op : Operation) → t.op ≡ op → IsOfSession session op
-        → Contains (reply_places (if is_call op then t ∷ call_turns ts else call_turns ts)) place
-        → (Contains (reply_places (call_turns ts)) place → RepliedAt session ts place) → RepliedAt session (t ∷ ts) place
-    by (operation.Call number call now) op_is is within rest = ⊎_elim
-        (λ (mine : Contains (places_by t.answer.said) place).
-        by_said call now t.answer.said (op_is ∙ ap (λ (n : ℕ). operation.Call n call now) is) refl mine)
-        (λ (later : Contains (reply_places (call_turns ts)) place).
-        later_reply session t ts place (rest later))
-        (Contains-append_cases (places_by t.answer.said) (reply_places (call_turns ts)) place within)
-    by operation.Pulse op_is is within rest = later_reply session t ts place (rest within)
-    by other op_is is within rest = absurd is
+use Rattle.shared_run.proofs.Replied.{reply_at}
 
 module _ {D L A K O : Type 0} {says : DiskSays D} {links : LinkSays L} {clocks : ClockSays K} {doors : DoorSays A}
     {sinks : SinkSays O}
@@ -157,17 +86,18 @@ module _ {D L A K O : Type 0} {says : DiskSays D} {links : LinkSays L} {clocks :
     -- ---- no door was served
 
     abbrev NoDoor : Type 0
-    NoDoor = NoneServed doors words gids olds ended news transcripts
+    NoDoor = NoneServed doors clocks words gids olds ended news transcripts
 
     abbrev OwnAlone : Type 0
-    OwnAlone = (session place : ℕ) → IsPlaceOfCall ended.journal.events.items session place → session ≡ 0
+    OwnAlone = (session place : ℕ) → IsPlaceOfCall ended.journal.events.items session place
+        → IsOwnPlace session place
 
     none_served : (ended.ending ≡ NoMemory) ⊎ (on ≡ false) → news.doors ≡ olds.doors → transcripts ≡ [] → OwnAlone → NoDoor
     none_served why same untold alone = record {
       same = same;
       untold = untold;
-      why = ⊎_elim (λ (short : ended.ending ≡ NoMemory). inr (inr short))
-          (λ (off : on ≡ false). inr (inl (ran.begins.line, ran.begins.means, sym on_is ∙ off))) why;
+      why = ⊎_elim (λ (short : ended.ending ≡ NoMemory). inr short)
+          (λ (off : on ≡ false). inl (ran.begins.line, ran.begins.means, sym on_is ∙ off)) why;
       calls = alone;
     }
 
@@ -178,7 +108,7 @@ module _ {D L A K O : Type 0} {says : DiskSays D} {links : LinkSays L} {clocks :
         ∙ or_middle ran.begun.is_short goes.works.work_short (is_no_memory goes.works.last.answer.said) nobody.short_is in
         let kept : (if is then ran.goes_on.used.doors else olds.doors) ≡ olds.doors = by is same in
         none_served (inl (ends_so sinks goes.engine out out' ended.ending (ran.begun.is_short || goes.work_short) short
-        goes.finishes.ends)) (doors_are is same ∙ kept) nobody.untold (nobody_named stand ran nobody)
+        goes.finishes.ends)) (doors_are is same ∙ kept) nobody.untold (nobody_named replies stand ran nobody)
       where
         by : (b : Bool) → on ≡ b → (if b then ran.goes_on.used.doors else olds.doors) ≡ olds.doors
         by true is_on = ap (λ (e : Edges L A K). e.doors) nobody.same ∙ were true is_on
@@ -190,25 +120,27 @@ module _ {D L A K O : Type 0} {says : DiskSays D} {links : LinkSays L} {clocks :
         (sym (were false off) ∙ worked.doors_used.olds_are) in
         none_served (inr off) (doors_are false off)
         (worked.doors_used.came_are ∙ ap (map (λ (u : Use A K Transcript). u.came)) none)
-        (none_named stand ran worked none)
+        (none_named replies stand ran worked none)
 
     -- ---- doors were served
 
     abbrev Served : ℕ → Use A K Transcript → Type 0
-    Served door one = IsServedDoor doors words gids olds ended news transcripts ran.begins.line turns door one
+    Served door one = IsServedDoor doors clocks words gids olds ended news transcripts ran.begins.line turns door one
 
     served_by : (door : ℕ) (one : Use A K Transcript)
-        → UsesDoor D doors (console_of ran.begins.line.globals) turns (length olds.links + door) door one
+        → UsesDoor D doors clocks (console_of ran.begins.line.globals) turns (length olds.links + door) door one
         → one.came.places.items ≡ call_places (session_of door) ended.journal.events.items → Served door one
     served_by door one its whole =
         let session = session_of door in
+        let in_all = (λ (t : RunTurn) (there : Contains its.its.before t).
+        from_turns t (of_pass (length olds.links + door) turns t
+        (subst (λ (ts : List RunTurn). Contains ts t) (sym its.own)
+        (Contains-append_left its.its.before (its.its.last ∷ []) t there)))) in
         let calls = (λ (t : RunTurn) (call : Call) (asked : Moment) (place : ℕ) (reply : Reply) (starved : Bool)
         (there : Contains its.its.before t) (op_is : t.op ≡ operation.Call session call asked)
         (said_is : t.answer.said ≡ said.Replied place reply starved).
-        stands_where_told (framed ran) append replies t session call asked place reply starved
-        (from_turns t (of_pass (length olds.links + door) turns t
-        (subst (λ (ts : List RunTurn). Contains ts t) (sym its.own)
-        (Contains-append_left its.its.before (its.its.last ∷ []) t there)))) op_is said_is) in record {
+        stands_where_told (framed ran) append replies t session call asked place reply starved (in_all t there) op_is
+        said_is) in record {
           its = its;
           calls = calls;
           places = λ place there.
@@ -217,6 +149,14 @@ module _ {D L A K O : Type 0} {says : DiskSays D} {links : LinkSays L} {clocks :
               place_of_call (framed ran) session at.call at.asked place at.reply
               (calls at.t at.call at.asked place at.reply at.starved at.there at.op_is at.said_is);
           all = whole;
+          finished = λ is.
+              let found = subst
+              (λ (end : DoorEnd). IsCauseOf doors end its.its.before its.its.serves.visits one.new.0)
+              (sym its.its.serves.end_is ∙ is) its.its.serves.cause in
+              finds_finished (framed ran) append found.asking
+              (in_all found.asking (subst (λ (ts : List RunTurn). Contains ts found.asking) (sym found.are)
+              (Contains-append_right found.front (found.asking ∷ []) found.asking (here found.asking [])))) found.op
+              found.said;
         }
 
     served_door : (worked : Together) (door : ℕ) (one : Use A K Transcript) → slice_get worked.door_uses door ≡ Some one
@@ -225,12 +165,12 @@ module _ {D L A K O : Type 0} {says : DiskSays D} {links : LinkSays L} {clocks :
         let many : length worked.uses ≡ length olds.links =
         sym (ap length worked.used.olds_are ∙ map_length (λ (u : Use L K Bool). u.old) worked.uses) in
         served_by door one
-        (subst (λ (n : ℕ). UsesDoor D doors (console_of ran.begins.line.globals) turns (n + door) door one) many
-        (subst (λ (c : ConsoleTerms). UsesDoor D doors c turns (length worked.uses + door) door one)
+        (subst (λ (n : ℕ). UsesDoor D doors clocks (console_of ran.begins.line.globals) turns (n + door) door one) many
+        (subst (λ (c : ConsoleTerms). UsesDoor D doors clocks c turns (length worked.uses + door) door one)
         ran.begins.console_is (worked.each_door door one there)))
-        (names_all stand ran worked door one there)
+        (names_all replies stand ran worked door one there)
 
-    by_on : on ≡ true → (worked : Together) → DoorsServed doors words gids olds ended news transcripts
+    by_on : on ≡ true → (worked : Together) → DoorsServed doors clocks words gids olds ended news transcripts
     by_on is_on worked = record {
       line = ran.begins.line;
       means = ran.begins.means;
@@ -246,23 +186,21 @@ module _ {D L A K O : Type 0} {says : DiskSays D} {links : LinkSays L} {clocks :
         came_are = worked.doors_used.came_are;
       };
       each = served_door worked;
-      calls = all_named stand ran worked;
+      calls = all_named replies stand ran worked;
     }
 
-    by_work : (is : Bool) → on ≡ is → (worked : Together) → ShowsDoors doors words gids olds ended news transcripts
-    by_work true is worked = inr (by_on is worked)
-    by_work false off worked = inl (by_off off worked)
+    by_work : (is : Bool) → on ≡ is → (worked : Together) → ShowsDoors doors clocks words gids olds ended news transcripts
+    by_work true is worked = inr (inr (by_on is worked))
+    by_work false off worked = inr (inl (by_off off worked))
 
   pub shows_doors : TurnsAppend → RepliesAreOfTheHistory → CallsStandWhereReplied
       → RunsTogether says links clocks doors sinks words gids disk olds out ended news transcripts out'
-      → ShowsDoors doors words gids olds ended news transcripts
+      → ShowsDoors doors clocks words gids olds ended news transcripts
   shows_doors append replies stand (inl never) = inl (record {
     same = ap (λ (e : Edges L A K). e.doors) never.1;
     untold = never.2;
-    why = inl never.0.journal;
-    calls = λ session place is.
-        none_at place (Called session is.0 is.1) (ap (λ (es : List Event). slice_get es place) (sym never.0.journal) ∙ is.2);
+    none = never.0.journal;
   })
   shows_doors append replies stand (inr ran) = ⊎_elim
       (λ worked. by_work append replies stand ran ran.begun.console.is_on refl worked)
-      (λ nobody. inl (by_nobody append replies stand ran ran.begun.console.is_on refl nobody)) ran.goes_on.goes.works.worked
+      (λ nobody. inr (inl (by_nobody append replies stand ran ran.begun.console.is_on refl nobody))) ran.goes_on.goes.works.worked

@@ -9,6 +9,8 @@ pub mod Passes
 pub mod Over
 pub mod Called
 pub mod CallPlaces
+pub mod Replied
+pub mod FirstCall
 pub mod Calling
 pub mod Doors
 pub mod Untouched

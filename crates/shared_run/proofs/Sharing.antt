@@ -74,7 +74,7 @@ module _ {D L A K : Type 0} (solo : RunSight D) (shared : Shared D L A K) (links
       (workers ws' : List (Worker D L K)) (keepers ks' : List (DoorKeeper D A K)) (w_seated : workers ≡ participants_from 0 (last_for links front) links)
       (k_seated : keepers ≡ participants_from 0 (last_for doors passes) doors)
       (worked : AllTookPart shared.desk (WorksAt links_say clocks_say) workers ws')
-      (served : AllTookPart shared.desk (ServesAt doors_say console) keepers ks') where
+      (served : AllTookPart shared.desk (ServesAt doors_say clocks_say console) keepers ks') where
     pub many_workers : length ws' ≡ length links
     many_workers = worked.many ∙ (ap length w_seated ∙ from_length Bool 0 (last_for links front) links for_links)
 

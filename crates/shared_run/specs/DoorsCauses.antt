@@ -2,14 +2,17 @@
 use Rattle.std.specs.Prelude.{◌≡◌, ◌⊎◌, ◌≤◌, ◌+◌, ◌++◌, ℕ, Bool, true, false, Contains, List, [], ◌∷◌, Some, length, reverse, slice_get}
 use Rattle.command_line.specs.Lines.{IsLine}
 use Rattle.command_line.specs.declared.line.CommandLine.{CommandLine}
+use Rattle.console_http.specs.declared.ends.DoorEnd.TheVariants.{Finished}
 use Rattle.console_session.specs.SessionLaws.{call_places}
 use Rattle.console_session.specs.declared.serving.Transcript.{Transcript}
 use Rattle.desk_participants.specs.Uses.{AreUsed, Use}
+use Rattle.dl_clock.specs.declared.clock.Clock.{Ghosts as ClockSays}
 use Rattle.dl_kinds.specs.declared.runs.Moment.{Moment}
 use Rattle.door_source.specs.declared.Doors.{Ghosts as DoorSays}
 use Rattle.engine_turns.specs.Told.{RunTurn}
 use Rattle.engine_turns.specs.declared.operations.Operation.TheVariants as operation
 use Rattle.engine_turns.specs.declared.operations.Said.TheVariants.{Replied}
+use Rattle.machine_core.specs.Reads.{is_finished_in}
 use Rattle.machine_core.specs.Starts.{RunStart}
 use Rattle.machine_core.specs.declared.calls.Call.{Call}
 use Rattle.machine_core.specs.declared.events.Event.{Event}
@@ -50,28 +53,45 @@ pub record IsNamedPlace {A K : Type 0} (uses : List (Use A K Transcript)) (sessi
   pub by : session ≡ session_of door
   pub named : Contains one.came.places.items place
 
+-- a front of the history finds the run finished: told to shut down, or stopped, or with no door there and nothing left to do
+pub record FindsFinished (start : RunStart) (events : List Event) : Type 0 where
+  pub front : List Event
+  pub rest : List Event
+  pub cut : events ≡ front ++ rest
+  pub finished : is_finished_in start (reverse front) ≡ true
+
 -- ---- doors
 
 -- the words mean a line that doesn't turn the console on
 abbrev pub LacksConsole : List (List ℕ) → Type 0
 LacksConsole words = (line : CommandLine) × IsLine words line × (is_console_on line.globals ≡ false)
 
-module _ {D L A K : Type 0} (doors : DoorSays A) (words : List (List ℕ)) (gids : ℕ) (olds : Edges L A K)
-    (ended : Ended D) (news : Edges L A K) (transcripts : List Transcript) where
-  -- No door was served, and each is as it was: the run ended before it began, its console is off, or memory was wanting. No
-  -- call is in the history but the line's own, of session 0.
+-- the line's own call is of session 0, and comes before all else
+abbrev pub IsOwnPlace : ℕ → ℕ → Type 0
+IsOwnPlace session place = (session ≡ 0) × (place ≡ 0)
+
+module _ {D L A K : Type 0} (doors : DoorSays A) (clocks : ClockSays K) (words : List (List ℕ)) (gids : ℕ)
+    (olds : Edges L A K) (ended : Ended D) (news : Edges L A K) (transcripts : List Transcript) where
+  -- the run ended before it began, and each door is as it was
+  pub record NeverOpened : Type 0 where
+    pub same : news.doors ≡ olds.doors
+    pub untold : transcripts ≡ []
+    pub none : ended.journal.events.items ≡ []
+
+  -- No door was served, and each is as it was: the run's console is off, or memory was wanting. No call is in the history but
+  -- the line's own.
   pub record NoneServed : Type 0 where
     pub same : news.doors ≡ olds.doors
     pub untold : transcripts ≡ []
-    pub why : (ended.journal.events.items ≡ []) ⊎ LacksConsole words ⊎ (ended.ending ≡ NoMemory)
-    pub calls : (session place : ℕ) → IsPlaceOfCall ended.journal.events.items session place → session ≡ 0
+    pub why : LacksConsole words ⊎ (ended.ending ≡ NoMemory)
+    pub calls : (session place : ℕ) → IsPlaceOfCall ended.journal.events.items session place → IsOwnPlace session place
 
   module _ (line : CommandLine) (turns : List RunTurn) where
     -- The session served the door by its own turns. Each of its calls that was replied to stands in the history where the
     -- reply says, and the reply is that of the history before it. In the transcript are the places of calls of the session,
-    -- and all of them, in order.
+    -- and all of them, in order. Where it found the run finished a front of the history says so.
     pub record IsServedDoor (door : ℕ) (used : Use A K Transcript) : Type 0 where
-      pub its : UsesDoor D doors (console_of line.globals) turns (length olds.links + door) door used
+      pub its : UsesDoor D doors clocks (console_of line.globals) turns (length olds.links + door) door used
       pub calls : (t : RunTurn) (call : Call) (asked : Moment) (place : ℕ) (reply : Reply) (starved : Bool)
           → Contains its.its.before t → t.op ≡ operation.Call (session_of door) call asked
           → t.answer.said ≡ Replied place reply starved
@@ -80,9 +100,11 @@ module _ {D L A K : Type 0} (doors : DoorSays A) (words : List (List ℕ)) (gids
       pub places : (place : ℕ) → Contains used.came.places.items place
           → IsPlaceOfCall ended.journal.events.items (session_of door) place
       pub all : used.came.places.items ≡ call_places (session_of door) ended.journal.events.items
+      pub finished : used.came.end ≡ Finished
+          → FindsFinished (start_of_line gids (length olds.doors) line.globals) ended.journal.events.items
 
   -- The console is on. Turns came, and a last one that stops the run; their events are the history, and among them are those
-  -- that serve the doors. Each call in the history is the line's own, of session 0, or in the transcript of its session's door.
+  -- that serve the doors. Each call in the history is the line's own, or in the transcript of its session's door.
   pub record DoorsServed : Type 0 where
     pub line : CommandLine
     pub means : IsLine words line
@@ -96,7 +118,10 @@ module _ {D L A K : Type 0} (doors : DoorSays A) (words : List (List ℕ)) (gids
     pub each : (door : ℕ) (one : Use A K Transcript) → slice_get uses door ≡ Some one
         → IsServedDoor line turns door one
     pub calls : (session place : ℕ) → IsPlaceOfCall ended.journal.events.items session place
-        → (session ≡ 0) ⊎ IsNamedPlace uses session place
+        → IsOwnPlace session place ⊎ IsNamedPlace uses session place
+
+  abbrev pub DoorsCauses : Type 0
+  DoorsCauses = NoneServed ⊎ DoorsServed
 
   abbrev pub ShowsDoors : Type 0
-  ShowsDoors = NoneServed ⊎ DoorsServed
+  ShowsDoors = NeverOpened ⊎ DoorsCauses

@@ -3,7 +3,7 @@ use Rattle.std.specs.Prelude.{◌≡◌, ◌⊎◌, ◌+◌, ◌++◌, ◌||◌,
 use Rattle.std.specs.List.{All, list_any}
 use Rattle.conn_worker.specs.Works.{RunSight, WorkedByClock}
 use Rattle.conn_worker.specs.declared.ends.WorkEnd.{WorkEnd}
-use Rattle.console_session.specs.DoorSessions.{ServesDoor}
+use Rattle.console_session.specs.DoorSessions.{ReadsMoments, ServesDoor}
 use Rattle.console_session.specs.declared.serving.Transcript.{Transcript}
 use Rattle.desk_participants.specs.Seats.{HasSeatsFor}
 use Rattle.desk_participants.specs.Uses.{AreUsed, Use}
@@ -66,12 +66,14 @@ pub record UsesLink {L K : Type 0} (D : Type 0) (links : LinkSays L) (clocks : C
   pub own : turns_by worker turns ≡ own_before worker call ++ (by_clock.its.worked ++ by_clock.its.stop)
   pub short_is : used.came ≡ ends_short (Ok came)
 
--- The turns of this pass among all are those by which the session of the door served it.
-pub record UsesDoor {A K : Type 0} (D : Type 0) (doors : DoorSays A) (console : ConsoleTerms) (turns : List RunTurn)
-    (pass door : ℕ) (used : Use A K Transcript) : Type 0 where
+-- The turns of this pass among all are those by which the session of the door served it. For each call among them, in order,
+-- its clock was read once, from its first moment on and without a pause, and told the call's moment.
+pub record UsesDoor {A K : Type 0} (D : Type 0) (doors : DoorSays A) (clocks : ClockSays K) (console : ConsoleTerms)
+    (turns : List RunTurn) (pass door : ℕ) (used : Use A K Transcript) : Type 0 where
   pub from : RunSight D
   pub to : RunSight D
   pub its : ServesDoor doors (session_of door) console.secret console.most from used.old.0 to used.new.0 used.came
+  pub asked : ReadsMoments clocks.reads used.old.1 from to
   pub own : turns_by pass turns ≡ its.before ++ its.last ∷ []
 
 -- ---- all together
@@ -93,7 +95,7 @@ module _ {L A K : Type 0} (D : Type 0) (links : LinkSays L) (clocks : ClockSays 
     pub each : (worker : ℕ) (one : Use L K Bool) → slice_get uses worker ≡ Some one
         → UsesLink D links clocks call turns worker one
     pub each_door : (door : ℕ) (one : Use A K Transcript) → slice_get door_uses door ≡ Some one
-        → UsesDoor D doors console turns (length uses + door) door one
+        → UsesDoor D doors clocks console turns (length uses + door) door one
 
 -- memory was wanting for a desk: nobody worked, and no door was served
 pub record NobodyWorked {E : Type 0} (call : List RunTurn) (olds news : E) (transcripts : List Transcript)

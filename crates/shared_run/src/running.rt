@@ -255,7 +255,7 @@ pub fn run_shared<
         result.links.items }
     // Each door was served by the session of its number, and what its clients were told is of the one history, all calls of
     // which are theirs or the line's own; or none was.
-    ensures doors { ShowsDoors A.Doors (map string_bytes words.now) gids
+    ensures doors { ShowsDoors A.Doors K.Clock (map string_bytes words.now) gids
         (edges links.items doors.items) (ended_run result) (edges_left result)
         result.transcripts.items }
 {

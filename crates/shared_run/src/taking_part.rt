@@ -1,6 +1,6 @@
 // What one does who takes part in the desk of a run.
 ghost use Rattle.std.specs.Prelude.{◌≡◌, ◌<◌, ◌+◌, ◌^◌, Ok, option_copied};
-ghost use Rattle.console_session.specs.DoorSessions.{ServesDoor};
+ghost use Rattle.console_session.specs.DoorSessions.{ReadsMoments, ServesDoor};
 ghost use Rattle.run_lifecycle.specs.Stops as stops;
 ghost use Rattle.shared_run.specs.Participants.{ServesAt, WorksAt, session_of};
 ghost use Rattle.desk_participants.specs.Uses.{MayTakePart, TookPart};
@@ -77,6 +77,7 @@ fn serve<R: Wait, D: Disk, T: Desk<Engine<D>>, A: Doors, K: Clock>(
     requires { number + 1 < 2 ^ 32 }
     ensures served { ServesDoor A.Doors (session_of number) console.now.secret console.now.most
         (T.sight desk.old) door.old (T.sight desk.new) door.new result }
+    ensures moments { ReadsMoments K.reads clock.old (T.sight desk.old) (T.sight desk.new) }
     ensures desk_id { T.desk_id desk.new ≡ T.desk_id desk.old }
 {
     let secret = secret_of(console);
@@ -102,7 +103,7 @@ pub(crate) fn serve_at<R: Wait, D: Disk, A: Doors, K: Clock>(
     keeper: &mut Participant<Pass<Engine<D>>, A, K, Transcript>,
 )
     requires { MayTakePart desk.now keeper.old }
-    ensures { TookPart desk.now (ServesAt A.Doors console.now) keeper.old keeper.new }
+    ensures { TookPart desk.now (ServesAt A.Doors K.Clock console.now) keeper.old keeper.new }
 {
     let Some(pass) = keeper.pass.take() else {
         unreachable!()

@@ -37,7 +37,7 @@ fn spread<
     requires workers { AllMayTakePart desk.now workers.old }
     requires doors { AllMayTakePart desk.now keepers.old }
     ensures workers { AllTookPart desk.now (WorksAt L.Links K.Clock) workers.old workers.new }
-    ensures doors { AllTookPart desk.now (ServesAt A.Doors console.now) keepers.old keepers.new }
+    ensures doors { AllTookPart desk.now (ServesAt A.Doors K.Clock console.now) keepers.old keepers.new }
 {
     for_each_of_both(
         rt,
@@ -45,7 +45,7 @@ fn spread<
         workers,
         &|_: usize, keeper: &mut Participant<Pass<Engine<D>>, A, K, Transcript>|
             requires { MayTakePart desk.now keeper.now }
-            ensures { TookPart desk.entry.now (ServesAt A.Doors console.entry.now)
+            ensures { TookPart desk.entry.now (ServesAt A.Doors K.Clock console.entry.now)
                 keeper.entry.now keeper.exit.now }
         { serve_at(rt, alloc, desk, over, console, keeper) },
         &|_: usize, worker: &mut Participant<Pass<Engine<D>>, L, K, bool>|
@@ -77,7 +77,7 @@ pub(crate) fn take_part<
     requires doors { AllMayTakePart desk.now keepers.old.items }
     ensures workers { AllTookPart desk.now (WorksAt L.Links K.Clock) workers.old.items
         workers.new.items }
-    ensures doors { AllTookPart desk.now (ServesAt A.Doors console.now)
+    ensures doors { AllTookPart desk.now (ServesAt A.Doors K.Clock console.now)
         keepers.old.items keepers.new.items }
 {
     spread(

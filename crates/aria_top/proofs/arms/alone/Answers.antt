@@ -52,10 +52,10 @@ returns g c line means alone =
         many = ran.ensures.untouched.many;
         places = one_goes_on olds news link.0 does.link' c.turns_bring_what_came.ensures.links link.1 does.links_are does.runs;
       };
-      shown = inl (record {
+      shown = inr (inl (record {
         same = ap (λ doors. doors.items) ran.ensures.doors;
         untold = c.new.ensures.items;
-        why = inr (inl (line, means, is.1));
-        calls = calls_are_own c.calls_stand_where_replied.ensures off over;
-      });
+        why = inl (line, means, is.1);
+        calls = calls_are_own c.replies_are_of_the_history.ensures c.calls_stand_where_replied.ensures off over;
+      }));
     }

@@ -1,3 +1,4 @@
+use Rattle.std.proofs.Common.{inl, inr, ⊎_elim}
 use Rattle.aria_top.proofs.Begun.{began_or_not, ending_of, of_events, printed_once, words_first}
 use Rattle.aria_top.proofs.Lines.{over, shown, untouched, whole}
 use Rattle.aria_top.proofs.OtherWays.{checked, served}
@@ -85,8 +86,9 @@ returns-clause-untouched g c line means =
     untouched c.lines_are_one.ensures c.load_words_are_no_line.ensures c.by_meaning.ensures line means
 
 pub returns-clause-doors : goal.returns-clause-doors
-returns-clause-doors g c line means =
-    shown c.lines_are_one.ensures c.load_words_are_no_line.ensures c.by_meaning.ensures line means
+returns-clause-doors g c line begun =
+    of_events line begun (⊎_elim (λ never. inl never.none) (λ causes. inr causes)
+    (shown c.lines_are_one.ensures c.load_words_are_no_line.ensures c.by_meaning.ensures line begun.means))
 
 pub returns-clause-load : goal.returns-clause-load
 returns-clause-load g c n ask = loaded c.by_meaning.ensures n ask

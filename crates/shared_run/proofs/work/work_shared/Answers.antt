@@ -35,9 +35,9 @@ unseat_all-requires-clause-done g c =
 
 pub unseat_all-requires-2-clause-done : goal.unseat_all-requires-2-clause-done
 unseat_all-requires-2-clause-done g c =
-    are_done c.args.shared.desk (ServesAt g.A.Doors c.args.console.now) c.seat_all.new.seats.items
+    are_done c.args.shared.desk (ServesAt g.A.Doors g.K.Clock c.args.console.now) c.seat_all.new.seats.items
     c.take_part.new.keepers.items
-    (took_all c.args.shared.desk (ServesAt g.A.Doors c.args.console.now) c.seat_all.new.seats.items
+    (took_all c.args.shared.desk (ServesAt g.A.Doors g.K.Clock c.args.console.now) c.seat_all.new.seats.items
     c.take_part.new.keepers.items c.take_part.ensures.doors)
 
 pub unseat_all-requires-clause-passes : goal.unseat_all-requires-clause-passes
@@ -123,9 +123,9 @@ close-requires g c =
     let workers = of_desk desk (WorksAt g.L.Links g.K.Clock) c.seat_all-2.new.seats.items c.take_part.new.workers.items
     (took_all desk (WorksAt g.L.Links g.K.Clock) c.seat_all-2.new.seats.items c.take_part.new.workers.items
     c.take_part.ensures.workers) in
-    let keepers = of_desk desk (ServesAt g.A.Doors c.args.console.now) c.seat_all.new.seats.items
+    let keepers = of_desk desk (ServesAt g.A.Doors g.K.Clock c.args.console.now) c.seat_all.new.seats.items
     c.take_part.new.keepers.items
-    (took_all desk (ServesAt g.A.Doors c.args.console.now) c.seat_all.new.seats.items c.take_part.new.keepers.items
+    (took_all desk (ServesAt g.A.Doors g.K.Clock c.args.console.now) c.seat_all.new.seats.items c.take_part.new.keepers.items
     c.take_part.ensures.doors) in
     record {
       of_desk = all_of_desk desk (map pass_in c.take_part.new.workers.items ++ map pass_in c.take_part.new.keepers.items)
@@ -157,7 +157,7 @@ returns g c solo is first =
     let ks' = c.take_part.new.keepers.items in
     let worked = subst (λ ws. AllTookPart desk (WorksAt g.L.Links g.K.Clock) ws ws') c.seat_all-2.ensures.seated
     c.take_part.ensures.workers in
-    let served = subst (λ ks. AllTookPart desk (ServesAt g.A.Doors c.args.console.now) ks ks') c.seat_all.ensures.seated
+    let served = subst (λ ks. AllTookPart desk (ServesAt g.A.Doors g.K.Clock c.args.console.now) ks ks') c.seat_all.ensures.seated
     c.take_part.ensures.doors in
     let short : c.any_short.result ≡ list_any (λ (its : Bool). its) c.unseat_all.new.came.items =
     c.any_short.ensures ∙ ap (λ (bs : List Bool). list_any (λ (its : Bool). its) bs) c.deref.ensures.value in
