@@ -2,7 +2,7 @@
 #![tactic(auto)]
 
 ghost use Rattle.std.specs.Prelude.{◌≡◌, ◌≤◌, IfOk, length, map, string_bytes};
-ghost use Rattle.aria_cli.specs.Exits.{ExitsByRun};
+ghost use Rattle.aria_cli.specs.Exits.{ExitsByOwnRun, ExitsByRun, ExitsBySome};
 ghost use Rattle.aria_top.specs.declared.limits.TheConstants.{CONSOLE_DOORS};
 ghost use Rattle.shared_run.specs.declared.limits.TheConstants.{MAX_DOORS, MAX_LINKS};
 
@@ -65,11 +65,15 @@ fn main(rt: HostRuntime) -> ExitCode {
     ExitCode::from(code)
 }
 
-fn program<R: Threads + Wait + Sync>(
+fn program<'a, R: Threads + Wait + Sync>(
     threads: &R,
-    rt: &HostRuntime,
-    shared: &Shared,
-) -> io::Result<u8> {
+    rt: &'a HostRuntime,
+    shared: &'a Shared,
+) -> io::Result<u8>
+    ensures { IfOk result (ExitsBySome ⟦<SoundDisk as Disk>⟧ ⟦<SoundLinks as Links>⟧
+        ⟦<MemClock as Clock>⟧ ⟦<MemDoors as Doors>⟧ ⟦<UnseenSink as Sink>⟧ ⟦<RealDisk<'a> as Disk>⟧
+        ⟦<Link<'a> as Links>⟧ ⟦<RealClock<'a> as Clock>⟧ ⟦<Door<'a> as Doors>⟧ ⟦<Output<'a> as Sink>⟧) }
+{
     let words = words(rt)?;
     // Words without a meaning need one link, which isn't used.
     let needs = needs_of(rt.alloc(), &words)?.unwrap_or(Needs {
@@ -164,7 +168,7 @@ fn tell_why<E: Write>(reasons: Result<String, NoMemory>, progress: &Progress, er
     }
 }
 
-/// The exit status of the run of these words: the code of its ending. Why it isn't 0 is told as an error.
+/// The exit status of the run of these words over all that is given: the code of its ending. Why it isn't 0 is told as an error.
 fn exit_status<
     R: Threads + Wait + Sync,
     D: Disk + Noted + Send + Drop,
@@ -190,9 +194,9 @@ fn exit_status<
 ) -> u8
     requires links { (1 ≤ length links.items) × (length links.items ≤ MAX_LINKS) }
     requires doors { length doors.items ≤ MAX_DOORS }
-    ensures { ExitsByRun ⟦<SoundDisk as Disk>⟧ ⟦<SoundLinks as Links>⟧ ⟦<MemClock as Clock>⟧
+    ensures { ExitsByOwnRun ⟦<SoundDisk as Disk>⟧ ⟦<SoundLinks as Links>⟧ ⟦<MemClock as Clock>⟧
         ⟦<MemDoors as Doors>⟧ ⟦<UnseenSink as Sink>⟧ D.Disk L.Links K.Clock A.Doors O.Sink
-        (map string_bytes words.now) result }
+        (map string_bytes words.now) gids disk links.items doors.items out.old out.new result }
 {
     let FinishedRun {
         ending,
