@@ -22,7 +22,8 @@ use Rattle.machine_core.specs.RunLegal.{IsLegal}
 use Rattle.machine_core.specs.Starts.{RunStart}
 use Rattle.machine_core.specs.declared.events.Event.{Event}
 use Rattle.machine_core.specs.declared.events.Event.TheVariants.{Opened}
-use Rattle.resume_core.specs.Openings.{FitsPayload, OpensJust, is_compared}
+use Rattle.resume_core.specs.Openings.{FitsPayload, OpensJust, StretchesPayload, is_compared}
+use Rattle.resume_core.proofs.Fitted.{stretches_same}
 use Rattle.resume_core.specs.Sharing.{share_names}
 use Rattle.resume_core.specs.Steps.{SameFor}
 use Rattle.stored_run.proofs.Doing.{opened_grown, own_grows_on}
@@ -39,7 +40,7 @@ use Rattle.engine_core.specs.TurnReads.{IsUntouched, OfItsWant, OpensAsRead}
 use Rattle.engine_core.specs.declared.state.EngineState.{EngineState}
 use Rattle.engine_core.proofs.Gone.{IsOpenedNext, newly_opened}
 use Rattle.engine_core.proofs.Promising.{legal_front, want_later}
-use Rattle.engine_core.proofs.ReadTurns.{fits_alike, same_cut}
+use Rattle.engine_core.proofs.ReadTurns.{fits_alike, same_cut, stretches_alike}
 use Rattle.engine_core.proofs.Turned.{keeps_apart}
 
 -- ---- the opening among the own events of a download
@@ -240,6 +241,11 @@ module _ {D : Type 0} (laws : RunFollows) (handed : HandedAreActive) (state : D 
           let came = asks.tries.opened (open_then (is_open gid verified blocks now opened)) in
           fits_alike asks.want want d.seen after.seen (same_cut S (history_of told) gid asks.want want has_then has) came.fits
 
+      stretched_read : OfItsWant S (history_of told) gid (λ want. StretchesPayload want d.seen after.seen)
+      stretched_read want has =
+          stretches_alike asks.want want d.seen after.seen
+          (same_cut S (history_of told) gid asks.want want has_then has) asks.tries.stretches
+
       -- the store was asked
       asks_then : IsNext t.op → next_to_open S (history_of told) ≡ Some gid → Asks S told t gid
       asks_then is next = record {
@@ -323,6 +329,28 @@ module _ {D : Type 0} (laws : RunFollows) (handed : HandedAreActive) (state : D 
   fitted_read gid verified blocks now there =
       let asks = asked_for gid verified blocks now there in
       fits_read asks.0 asks.1 gid asks.2 verified blocks now there
+
+  pub tried_read : (gid : Gid) → IsNext t.op → next_to_open S (history_of told) ≡ Some gid
+      → OfItsWant S (history_of told) gid (λ want. StretchesPayload want d.seen after.seen)
+  tried_read gid is next want has = ⊎_elim
+      (λ (alike : IsAlike old.run new.run).
+      subst (λ (x : D). StretchesPayload want d.seen (state x).seen) (sym alike.disk)
+      (stretches_same want d.seen d.seen refl))
+      (λ more. ⊎_elim
+      (λ (left : LeavesUnopened state t.op old.run new.run t.answer.said).
+      absurd (let none = left.none is in
+      let some = ap (next_to_open S) past_is ∙ next in
+      let never : Some gid ≡ None = sym some ∙ none in cc))
+      (λ (opens : OpensNext state t.op old.run new.run t.answer.said).
+      let one : Some opens.gid ≡ Some gid = sym (next_was opens.gid opens.next) ∙ next in
+      let same : opens.gid ≡ gid = cc in
+      let whole = subst (λ (x : D). OpensDisk opens.gid opens.mid new.run t.answer.said (state x) after)
+      opens.alike.disk opens.opens in
+      let its = subst (λ (x : Gid). OpensDisk x opens.mid new.run t.answer.said d after) same whole in
+      ⊎_elim
+      (λ (still : StaysUnopened gid new.run d after). stretches_same want d.seen after.seen (still.0 want).seen.files)
+      (λ (asks : AsksStore gid opens.mid new.run t.answer.said d after).
+      stretched_read opens.mid opens.alike gid asks want has) its.came) more) turn
 
   pub untouched_read : (want : Want) → IsUntouched S (t ∷ told) want → SameFor want d.seen after.seen
   untouched_read want apart = ⊎_elim

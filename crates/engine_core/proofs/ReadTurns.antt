@@ -1,11 +1,11 @@
 -- What was read is as the turns say, and stays told.
 use Rattle.std.proofs.Common.{◌≡◌, ⊎_elim, ◌≤◌, ℕ, Bool, true, List, [], ◌∷◌, ◌++◌, Option, Some, None, refl, sym, ap, ◌∙◌, subst, arith}
-use Rattle.std.specs.Prelude.{◌+◌, ◌-◌, ◌<◌, ◌↔◌, Contains, IsSome, IsTrue, codes, map, unwrap_or}
+use Rattle.std.specs.Prelude.{◌+◌, ◌-◌, ◌<◌, ◌↔◌, All, Contains, IsSome, IsTrue, codes, map, unwrap_or}
 use Rattle.std.specs.List.{range_with_len}
 use Rattle.std.proofs.lemmas.List.{append_assoc}
 use Rattle.std.proofs.lemmas.List.Elements.{Contains-append_cases, Contains-append_left, Contains-append_right}
 use Rattle.control_file.specs.declared.want.Want.{Want}
-use Rattle.dl_disk.specs.Files.{Files}
+use Rattle.dl_disk.specs.Files.{Files, MayMake, Stretched}
 use Rattle.dl_disk.specs.Passes.{Passes, passes_none}
 use Rattle.dl_disk.specs.State.{DiskState}
 use Rattle.dl_history.specs.PayloadParts.{is_opened}
@@ -23,6 +23,7 @@ use Rattle.engine_turns.specs.declared.operations.Operation.{Operation}
 use Rattle.engine_turns.specs.declared.operations.Operation.TheVariants as operation
 use Rattle.engine_turns.specs.declared.operations.Said.{Said}
 use Rattle.engine_turns.specs.declared.operations.Said.TheVariants.{Replied, Grant as Granted, Kept, Allow, Void, Hold, Idle, Done, Finished, JournalFull, NoMemory}
+use Rattle.machine_core.specs.Claiming.{next_to_open}
 use Rattle.machine_core.specs.DownloadWants.{HasWant, files_of_subject}
 use Rattle.machine_core.specs.FileNames.{IsPayloadName, IsUnlistedName, folder_in}
 use Rattle.machine_core.specs.Offers.{is_handed_out}
@@ -38,7 +39,7 @@ use Rattle.option_set.specs.declared.kinds.Word.TheVariants.{Out}
 use Rattle.payload_files.specs.Names.{name_of}
 use Rattle.payload_files.specs.Payload.{AreResized, payload_in}
 use Rattle.piece_table.specs.declared.giver.Giver.{Giver}
-use Rattle.resume_core.specs.Openings.{FitsPayload}
+use Rattle.resume_core.specs.Openings.{FitsPayload, StretchesPayload}
 use Rattle.resume_core.specs.Resume.{byte_at}
 use Rattle.resume_core.specs.Runs.{ReadsPiece}
 use Rattle.resume_core.specs.Steps.{SameFor}
@@ -62,7 +63,7 @@ use Rattle.engine_core.specs.Writings.{KeepsUnwritten, WritesAsTold}
 use Rattle.engine_core.specs.declared.state.EngineState.{EngineState}
 use Rattle.engine_core.proofs.FoundRight.{found_right, sealed_so}
 use Rattle.engine_core.proofs.TurnCases.{some_of}
-use Rattle.engine_core.specs.Askings.{IsWrittenAlone}
+use Rattle.engine_core.specs.Askings.{IsNext, IsWrittenAlone}
 use Rattle.payload_files.specs.Payload.{HasFiles}
 use Rattle.engine_core.proofs.Turned.{same_download}
 
@@ -171,6 +172,16 @@ pub fits_alike : (v w : Want) (old new : Files) → payload_cut v ≡ payload_cu
 fits_alike v w old new same is =
     let all = subst (FitsIn old new) same (is.resized, is.reaches, is.bytes) in
     record { resized = all.0; reaches = all.1; bytes = all.2 }
+
+abbrev StretchesIn : (old new : Files) → Payload → Type 0
+StretchesIn old new p =
+    All
+    (λ (f : FileLen). MayMake (Stretched f.len) (old (name_of p.dir f.path)) (new (name_of p.dir f.path)))
+    p.layout
+
+pub stretches_alike : (v w : Want) (old new : Files) → payload_cut v ≡ payload_cut w → StretchesPayload v old new
+    → StretchesPayload w old new
+stretches_alike v w old new same is = subst (StretchesIn old new) same is
 
 -- ---- what is kept of a download is its want
 
@@ -313,6 +324,8 @@ module _ {D : Type 0} (state : D → DiskState) (old new : EngineState D) (told 
       → ((gid : Gid) (verified blocks : List Bool) (now : Moment)
       → Contains t.events (Opened gid verified blocks now)
       → OfItsWant S (history_of told) gid (λ want. FitsPayload want seen (state new.run.disk).seen))
+      → ((gid : Gid) → IsNext t.op → next_to_open S (history_of told) ≡ Some gid
+      → OfItsWant S (history_of told) gid (λ want. StretchesPayload want seen (state new.run.disk).seen))
       → ((gid : Gid) → GoesOpened S (history_of told) gid
       → OfItsWant S (history_of told) gid
       (λ want. KeepsUnwritten S (history_of told) t want seen (state new.run.disk).seen))
@@ -324,11 +337,12 @@ module _ {D : Type 0} (state : D → DiskState) (old new : EngineState D) (told 
       → ((gid : Gid) (right : Bool) → Contains t.events (Checked gid right)
       → ChecksAsRead S (history_of told) gid right (state new.run.disk).seen)
       → FitsFiles S told t seen (state new.run.disk).seen
-  fits_files may takes opened untouched written fitted going payload lengths refused checked = record {
+  fits_files may takes opened untouched written fitted tried going payload lengths refused checked = record {
     takes = takes_then t.op takes may.answered;
     opened = opened;
     written = written;
     fitted = fitted;
+    tried = tried;
     going = going;
     payload = payload;
     lengths = lengths;

@@ -24,7 +24,7 @@ use Rattle.engine_core.proofs.DiskTaken.{keeps_promises}
 use Rattle.engine_core.proofs.ReadTurns.{fits_files, fits_more, turn_passes}
 use Rattle.engine_core.proofs.WrittenTurns.{written_read}
 use Rattle.engine_core.proofs.GoingPayloads.{going_read}
-use Rattle.engine_core.proofs.OpenedRead.{fitted_read, opened_read, untouched_read}
+use Rattle.engine_core.proofs.OpenedRead.{fitted_read, opened_read, tried_read, untouched_read}
 use Rattle.engine_core.specs.Readings.{TakesRead}
 use Rattle.engine_core.specs.Findings.{FindsRead}
 use Rattle.engine_core.proofs.FindingsRead.{checked_read, refused_read}
@@ -319,6 +319,8 @@ module _ {D : Type 0} (tells : Bool) (state : D → DiskState) (faults : D → �
             (written_read state old new told turn (left_since told_is) was.wants_are past_was past_then may)
             (fitted_read laws active state old new told turn (left_since told_is) legal_was legal_then may was.wants_are asked past_was
             start_is past_then)
+            (tried_read laws active state old new told turn (left_since told_is) legal_was legal_then may
+            was.wants_are asked past_was start_is past_then)
             (λ gid goes want has.
             going_read state old new told turn (left_since told_is) was.wants_are past_was past_then gid goes want has)
             (payload_read laws state old new told turn (left_since told_is) legal_then was.wants_are asked past_was start_is past_then)

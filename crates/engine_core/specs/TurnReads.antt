@@ -13,6 +13,7 @@ use Rattle.engine_turns.specs.declared.operations.Operation.{Operation}
 use Rattle.engine_turns.specs.declared.operations.Operation.TheVariants as operation
 use Rattle.engine_turns.specs.declared.operations.Said.{Said}
 use Rattle.engine_turns.specs.declared.operations.Said.TheVariants.{Grant, Void}
+use Rattle.machine_core.specs.Claiming.{next_to_open}
 use Rattle.machine_core.specs.DownloadWants.{HasWant}
 use Rattle.machine_core.specs.Offers.{is_handed_out}
 use Rattle.machine_core.specs.RunLegal.{download_in}
@@ -22,7 +23,7 @@ use Rattle.machine_core.specs.declared.events.Event.{Event}
 use Rattle.machine_core.specs.declared.events.Event.TheVariants.{Checked, Ended, Opened, Settled}
 use Rattle.payload_files.specs.Payload.{HasFiles}
 use Rattle.piece_table.specs.declared.giver.Giver.{Giver}
-use Rattle.resume_core.specs.Openings.{FitsPayload, OpensJust, is_compared}
+use Rattle.resume_core.specs.Openings.{FitsPayload, OpensJust, StretchesPayload, is_compared}
 use Rattle.resume_core.specs.Refusals.{open_refusal}
 use Rattle.resume_core.specs.Resume.{HasDigest}
 use Rattle.resume_core.specs.Runs.{ReadsPiece}
@@ -34,7 +35,7 @@ use Rattle.stored_run.specs.Refused.{IsRefusalEnd, RefusesAsRead}
 use Rattle.stored_run.specs.Settlings.{IsTruly, SpellsCheckOf}
 use Rattle.stored_run.specs.Views.{GoesOpened}
 use Rattle.verify_piece.specs.Seals.{PieceBytes}
-use Rattle.engine_core.specs.Askings.{IsAsked, IsOpenedWant, IsWrittenAlone}
+use Rattle.engine_core.specs.Askings.{IsAsked, IsNext, IsOpenedWant, IsWrittenAlone}
 use Rattle.engine_core.specs.Writings.{WritesAsTold, KeepsUnwritten}
 
 -- ---- pieces
@@ -114,7 +115,8 @@ IsUntouched start told want =
 
 -- The turn is as the files say that the disk read at the mark before it, and at the mark behind it: in what it takes, opens
 -- and writes. What it doesn't write of the payload of a download that went on is the same, and an opening leaves each piece
--- that stood. Behind it the files of each want that is opened have their lengths.
+-- that stood; also one that fails leaves what stood in the files. Behind the turn the files of each want that is opened
+-- have their lengths.
 pub record FitsFiles (start : RunStart) (before : List RunTurn) (t : RunTurn) (old new : Files) : Type 0 where
   pub takes : TakesAsRead start before t t.op old
   pub opened : (gid : Gid) (verified blocks : List Bool) (now : Moment)
@@ -123,6 +125,8 @@ pub record FitsFiles (start : RunStart) (before : List RunTurn) (t : RunTurn) (o
   pub fitted : (gid : Gid) (verified blocks : List Bool) (now : Moment)
       → Contains t.events (Opened gid verified blocks now)
       → OfItsWant start (history_of before) gid (λ want. FitsPayload want old new)
+  pub tried : (gid : Gid) → IsNext t.op → next_to_open start (history_of before) ≡ Some gid
+      → OfItsWant start (history_of before) gid (λ want. StretchesPayload want old new)
   pub going : (gid : Gid) → GoesOpened start (history_of before) gid
       → OfItsWant start (history_of before) gid (λ want. KeepsUnwritten start (history_of before) t want old new)
   pub payload : (want : Want) → IsWrittenAlone start (t ∷ before) want → HasFiles want.dir want.layout old

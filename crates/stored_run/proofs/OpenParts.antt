@@ -28,6 +28,7 @@ use Rattle.machine_core.specs.declared.ends.End.{End}
 use Rattle.machine_core.specs.declared.ends.End.TheVariants as end
 use Rattle.machine_core.specs.declared.events.Event.{Event}
 use Rattle.machine_core.specs.declared.events.Event.TheVariants.{Ended, Opened as OpenedEvent}
+use Rattle.resume_core.proofs.Fitted.{stretches_same}
 use Rattle.resume_core.proofs.Openings.{besides_none}
 use Rattle.resume_core.proofs.OverWhole.{for_none, whole_kept}
 use Rattle.resume_core.specs.Openings.{is_compared}
@@ -141,6 +142,7 @@ opens_none want check disk = record {
     blocks = λ block is. is;
   };
   over_whole = λ has. whole_kept want (is_compared want check) disk disk (for_none want disk);
+  stretches = stretches_same want disk.seen disk.seen refl;
   refusable = λ reason each. for_none each disk;
 }
 

@@ -11,7 +11,7 @@ use Rattle.dl_history.specs.PayloadParts.{is_opened}
 use Rattle.dl_kinds.specs.declared.gid.Gid.{Gid}
 use Rattle.durable_progress.specs.Held.{IsHeld, IsHeldByEither}
 use Rattle.machine_core.specs.Clashes.{SharesNoName}
-use Rattle.resume_core.proofs.Fitted.{fits_to, has_same}
+use Rattle.resume_core.proofs.Fitted.{fits_to, has_same, stretches_to}
 use Rattle.resume_core.proofs.Saving.{agrees_finished}
 use Rattle.resume_core.specs.Openings.{ComesOfBefore, FitsPayload, GivesSeen, KeepsBesides, is_compared}
 use Rattle.resume_core.specs.Refusals.{open_refusal}
@@ -55,6 +55,7 @@ module _ {D : Type 0} (gid : Gid) (want : Want) (old new : StoredView D) (a b : 
     agrees = λ were image left. (then_sound want (is_checked_of old gid) a b on were image left).1;
     files = λ has. has_same want a.seen b.seen (on.over_whole has).payload has;
     payload = λ has. (on.over_whole has).payload;
+    stretches = on.stretches;
     opened = λ is. absurd (let f : true ≡ false = sym is ∙ unopened in cc);
     right = λ is. absurd (let f : true ≡ false = sym is ∙ unopened in cc);
   }
@@ -126,6 +127,7 @@ module _ {D : Type 0} (gid : Gid) (want : Want) (old new : StoredView D) (a m z 
     agrees = λ were image now. agrees_now image now;
     files = λ has. left.files;
     payload = λ has. payload ∙ (on.over_whole has).payload;
+    stretches = stretches_to want a.seen m.seen z.seen payload on.stretches;
     opened = λ is. record {
       opened = opened;
       just = just;

@@ -28,7 +28,7 @@ use Rattle.machine_core.specs.declared.events.Event.TheVariants.{Ended, Opened a
 use Rattle.option_set.specs.Values.{number_value}
 use Rattle.option_set.specs.declared.kinds.Num.TheVariants.{CheckIntegrity}
 use Rattle.payload_files.specs.Payload.{HasFiles}
-use Rattle.resume_core.specs.Openings.{ComesOfBefore, FitsPayload, GivesPieces, GivesSeen, HasControl, KeepsBesides, KeepsGiven, KeepsPieces, LacksControl, OpensJust, OpensWhole, is_compared}
+use Rattle.resume_core.specs.Openings.{ComesOfBefore, FitsPayload, GivesPieces, GivesSeen, HasControl, KeepsBesides, KeepsGiven, KeepsPieces, LacksControl, OpensJust, OpensWhole, StretchesPayload, is_compared}
 use Rattle.resume_core.specs.Refusals.{open_refusal}
 use Rattle.resume_core.specs.Resume.{Agrees, AreSound, GivesAtLeast, HasDigest, Sound}
 use Rattle.resume_core.specs.States.{KeepsFor, SamePayload, StaysSound}
@@ -88,7 +88,8 @@ pub record IsToResume (m : MachineView) (gid : Gid) (want : Want) : Type 0 where
 
 -- What the store did with the files of a want that it was asked to open: those of wants that share no name with it are the
 -- same; what was sound is so still; no image gives less than one gave before, where a control file stood or the files were
--- whole; whole files stay so; and where there is a reason to refuse it, nothing changes.
+-- whole; whole files stay so; what stood in a file stands still; and where there is a reason to refuse it, nothing
+-- changes.
 pub record OpensOn (want : Want) (check : Bool) (old new : DiskState) : Type 0 where
   pub besides : KeepsBesides want old new
   pub sound : StaysSound want old new
@@ -96,6 +97,7 @@ pub record OpensOn (want : Want) (check : Bool) (old new : DiskState) : Type 0 w
   pub pieces : HasControl want old.seen → AreSound want old.seen old.may_leave → KeepsPieces want old new
   pub whole : LacksControl want old.seen → HasFiles want.dir want.layout old.seen → KeepsGiven want old new
   pub over_whole : HasFiles want.dir want.layout old.seen → OpensWhole (is_compared want check) want old new
+  pub stretches : StretchesPayload want old.seen new.seen
   pub refusable : IsSome (open_refusal want old.seen) → (each : Want) → KeepsFor each old new
 
 -- ---- parts of a run
@@ -176,7 +178,8 @@ module _ {D : Type 0} where
 
   -- The store was asked to open the download. No image gives less than one gave before, and whole files stay so, with the
   -- payload that they had, but for what is left of the download itself, where it is opened; what was sound is so still.
-  -- Where the disk reads no control file of what is opened, each verified piece has its digest.
+  -- What stood in a file stands still, up to the lengths that it had and has. Where the disk reads no control file of
+  -- what is opened, each verified piece has its digest.
   pub record TriesWant (gid : Gid) (want : Want) (old new : StoredView D) (before after : DiskState) : Type 0 where
     pub refusable : open_refusal want before.seen ≡ None
     pub images : HasFiles want.dir want.layout before.seen → (image : Files) → LeftSince after before.moment image
@@ -193,6 +196,7 @@ module _ {D : Type 0} where
         → (image : Files) → after.may_leave image → Agrees want after.seen image
     pub files : HasFiles want.dir want.layout before.seen → HasFiles want.dir want.layout after.seen
     pub payload : HasFiles want.dir want.layout before.seen → SamePayload want before after
+    pub stretches : StretchesPayload want before.seen after.seen
     pub opened : is_opened (own_in new gid) ≡ true → OpensAs gid want old new before after
     pub right : is_opened (own_in new gid) ≡ true → LacksControl want after.seen
         → AreSound want before.seen before.may_leave → IsListedWant want → (p : ℕ)

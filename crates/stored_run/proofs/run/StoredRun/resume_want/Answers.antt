@@ -41,6 +41,7 @@ returns-clause-disk g c told =
       pieces = c.resume.ensures.pieces told;
       whole = c.resume.ensures.whole told;
       over_whole = c.resume.ensures.over_whole told;
+      stretches = c.resume.ensures.stretches told;
       refusable = c.resume.ensures.refusable told;
     }))
 
