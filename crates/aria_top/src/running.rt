@@ -187,7 +187,8 @@ pub fn run<
     // A mirror that serves a payload is held to account for faults of links alone.
     ensures marks { SparesMirrors L.Links (one_run (map string_bytes words.now) gids disk
         links.items doors.items out.old result out.new) D.Disk }
-    // What is served comes: a run whose links lead to all of a metainfo file's payload is done, unless it was cut short.
+    // What is served comes: a run whose links lead to all of a metainfo file's payload is done, and its pieces stand on the
+    // disk, unless it was cut short.
     ensures completes { Completes D.Disk L.Links O.Sink (one_run (map string_bytes words.now) gids
         disk links.items doors.items out.old result out.new) }
     // So it does without a metainfo file, where all mirrors lead alike to one resource and no file stands in its folder; and

@@ -1,5 +1,5 @@
 -- What a load's mirrors serve comes.
-use Rattle.std.proofs.Common.{◌≡◌, ◌⊎◌, ℕ, Bool, true, false, List, Result, Ok, Err, [], ◌∷◌, ◌++◌, Some, None, cond, drop, get_or, length, slice_get, sym, ap, ◌∙◌, subst, arith}
+use Rattle.std.proofs.Common.{◌≡◌, ◌⊎◌, inl, inr, ⊎_elim, ℕ, Bool, true, false, List, Result, Ok, Err, [], ◌∷◌, ◌++◌, Some, None, cond, drop, get_or, length, slice_get, sym, ap, ◌∙◌, subst, arith}
 use Rattle.std.specs.Prelude.{codes}
 use Rattle.std.specs.Str.{bytes_eq}
 use Rattle.std.proofs.Math.Seq.{drop-append_seam}
@@ -23,7 +23,7 @@ use Rattle.metainfo.specs.Info.{info_of}
 use Rattle.run_lifecycle.specs.declared.ended.Ended.{Ended}
 use Rattle.run_report.specs.declared.endings.RunEnding.TheVariants.{NoMemory}
 use Rattle.served_runs.specs.Serving.{ServesRightly}
-use Rattle.served_runs.specs.Completes.{CompletesServed, EndsCutShort, HadNoFaults, IsCutShort, IsDone, own_options}
+use Rattle.served_runs.specs.Completes.{CompletesServed, EndsCutShort, HadNoFaults, IsCutShort, IsDone, IsDoneWhole, own_options}
 use Rattle.load_setup.specs.Links.{load_content}
 use Rattle.load_setup.specs.LoadLine.{WordsNameLoad}
 use Rattle.load_setup.specs.Metainfo.{metainfo_by}
@@ -71,14 +71,15 @@ pub comes_well : {D L K O : Type 0} {limited : Bool} {says : DiskSays D} {links 
     → CompletesServed limited says links sinks words disk olds out ended news out' → IsLoadGiven says links words disk olds n
     → HadNoFaults says links sinks words disk olds out ended news out'
     → IsDone ended ⊎ (ended.ending ≡ NoMemory) ⊎ EndsCutShort limited links olds ended news
-comes_well {D} {L} {K} {O} {limited} {says} {links} {sinks} {words} {disk} {olds} n completes is well =
+comes_well {D} {L} {K} {O} {limited} {says} {links} {sinks} {words} {disk} {olds} {out} {ended} n completes is well =
     let line = is.words_name.some.0 in
     let names = is.words_name.line line is.words_name.some.1 in
     let meta = (is.files_read n).0 in
     let told : SaysPayload (digests_of n) (info_of meta) = is.files_say n (info_of meta) (is.files_read n).1 in
     let many = ap length told.seeds in
     let long = file_long n in
-    completes line meta [] 2 (load_bytes n 67108864) (record {
+    ⊎_elim (λ (whole : IsDoneWhole says disk ended (own_options line) meta). inl whole.done) (λ other. inr other)
+    (completes line meta [] 2 (load_bytes n 67108864) (record {
       names = record {
         off = ap has_console is.words_are ∙ is.words_name.off;
         means = subst (λ (ws : List (List ℕ)). IsLine ws line) (sym is.words_are) is.words_name.some.1;
@@ -99,7 +100,7 @@ comes_well {D} {L} {K} {O} {limited} {says} {links} {sinks} {words} {disk} {olds
           (serves_rightly n place meta (own_options line) told.files told.total told.seeds);
       fresh = is.fresh;
       well = well;
-    })
+    }))
 
 -- where the number of turns isn't limited, a full journal alone cuts a worker short
 pub full_alone : (events : List Event) (came : Result WorkEnd Spent) → IsCutShort false events came

@@ -23,13 +23,14 @@ use Rattle.option_set.specs.Values.{OptionValues, number_value}
 use Rattle.option_set.specs.declared.kinds.Num.TheVariants.{MaxTries}
 use Rattle.resume_core.specs.Wants.{payload_name}
 use Rattle.run_lifecycle.specs.FrameLaws.{RunsEndAsShown}
+use Rattle.run_lifecycle.specs.Promises.{CompletedAreRight}
 use Rattle.run_lifecycle.specs.Stops.{all_turns}
 use Rattle.run_lifecycle.specs.declared.ended.Ended.{Ended}
 use Rattle.run_lifecycle.proofs.Ran as ran_facts
 use Rattle.run_report.specs.declared.endings.RunEnding.TheVariants.{NoMemory}
 use Rattle.served_runs.specs.ServedRuns.{RunsAreFaithful}
 use Rattle.run_lifecycle.specs.Finishes.{Ran}
-use Rattle.served_runs.specs.Completes.{CompletesServed, EndsCutShort, IsDone, IsServedWhole, NamesPayload, own_options}
+use Rattle.served_runs.specs.Completes.{CompletesServed, EndsCutShort, IsDone, IsDoneWhole, IsServedWhole, NamesPayload, own_options}
 use Rattle.served_runs.specs.OverLaws.{RunsShowLinks}
 use Rattle.served_runs.specs.Over.{IsRunOver, RanOverLinks}
 use Rattle.served_runs.specs.Served.{AllServe, IsServed}
@@ -38,6 +39,8 @@ use Rattle.served_runs.proofs.LineOptions.{LineUsual, line_usual}
 use Rattle.served_runs.proofs.Spared.{brings}
 use Rattle.served_runs.proofs.Unbegun.{never_began}
 use Rattle.served_runs.proofs.OneAdded.{RanOne, comes, no_failed_link, ran_one}
+use Rattle.served_runs.proofs.Standing.{done_whole}
+use Rattle.stored_run.specs.RunFollows.{RunFollows}
 
 -- ---- the run
 
@@ -52,6 +55,8 @@ pub record Laws {D O L : Type 0} (K : Type 0) (says : DiskSays D) (sinks : SinkS
   pub alone : LoneAreAlone
   pub shown : RunsEndAsShown says sinks
   pub shows : RunsShowLinks K says sinks links
+  pub right : CompletedAreRight says.state
+  pub follows : RunFollows
 
 module _ {D O L K : Type 0} {says : DiskSays D} {sinks : SinkSays O} {limited : Bool} {links : LinkSays L}
     {words : List (List ℕ)} {gids doors : ℕ} {disk : D} {olds : List (L × K)} {out : O} {ended : Ended D}
@@ -89,6 +94,10 @@ module _ {D O L K : Type 0} {says : DiskSays D} {sinks : SinkSays O} {limited : 
     asked_call = call_of_file (says.state disk).seen names.file meta uris line.settings ran.begins.call names.says
         (subst (λ (s : Source). IsCallOf (says.state disk).seen s line.settings ran.begins.call) names.named
         (ran.begins.call_is tells))
+
+    abbrev Comes : Type 0
+    Comes = IsDoneWhole says disk ended (own_options named) meta ⊎ (ended.ending ≡ NoMemory)
+        ⊎ EndsCutShort limited links olds ended news
 
     -- ---- its download
 
@@ -139,14 +148,15 @@ module _ {D O L K : Type 0} {says : DiskSays D} {sinks : SinkSays O} {limited : 
         fresh = is.fresh (payload_name want);
       }
 
-      done : IsDone ended ⊎ (ended.ending ≡ NoMemory) ⊎ EndsCutShort limited links olds ended news
-      done =
-          let ends = laws.well words gids doors disk out ended out' ran gid mirror meta want payload tells brought in
-          comes it laws.shown is.well (Listed meta uris) laws.done one ends.0 ends.1
+      comes_whole : Comes
+      comes_whole =
+          let ends = laws.well words gids doors disk out ended out' ran gid mirror meta want payload tells brought in ⊎_elim
+          (λ (done : IsDone ended). inl (done_whole laws.right laws.follows ran tells one.download meta uris one.there
+          one.subject_is listed.alone (is.fresh (payload_name want)) (own_options named) options_are ends.0 done))
+          (λ other. inr other) (comes it laws.shown is.well (Listed meta uris) laws.done one ends.0 ends.1)
 
-    completes_here : 1 ≤ length olds
-        → IsDone ended ⊎ (ended.ending ≡ NoMemory) ⊎ EndsCutShort limited links olds ended news
-    completes_here some = ⊎_elim (λ (one : RanOne it (Listed meta uris)). done one)
+    completes_here : 1 ≤ length olds → Comes
+    completes_here some = ⊎_elim (λ (one : RanOne it (Listed meta uris)). comes_whole one)
         (λ (starved : ended.ending ≡ NoMemory). inr (inl starved))
         (ran_one laws.append laws.stay it asked_call.its asked_call.is (Listed meta uris) asked_call.adds usual some)
 

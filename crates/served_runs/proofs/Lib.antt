@@ -27,6 +27,7 @@ pub mod Histories
 pub mod FileCalls
 pub mod Unbegun
 pub mod OneAdded
+pub mod Standing
 pub mod Completed
 pub mod KnownMirrors
 pub mod CompletedUris

@@ -1,6 +1,7 @@
 -- What a run comes to over links that lead to all that is to come of what a metainfo file lists.
-use Rattle.std.specs.Prelude.{◌≡◌, ◌⊎◌, ◌≤◌, ◌<◌, ◌+◌, ◌-◌, ◌^◌, ◌++◌, ℕ, Bool, true, false, IsTrue, codes, Contains, None, Ok, Err, Result, List, Some, length, reverse, slice_get}
+use Rattle.std.specs.Prelude.{◌≡◌, ◌⊎◌, ◌≤◌, ◌<◌, ◌+◌, ◌-◌, ◌^◌, ◌++◌, ℕ, Bool, true, false, IsTrue, codes, Contains, None, Ok, Err, Result, List, [], Some, length, reverse, slice_get}
 use Rattle.blameless_mirrors.specs.Blameless.{HasChosenPieces}
+use Rattle.blameless_mirrors.specs.Chosen.{IsChosenPiece}
 use Rattle.command_line.specs.Lines.{IsLine, has_console}
 use Rattle.command_line.specs.declared.line.CommandLine.{CommandLine}
 use Rattle.command_line.specs.declared.source.Source.TheVariants as source
@@ -8,7 +9,9 @@ use Rattle.conn_worker.specs.Works.{IsWithinTurns, RunSight, Worked}
 use Rattle.conn_worker.specs.declared.ends.Spent.{Spent}
 use Rattle.conn_worker.specs.declared.ends.WorkEnd.{WorkEnd}
 use Rattle.conn_worker.specs.declared.ends.WorkEnd.TheVariants.{JournalFull}
-use Rattle.dl_disk.specs.Files.{Files}
+use Rattle.control_file.specs.declared.want.Want.{Want}
+use Rattle.dl_disk.specs.Files.{Files, IsSame}
+use Rattle.dl_disk.specs.State.{DiskState}
 use Rattle.dl_disk.specs.declared.disk.Disk.{Ghosts as DiskSays}
 use Rattle.dl_kinds.specs.declared.claims.TheConstants.{MAX_MIRRORS}
 use Rattle.dl_kinds.specs.declared.gid.Gid.{Gid}
@@ -24,16 +27,34 @@ use Rattle.machine_core.specs.declared.events.Event.{Event}
 use Rattle.machine_core.specs.declared.events.Event.TheVariants as event
 use Rattle.metainfo.specs.Info.{info_of}
 use Rattle.metainfo.specs.declared.meta.Meta.{Meta}
-use Rattle.option_set.specs.Values.{OptionValues}
+use Rattle.option_set.specs.Values.{OptionValues, text_of_word}
+use Rattle.option_set.specs.declared.kinds.Word.TheVariants.{Dir}
+use Rattle.run_lifecycle.specs.Promises.{IsRightPiece}
 use Rattle.run_lifecycle.specs.declared.ended.Ended.{Ended}
 use Rattle.run_report.specs.declared.endings.RunEnding.TheVariants.{Done, NoMemory, Unfinished}
 use Rattle.served_runs.specs.Served.{AllServe}
+use Rattle.std.specs.Option.{unwrap_or}
 
 -- ---- what is given
 
 -- the options of the download that the line adds
 abbrev pub own_options : CommandLine → OptionValues
 own_options line = with_settings line.globals line.settings
+
+-- what the store of a metainfo file's download with these options is to keep
+abbrev pub want_by : OptionValues → Meta → Want
+want_by options meta = record {
+  base = meta.name;
+  dir = unwrap_or (text_of_word options Dir) [];
+  layout = meta.layout;
+  plan = meta.plan;
+  digests = meta.digests;
+  info_hash = Some meta.info_hash;
+}
+
+-- no change of the disk is pending: a crash leaves its files as they read
+abbrev pub IsStill : DiskState → Type 0
+IsStill disk = (image : Files) → disk.may_leave image → IsSame disk.seen image
 
 -- a count of faults that didn't rise, though it could
 abbrev pub HadNoFault : ℕ → ℕ → Type 0
@@ -107,10 +128,19 @@ pub record EndsCutShort {D L K : Type 0} (limited : Bool) (links : LinkSays L) (
 abbrev pub IsDone : {D : Type 0} → Ended D → Type 0
 IsDone {D} ended = (ended.ending ≡ Done) × (gid : Gid) × Contains ended.journal.events.items (event.Ended gid Complete)
 
+-- It is done; and where nothing was pending on the disk that was given, each piece that these options choose is whole, with its
+-- digest, in the files that the disk reads in the end.
+pub record IsDoneWhole {D : Type 0} (says : DiskSays D) (disk : D) (ended : Ended D) (options : OptionValues) (meta : Meta)
+    : Type 0 where
+  pub done : IsDone ended
+  pub stands : IsStill (says.state disk) → (piece : ℕ) → IsChosenPiece meta options piece
+      → IsRightPiece (want_by options meta) (says.state ended.disk).seen piece
+
 module _ {D L K O : Type 0} (limited : Bool) (says : DiskSays D) (links : LinkSays L) (sinks : SinkSays O)
     (words : List (List ℕ)) (disk : D) (olds : List (L × K)) (out : O) (ended : Ended D) (news : List (L × K)) (out' : O) where
   abbrev pub CompletesServed : Type 0
   CompletesServed =
       (line : CommandLine) (meta : Meta) (uris : List (List ℕ)) (mirror : ℕ) (payload : List ℕ)
       → IsServedWhole says links sinks words disk olds out ended news out' line meta uris mirror payload
-      → IsDone ended ⊎ (ended.ending ≡ NoMemory) ⊎ EndsCutShort limited links olds ended news
+      → IsDoneWhole says disk ended (own_options line) meta ⊎ (ended.ending ≡ NoMemory)
+      ⊎ EndsCutShort limited links olds ended news

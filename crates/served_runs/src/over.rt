@@ -14,8 +14,10 @@ use engine_turns::turns_tell_runs;
 use link_source::Links;
 use machine_core::downloads_stay;
 use run_lifecycle::{
-    losses_come_of_workers, runs_end_as_shown, runs_show_their_disk, workers_show_their_link,
+    disks_keep_runs, losses_come_of_workers, runs_end_as_shown, runs_show_their_disk,
+    workers_show_their_link,
 };
+use stored_run::runs_follow;
 
 /// What the history of a run over links tells of a claim's loss or length came over the link of the claim's worker.
 pub fn runs_show_their_links<D: Disk, L: Links, K, O: Sink>()
@@ -35,7 +37,7 @@ pub fn runs_spare_serving_mirrors<D: Disk, L: Links, K, O: Sink>()
 }
 
 /// What is served comes: a run whose links lead to each file of which a piece of a metainfo file's payload that is to come has bytes is
-/// done, unless it was cut short.
+/// done, unless it was cut short, and such pieces stand on its disk.
 pub fn runs_complete_what_is_served<D: Disk, L: Links, K, O: Sink>()
     ensures { RunsCompleteServed K D.Disk O.Sink L.Links }
 {
@@ -45,8 +47,10 @@ pub fn runs_complete_what_is_served<D: Disk, L: Links, K, O: Sink>()
     finished_runs_are_done::<D, O>();
     lone_downloads_end_well();
     lines_are_one();
+    disks_keep_runs::<D>();
     downloads_stay();
     runs_end_as_shown::<D, O>();
+    runs_follow();
     turns_tell_runs();
 }
 

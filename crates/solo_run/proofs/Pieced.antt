@@ -5,7 +5,7 @@ use Rattle.blameless_mirrors.proofs.Wanting.{wanted_chosen}
 use Rattle.blameless_mirrors.specs.Blameless.{IsListedAlone}
 use Rattle.blameless_mirrors.specs.Chosen.{IsChosenPiece}
 use Rattle.blameless_mirrors.specs.Lone.{IsLoneListed, LacksControlFirst, LoneAreAlone}
-use Rattle.served_runs.specs.Completes.{EndsCutShort, IsDone, NamesPayload, own_options}
+use Rattle.served_runs.specs.Completes.{EndsCutShort, IsDone, IsDoneWhole, NamesPayload, own_options}
 use Rattle.served_runs.specs.Ends.{EndsUnfailed, FinishedAreDone, OnlyCompletes}
 use Rattle.served_runs.specs.Over.{RanOverLinks}
 use Rattle.served_runs.specs.OverLaws.{RunsShowLinks}
@@ -13,7 +13,9 @@ use Rattle.served_runs.proofs.Endings.{ends_here, faultless, some_turns}
 use Rattle.served_runs.proofs.FileCalls.{CallOfFile, call_of_file, has_want, want_of}
 use Rattle.served_runs.proofs.LineOptions.{LineUsual, line_usual}
 use Rattle.served_runs.proofs.OneAdded.{RanOne, comes, no_failed_link, ran_one}
+use Rattle.served_runs.proofs.Standing.{done_whole}
 use Rattle.served_runs.proofs.ToldRuns.{read_first, told_run}
+use Rattle.stored_run.specs.RunFollows.{RunFollows}
 use Rattle.command_line.specs.LineLaws.{LinesAreOne}
 use Rattle.command_line.specs.declared.line.CommandLine.{CommandLine}
 use Rattle.command_line.specs.declared.source.Source.{Source}
@@ -38,6 +40,7 @@ use Rattle.mark_costs.specs.Served.{IsServedPiece, ServedOnlyComplete}
 use Rattle.resume_core.specs.Wants.{control_name, payload_name}
 use Rattle.run_lifecycle.specs.Finishes.{Ran}
 use Rattle.run_lifecycle.specs.FrameLaws.{RunsEndAsShown, RunsShowDisk}
+use Rattle.run_lifecycle.specs.Promises.{CompletedAreRight}
 use Rattle.run_lifecycle.specs.Stops.{all_turns}
 use Rattle.run_lifecycle.specs.declared.ended.Ended.{Ended}
 use Rattle.run_lifecycle.proofs.Ran as ran_facts
@@ -58,6 +61,8 @@ pub record Laws {D O L : Type 0} (K : Type 0) (says : DiskSays D) (sinks : SinkS
   pub alone : LoneAreAlone
   pub shown : RunsEndAsShown says sinks
   pub shows : RunsShowLinks K says sinks links
+  pub right : CompletedAreRight says.state
+  pub follows : RunFollows
 
 module _ {D O L K : Type 0} {says : DiskSays D} {sinks : SinkSays O} {links : LinkSays L} {words : List (List ℕ)}
     {gids doors : ℕ} {disk : D} {old : L × K} {out : O} {ended : Ended D} {new : L × K} {out' : O} where
@@ -98,6 +103,10 @@ module _ {D O L K : Type 0} {says : DiskSays D} {sinks : SinkSays O} {links : Li
         (subst (λ (s : Source). IsCallOf (says.state disk).seen s line.settings ran.begins.call) names.named
         (ran.begins.call_is tells))
 
+    abbrev Comes : Type 0
+    Comes = IsDoneWhole says disk ended (own_options named) meta ⊎ (ended.ending ≡ NoMemory)
+        ⊎ EndsCutShort true links (old ∷ []) ended (new ∷ [])
+
     -- ---- its download
 
     module _ (one : RanOne it (Listed meta uris)) where
@@ -123,8 +132,11 @@ module _ {D O L K : Type 0} {says : DiskSays D} {sinks : SinkSays O} {links : Li
       download_is : listed.download ≡ one.download
       download_is = let both : Some listed.download ≡ Some one.download = sym listed.added ∙ one.there in cc
 
+      own_are : one.download.options ≡ own_options named
+      own_are = one.options ∙ ap own_options (sym line_is)
+
       options_are : listed.download.options ≡ own_options named
-      options_are = ap (λ (d : Download). d.options) download_is ∙ (one.options ∙ ap own_options (sym line_is))
+      options_are = ap (λ (d : Download). d.options) download_is ∙ own_are
 
       subject_is : listed.download.subject ≡ Listed meta uris
       subject_is = ap (λ (d : Download). d.subject) download_is ∙ one.subject_is
@@ -167,11 +179,14 @@ module _ {D O L K : Type 0} {says : DiskSays D} {sinks : SinkSays O} {links : Li
           gid)
           one.only lacks)
 
-      done : IsDone ended ⊎ (ended.ending ≡ NoMemory) ⊎ EndsCutShort true links (old ∷ []) ended (new ∷ [])
-      done = comes it laws.shown is.well (Listed meta uris) laws.done one ends.0 ends.1
+      comes_whole : Comes
+      comes_whole = ⊎_elim
+          (λ (done : IsDone ended). inl (done_whole laws.right laws.follows ran tells one.download meta uris one.there
+          one.subject_is listed.alone (is.fresh (payload_name want)) (own_options named) own_are ends.0 done))
+          (λ other. inr other) (comes it laws.shown is.well (Listed meta uris) laws.done one ends.0 ends.1)
 
-    completes_here : IsDone ended ⊎ (ended.ending ≡ NoMemory) ⊎ EndsCutShort true links (old ∷ []) ended (new ∷ [])
-    completes_here = ⊎_elim (λ (one : RanOne it (Listed meta uris)). done one)
+    completes_here : Comes
+    completes_here = ⊎_elim (λ (one : RanOne it (Listed meta uris)). comes_whole one)
         (λ (starved : ended.ending ≡ NoMemory). inr (inl starved))
         (ran_one laws.append laws.stay it asked_call.its asked_call.is (Listed meta uris) asked_call.adds usual
         (omega arith))

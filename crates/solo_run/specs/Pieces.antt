@@ -1,7 +1,7 @@
 -- What a run over one link comes to, where each piece of a payload has a mirror in memory.
 use Rattle.std.specs.Prelude.{◌≡◌, ◌⊎◌, ◌≤◌, ◌+◌, ◌||◌, ◌++◌, ℕ, true, IsTrue, codes, None, Some, List, [], ◌∷◌, Result, length, slice_get}
 use Rattle.blameless_mirrors.specs.Chosen.{IsChosenPiece}
-use Rattle.served_runs.specs.Completes.{EndsCutShort, HadNoFaults, IsDone, NamesPayload, own_options}
+use Rattle.served_runs.specs.Completes.{EndsCutShort, HadNoFaults, IsDoneWhole, NamesPayload, own_options}
 use Rattle.served_runs.specs.Over.{RanOverLinks}
 use Rattle.command_line.specs.declared.line.CommandLine.{CommandLine}
 use Rattle.conn_worker.specs.Works.{IsWithinTurns, RunSight, Worked}
@@ -47,12 +47,13 @@ module _ {D L K O : Type 0} (says : DiskSays D) (links : LinkSays L) (sinks : Si
 
   -- ---- what comes
 
-  -- the run is done and its download complete, unless memory was wanting, or it is unfinished since
-  -- its worker was cut short
+  -- the run is done, its download complete, and what its options choose of it stands on the disk,
+  -- unless memory was wanting, or it is unfinished since its worker was cut short
   abbrev pub CompletesPieces : Type 0
   CompletesPieces =
       (line : CommandLine) (meta : Meta) (uris : List (List ℕ)) → IsServedByPieces line meta uris
-      → IsDone ended ⊎ (ended.ending ≡ NoMemory) ⊎ EndsCutShort true links olds ended news
+      → IsDoneWhole says disk ended (own_options line) meta ⊎ (ended.ending ≡ NoMemory)
+      ⊎ EndsCutShort true links olds ended news
 
 -- ---- runs over one link
 

@@ -11,14 +11,14 @@ use engine_turns::{active_downloads_are_going, turns_tell_runs};
 use link_source::Links;
 use machine_core::{downloads_are_legal, downloads_stay};
 use mark_costs::served_downloads_only_complete;
-use run_lifecycle::{runs_end_as_shown, runs_show_their_disk};
+use run_lifecycle::{disks_keep_runs, runs_end_as_shown, runs_show_their_disk};
 use served_runs::{finished_runs_are_done, runs_show_their_links};
 use stored_run::runs_follow;
 use work_bounds::{claims_are_bounded, histories_are_bounded, pieces_are_cleared_seldom};
 use worker_turns::solo_runs_find_offers;
 
 /// What is served piece by piece comes: a run over one link is done, if each piece that its options choose has a mirror
-/// there that holds it, with fewer bad answers left than tries, unless it was cut short.
+/// there that holds it, with fewer bad answers left than tries, unless it was cut short; and such pieces stand on its disk.
 pub(crate) fn runs_complete_served_pieces<D: Disk, L: Links, K, O: Sink>()
     ensures { RunsCompletePieces K D.Disk O.Sink L.Links }
 {
@@ -27,8 +27,10 @@ pub(crate) fn runs_complete_served_pieces<D: Disk, L: Links, K, O: Sink>()
     finished_runs_are_done::<D, O>();
     lone_downloads_end_well();
     lines_are_one();
+    disks_keep_runs::<D>();
     downloads_stay();
     runs_end_as_shown::<D, O>();
+    runs_follow();
     runs_show_their_disk::<D, O>();
     turns_tell_runs();
 }

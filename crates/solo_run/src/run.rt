@@ -71,7 +71,8 @@ pub fn run_alone<D: Disk, L: Links, K: Clock, A, O: Sink>(
     // A mirror that serves a payload over the first link is held to account for faults of the link alone.
     ensures marks { IsTrue L.tells → SparesServing D.Disk L.Links (map string_bytes words.now) gids
         0 (take 1 links.items) (take 1 result.links.items) (ended_of result) }
-    // What is served comes: a run whose link leads to all of a metainfo file's payload is done, unless it was cut short.
+    // What is served comes: a run whose link leads to all of a metainfo file's payload is done, and its pieces stand on the
+    // disk, unless it was cut short.
     ensures completes { IsTrue D.tells → IsTrue L.tells → CompletesServed true D.Disk L.Links
         O.Sink (map string_bytes words.now) disk (take 1 links.items) out.old (ended_of result)
         (take 1 result.links.items) out.new }

@@ -13,4 +13,6 @@ returns g c words gids doors disk old out ended new out' is =
       alone = c.lone_downloads_end_well.ensures.alone;
       shown = c.runs_end_as_shown.ensures;
       shows = c.runs_show_their_links.ensures;
+      right = c.disks_keep_runs.ensures.complete;
+      follows = c.runs_follow.ensures;
     }) is
