@@ -2,7 +2,7 @@
 import os
 import re
 
-from cases.readout import CLEARED, shown_on_a_terminal
+from cases.readout import CLEARED, joined, shown_on_a_terminal
 from lib.faults import Faults
 from lib.payloads import MIB, noise
 from lib.rooms import case
@@ -251,7 +251,7 @@ def _(room):
     finally:
         os.sched_setaffinity(0, ours)
     want((wrote, status) == (b"pieces 512 right 512 repaired 0 blocks 0\n", 0), f"status {status}, output {wrote!r}")
-    front, *lines = drawn.split(CLEARED)
+    front, *lines = joined(drawn).split(CLEARED)
     want(front == b"", f"it began with {front!r}")
     want(lines and lines[-1] == b"", f"it drew {lines}")
     done = []
@@ -299,7 +299,7 @@ def each_call(room, does):
     want(ended[0] == 0, f"it ended with {ended}")
     # others look for how many processors there are; a folder that can't be looked for is made, and one that can't be made is looked for
     numbers = [it.number for it in faults.notes() if it.path.startswith(faults.folder) and "folder" not in it.does]
-    want(len(numbers) > 40, f"just {len(numbers)} calls of the disk came")
+    want(len(numbers) >= 50, f"just {len(numbers)} calls of the disk came")
     for number in numbers[:: max(1, len(numbers) // 50)]:
         room.clear("own")
         payload.put("own", own)

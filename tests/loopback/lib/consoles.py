@@ -140,10 +140,13 @@ def listens(port):
 
 
 def wait_for(port, started):
-    """Until the console is there."""
+    """Until the console is there. That another program took its port meanwhile counts as late."""
     ends = time.monotonic() + LIMIT
     while not listens(port):
-        want(started.poll() is None, f"the run ended with {started.poll()}")
+        if started.poll() is not None:
+            _, said = started.communicate()
+            want_in_time(b"can't listen" not in (said or b""), f"port {port} was taken")
+            want(False, f"the run ended with {started.returncode}, and said {said!r}")
         want_in_time(time.monotonic() < ends, "nobody listens")
         time.sleep(0.02)
 
