@@ -66,7 +66,7 @@ module _ (S Start Op Answer Entry : RattleType) (g : Ghosts S.Denot Start.Denot 
             ),
         (
           search (sendable, rules) depth 20,
-          (search (crosses, sendable, rules) depth 20, tt),
+          (search (crosses, sendable, rules) depth 20, (search (crosses, sendable, rules) depth 20, tt)),
         ),
       ) in
       recorded_sync (Struct (shape d)) d.D d.to d.to_one (struct_sync (shape d) all)

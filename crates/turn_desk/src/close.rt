@@ -66,6 +66,7 @@ impl<S: Served> TurnDesk<S> {
             table,
             passes: _,
             gates: _,
+            lobby: _,
         } = self;
         let mut closed = table.close_with(seat);
         let Slot { served, last: _ } = closed.take(0);

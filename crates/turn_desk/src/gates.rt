@@ -1,4 +1,4 @@
-// Where chairs sleep until their turns come.
+// Where chairs sleep: until the desk may be free, or until their turns come.
 use std::array;
 use std::sync::Wait;
 use std::sync::atomic::{AtomicU64, Ordering};
@@ -35,5 +35,45 @@ impl Gates {
         let gate = self.gate(ticket);
         gate.fetch_add(1, Ordering::SeqCst);
         gate.wake_all();
+    }
+}
+
+/// Those who have no ticket sleep here until the desk may be free.
+#[derive(Drop)]
+pub struct Lobby {
+    sleepers: AtomicU64,
+    calls: AtomicU64,
+}
+
+impl Lobby {
+    pub fn new() -> Lobby {
+        Lobby {
+            sleepers: AtomicU64::new(0),
+            calls: AtomicU64::new(0),
+        }
+    }
+
+    /// Counts one more as asleep, and tells how often somebody was called until then.
+    pub fn enter(&self) -> u64 {
+        self.sleepers.fetch_add(1, Ordering::SeqCst);
+        self.calls.load(Ordering::SeqCst)
+    }
+
+    /// Sleeps, unless somebody was called since this count was taken.
+    pub fn sleep<R: Wait>(&self, rt: &R, count: u64) {
+        self.calls.park(rt, (count % (1 << 32)) as u32);
+    }
+
+    /// Counts one less as asleep.
+    pub fn leave(&self) {
+        self.sleepers.fetch_sub(1, Ordering::SeqCst);
+    }
+
+    /// Wakes one of those that sleep, if any does.
+    pub fn call(&self) {
+        if self.sleepers.load(Ordering::SeqCst) != 0 {
+            self.calls.fetch_add(1, Ordering::SeqCst);
+            self.calls.wake_one();
+        }
     }
 }

@@ -4,7 +4,7 @@ ghost use Rattle.std.specs.List.{All};
 ghost use Rattle.turn_desk.specs.Passes.{IsPassOf, AreNewPasses};
 ghost use Rattle.turn_desk.specs.Rule.{IsOneState, Opens, MayDeal, Deals, IsDealingAll, DealsAll};
 
-use crate::gates::Gates;
+use crate::gates::{Gates, Lobby};
 use crate::pass::Pass;
 use crate::rule::{Deal, DeskKey, DeskSeat, Slot};
 use crate::served::Served;
@@ -71,11 +71,13 @@ impl<S: Served> TurnDesk<S> {
         match Table::new(alloc, &[taken, taken, u64::from(passes)], slots, &key) {
             Ok((table, seat)) => {
                 let gates = Gates::new();
+                let lobby = Lobby::new();
                 Ok((
                     TurnDesk {
                         table,
                         passes,
                         gates,
+                        lobby,
                     },
                     seat,
                 ))

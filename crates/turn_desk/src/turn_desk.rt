@@ -3,7 +3,7 @@ ghost use Rattle.std.specs.Prelude.{◌≡◌, ◌<◌};
 ghost use Rattle.turn_desk.specs.Passes.{TurnDeskView};
 ghost use Rattle.turn_desk.specs.Rule.{desk_of, TakesTurn, IsIdle, IsWaiting, Waits, HasTurn, IsServing, HasServed, Looks};
 
-use crate::gates::Gates;
+use crate::gates::{Gates, Lobby};
 use crate::rule::{DeskKey, DeskRule, DeskSeat, Draw, GiveBack, LastTurn, Look, SeatView, Slot};
 use crate::served::Served;
 use atomic_table::Table;
@@ -16,6 +16,9 @@ use std::sync::Wait;
 /// How often a chair looks for its turn before it sleeps.
 const LOOKS: u32 = 100;
 
+/// How often a chair sleeps in the lobby before it draws a ticket though the desk is taken.
+const NAPS: u32 = 8;
+
 /// A state that several threads take turns of.
 pub struct TurnDesk<S: Served> {
     pub(crate) table: Table<
@@ -27,6 +30,7 @@ pub struct TurnDesk<S: Served> {
     >,
     pub(crate) passes: u32,
     pub(crate) gates: Gates,
+    pub(crate) lobby: Lobby,
 }
 
 impl<S: Served> Model for TurnDesk<S> {
@@ -39,6 +43,42 @@ impl<S: Served> Model for TurnDesk<S> {
 }
 
 impl<S: Served> TurnDesk<S> {
+    // Whether each ticket that was drawn was served.
+    fn is_free(&self) -> bool {
+        self.table.shared.peek(0) == self.table.shared.peek(1)
+    }
+
+    // Whether the desk was free while it looked.
+    fn finds_free(&self) -> bool {
+        for _ in 0..LOOKS {
+            if self.is_free() {
+                return true;
+            }
+            hint::spin_loop();
+        }
+        false
+    }
+
+    // Sleeps until somebody is called, unless the desk is free.
+    fn nap<R: Wait>(&self, rt: &R) {
+        let count = self.lobby.enter();
+        if !self.is_free() {
+            self.lobby.sleep(rt, count);
+        }
+        self.lobby.leave();
+    }
+
+    // Waits until the desk is free, but not for ever. Whoever draws a ticket is waited for, also while it wakes up: so
+    // none is drawn as long as those who are awake take turns, and each chair comes to its turn all the same.
+    fn linger<R: Wait>(&self, rt: &R) {
+        for _ in 0..NAPS {
+            if self.finds_free() {
+                return;
+            }
+            self.nap(rt);
+        }
+    }
+
     fn draw(&self, seat: &mut DeskSeat<S>) -> u64
         requires table { seat.old.table_id ≡ self.now.desk_id }
         requires idle { IsIdle self.now.given seat.old.me }
@@ -136,10 +176,12 @@ impl<S: Served> TurnDesk<S> {
         answer
     }
 
-    // Wakes the holder of the ticket that is served now, where it was drawn and may sleep.
+    // Wakes the holder of the ticket that is served now, or somebody in the lobby, where it wasn't drawn yet.
     fn call(&self, ticket: u64) {
         if self.table.shared.peek(0) != ticket {
             self.gates.open(ticket);
+        } else {
+            self.lobby.call();
         }
     }
 
@@ -151,6 +193,7 @@ impl<S: Served> TurnDesk<S> {
         ensures idle { IsIdle self.now.given seat.new.me }
         ensures took { TakesTurn S.relates self.now.given seat.old.me op result seat.new.me }
     {
+        self.linger(rt);
         let ticket = self.draw(seat);
         self.wait(rt, seat, ticket);
         let answer = self.serve_at(seat, op);
