@@ -303,7 +303,8 @@ def asked_of(text):
 
 def reply_told(asked, data):
     status, minor, fields, used = head(data)
-    goes_on = minor == 1 and all(value.lower() == b"keep-alive" for value in values(fields, "connection"))
+    options = [it.strip(b" \t").lower() for value in values(fields, "connection") for it in value.split(b",")]
+    goes_on = minor == 1 and b"close" not in options
     told = f"{verdict(status, fields, *asked_of(asked))}; {used} bytes, {'goes on' if goes_on else 'closes'}"
     places = values(fields, "location")
     try:

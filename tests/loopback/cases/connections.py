@@ -48,6 +48,8 @@ def _(room):
     for name, said, count in (
         ("kept by the version", part, 1),
         ("kept by the word", lambda asked: part(asked, b"Connection: Keep-Alive"), 1),
+        ("kept beside other options", lambda asked: part(asked, b"Connection: Upgrade, Keep-Alive"), 1),
+        ("kept beside another option alone", lambda asked: part(asked, b"Connection: upgrade"), 1),
         ("closed by the word", lambda asked: part(asked, b"Connection: close"), 3),
         ("closed beside another option", lambda asked: part(asked, b"Connection: keep-alive, Close"), 3),
         ("closed by the version", in_old_version, 3),
