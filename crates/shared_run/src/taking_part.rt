@@ -108,7 +108,7 @@ pub(crate) fn serve_at<R: Wait, D: Disk, A: Doors, K: Clock>(
     let Some(pass) = keeper.pass.take() else {
         unreachable!()
     };
-    let mut chair = desk.chair(rt, pass);
+    let mut chair = desk.pressing_chair(rt, pass);
     let transcript = serve(
         rt,
         alloc,

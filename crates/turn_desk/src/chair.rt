@@ -5,7 +5,7 @@ ghost use Rattle.turn_desk.specs.Passes.{ChairView, IsPassOf, sight_at};
 use crate::desk::Desk;
 use crate::pass::Pass;
 use crate::served::Served;
-use crate::turn_desk::TurnDesk;
+use crate::turn_desk::{NAPS, TurnDesk};
 use std::marker::Model;
 use std::sync::Wait;
 
@@ -14,6 +14,8 @@ pub struct Chair<'a, S: Served, R: Wait> {
     desk: &'a TurnDesk<S>,
     rt: &'a R,
     pass: Pass<S>,
+    // So often it sleeps before it draws a ticket.
+    naps: u32,
 }
 
 impl<'a, S: Served, R: Wait> Model for Chair<'a, S, R> {
@@ -35,6 +37,22 @@ impl<S: Served> TurnDesk<S> {
             desk: self,
             rt,
             pass,
+            naps: NAPS,
+        }
+    }
+
+    /// The same for one whose turns are few and short: while others have turns, it draws its ticket all the same, and so comes
+    /// next behind those that drew theirs.
+    pub fn pressing_chair<'a, R: Wait>(&'a self, rt: &'a R, pass: Pass<S>) -> Chair<'a, S, R>
+        requires of_desk { IsPassOf self.now pass }
+        ensures pass { result.pass ≡ pass }
+        ensures desk { result.desk ≡ self.now }
+    {
+        Chair {
+            desk: self,
+            rt,
+            pass,
+            naps: 0,
         }
     }
 }
@@ -49,6 +67,7 @@ impl<'a, S: Served, R: Wait> Chair<'a, S, R> {
             desk: _,
             rt: _,
             pass,
+            naps: _,
         } = self;
         pass
     }
@@ -62,6 +81,7 @@ impl<'a, S: Served, R: Wait> Desk<S> for Chair<'a, S, R> {
     fn turn(&mut self, op: S::Op) -> S::Answer {
         let desk = self.desk;
         let rt = self.rt;
-        desk.take_turn(rt, &mut self.pass.seat, op)
+        let naps = self.naps;
+        desk.take_turn(rt, &mut self.pass.seat, naps, op)
     }
 }

@@ -16,8 +16,8 @@ use std::sync::Wait;
 /// How often a chair looks for its turn before it sleeps.
 const LOOKS: u32 = 100;
 
-/// How often a chair sleeps in the lobby before it draws a ticket though the desk is taken.
-const NAPS: u32 = 8;
+/// How often a patient chair sleeps in the lobby before it draws a ticket though the desk is taken.
+pub(crate) const NAPS: u32 = 8;
 
 /// A state that several threads take turns of.
 pub struct TurnDesk<S: Served> {
@@ -68,10 +68,10 @@ impl<S: Served> TurnDesk<S> {
         self.lobby.leave();
     }
 
-    // Waits until the desk is free, but not for ever. Whoever draws a ticket is waited for, also while it wakes up: so
-    // none is drawn as long as those who are awake take turns, and each chair comes to its turn all the same.
-    fn linger<R: Wait>(&self, rt: &R) {
-        for _ in 0..NAPS {
+    // Waits until the desk is free, but not longer than for so many sleeps. Whoever draws a ticket is waited for, also while
+    // it wakes up: so none is drawn as long as those who are awake take turns, and each chair comes to its turn all the same.
+    fn linger<R: Wait>(&self, rt: &R, naps: u32) {
+        for _ in 0..naps {
             if self.finds_free() {
                 return;
             }
@@ -185,7 +185,14 @@ impl<S: Served> TurnDesk<S> {
         }
     }
 
-    pub(crate) fn take_turn<R: Wait>(&self, rt: &R, seat: &mut DeskSeat<S>, op: S::Op) -> S::Answer
+    // A turn behind at most so many sleeps without a ticket.
+    pub(crate) fn take_turn<R: Wait>(
+        &self,
+        rt: &R,
+        seat: &mut DeskSeat<S>,
+        naps: u32,
+        op: S::Op,
+    ) -> S::Answer
         requires table { seat.old.table_id ≡ self.now.desk_id }
         requires lawful { S.is_lawful op }
         requires idle { IsIdle self.now.given seat.old.me }
@@ -193,7 +200,7 @@ impl<S: Served> TurnDesk<S> {
         ensures idle { IsIdle self.now.given seat.new.me }
         ensures took { TakesTurn S.relates self.now.given seat.old.me op result seat.new.me }
     {
-        self.linger(rt);
+        self.linger(rt, naps);
         let ticket = self.draw(seat);
         self.wait(rt, seat, ticket);
         let answer = self.serve_at(seat, op);

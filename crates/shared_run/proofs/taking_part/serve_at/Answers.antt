@@ -4,9 +4,9 @@ use Rattle.shared_run.proofs.taking_part.serve_at.Goals as goal
 
 pub returns : goal.returns
 returns g c =
-    let both = at_desk c.args.desk.now c.chair-chair.result c.serve-transcript.new.desk c.in-Some.pass c.leave.result
+    let both = at_desk c.args.desk.now c.pressing_chair-chair.result c.serve-transcript.new.desk c.in-Some.pass c.leave.result
     (c.args.keeper.now.edge, c.args.keeper.now.clock) (c.serve-transcript.new.door, c.serve-transcript.new.clock)
-    c.chair-chair.ensures.pass c.chair-chair.ensures.desk c.serve-transcript.ensures.desk_id c.leave.ensures.pass
+    c.pressing_chair-chair.ensures.pass c.pressing_chair-chair.ensures.desk c.serve-transcript.ensures.desk_id c.leave.ensures.pass
     c.leave.ensures.of_desk
     (record { its = c.serve-transcript.ensures.served; asked = c.serve-transcript.ensures.moments }) in
     record {
