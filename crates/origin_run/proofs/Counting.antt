@@ -99,7 +99,7 @@ module _ {D : Type 0} where
 
 one_failure : (ask : Ask) (told : Told) → look_failed ask told + read_failed ask told ≡ fault_told told
 one_failure (Length name) told = omega arith
-one_failure (Read name at len) told = omega arith
+one_failure (Read name at room) told = omega arith
 
 rose_by_one : (told : Told) (before after : ℕ) → CausesFault told before after → RoseBy (fault_told told) before after
 rose_by_one (Fault count) before after cause = cause.0

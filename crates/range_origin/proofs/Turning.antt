@@ -36,14 +36,14 @@ module _ {D : Type 0} (says : DiskSays D) where
         reads_are = omega (arith, read);
       }
 
-  pub took_read : OneTurnGoes (AsksFolder says) → (s s' : ShelfSight D) (name : List ℕ) (at len : ℕ) (told : Told)
-      → Took (AsksFolder says) s (Read name at len) told s' → TookTurns says s 0 (fault_told told) s'
-  took_read one s s' name at len told took =
+  pub took_read : OneTurnGoes (AsksFolder says) → (s s' : ShelfSight D) (name : List ℕ) (at : ℕ) (room : List ℕ) (told : Told)
+      → Took (AsksFolder says) s (Read name at room) told s' → TookTurns says s 0 (fault_told told) s'
+  took_read one s s' name at room told took =
       let look : look_failed took.turn.op took.turn.answer ≡ 0 = λ i. look_failed (took.op_is i) (took.answer_is i) in
       let read : read_failed took.turn.op took.turn.answer ≡ fault_told told = λ i. read_failed (took.op_is i) (took.answer_is i) in
       record {
         mine = took.turn ∷ [];
-        went = one s s' (Read name at len) told took;
+        went = one s s' (Read name at room) told took;
         looks_are = omega (arith, look);
         reads_are = omega (arith, read);
       }

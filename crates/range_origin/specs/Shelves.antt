@@ -22,7 +22,7 @@ shelf_name dir name = root_of dir ++ name
 
 abbrev pub place_asked : List ℕ → Ask → List ℕ
 place_asked dir (AskLength name) = shelf_name dir name
-place_asked dir (Read name at len) = shelf_name dir name
+place_asked dir (Read name at room) = shelf_name dir name
 
 -- ---- answers
 
@@ -30,8 +30,8 @@ place_asked dir (Read name at len) = shelf_name dir name
 abbrev pub FitsAsk : Ask → Told → Type 0
 FitsAsk (AskLength name) (Length len) = Unit {0}
 FitsAsk (AskLength name) (Bytes bytes) = ⊥
-FitsAsk (Read name at len) (Length told) = told ≡ None
-FitsAsk (Read name at len) (Bytes bytes) = length bytes ≡ len
+FitsAsk (Read name at room) (Length told) = told ≡ None
+FitsAsk (Read name at room) (Bytes bytes) = length bytes ≡ length room
 FitsAsk ask (Fault count) = Unit {0}
 FitsAsk ask NoMemory = Unit {0}
 
@@ -44,8 +44,8 @@ LacksSlice (Some bytes) at len = length bytes < at + len
 abbrev pub IsToldOf : Option (List ℕ) → Ask → Told → Type 0
 IsToldOf file (AskLength name) (Length len) = len ≡ option_map length file
 IsToldOf file (AskLength name) (Bytes bytes) = ⊥
-IsToldOf file (Read name at len) (Length told) = LacksSlice file at len
-IsToldOf file (Read name at len) (Bytes bytes) = ReadsAt file at bytes
+IsToldOf file (Read name at room) (Length told) = LacksSlice file at (length room)
+IsToldOf file (Read name at room) (Bytes bytes) = ReadsAt file at bytes
 IsToldOf file ask (Fault count) = Unit {0}
 IsToldOf file ask NoMemory = Unit {0}
 

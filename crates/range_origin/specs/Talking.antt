@@ -33,12 +33,12 @@ fault_told other = 0
 -- whether the disk failed where the length of a file was looked up: once or not
 abbrev pub look_failed : Ask → Told → ℕ
 look_failed (AskLength name) told = fault_told told
-look_failed (Read name at len) told = 0
+look_failed (Read name at room) told = 0
 
 -- .. where bytes of a file were read
 abbrev pub read_failed : Ask → Told → ℕ
 read_failed (AskLength name) told = 0
-read_failed (Read name at len) told = fault_told told
+read_failed (Read name at room) told = fault_told told
 
 -- in how many of the turns the look for a length met a fault
 abbrev pub looks_failed : {D : Type 0} → List (ShelfTurn D) → ℕ

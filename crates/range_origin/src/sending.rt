@@ -1,5 +1,5 @@
 // What is sent in answer to a request.
-ghost use Rattle.std.specs.Prelude.{◌≡◌, ◌<◌, ◌≤◌, ◌+◌, ◌^◌, true, IsTrue, Some, length};
+ghost use Rattle.std.specs.Prelude.{◌≡◌, ◌<◌, ◌≤◌, ◌+◌, ◌^◌, true, IfOk, IsTrue, Some, length};
 ghost use Rattle.origin_replies.specs.Aims.{reply_by_length};
 ghost use Rattle.dl_disk.specs.Files.{file_bytes};
 ghost use Rattle.dl_kinds.specs.Lists.{part_at};
@@ -10,7 +10,7 @@ ghost use Rattle.range_origin.specs.Talking.{HasSent, SendsText, files_below, or
 use crate::ends::{VisitEnd, visit_end_by};
 use crate::shelf::{Ask, Shelf, Told};
 use dl_disk::Disk;
-use dl_kinds::{Blob, Text};
+use dl_kinds::{Blob, NoMemory, Text};
 use door_source::{Doors, newest_connection_is_one};
 use http_heads::AskHead;
 use origin_replies::{
@@ -66,20 +66,36 @@ fn piece_by(told: Told) -> Piece
     }
 }
 
-// Reads some bytes of a file in a turn.
+// Room for so many bytes: the one that is there, where it has them.
+fn room_for(alloc: Global, room: Option<Blob>, len: u32) -> Result<Blob, NoMemory>
+    ensures { IfOk result (λ room. length room ≡ len) }
+{
+    if let Some(room) = room {
+        if room.bytes().len() == len as usize {
+            return Ok(room);
+        }
+    }
+    Ok(Blob::wrap(vec![in alloc; 0; len as usize]?))
+}
+
+// Reads some bytes of a file in a turn, into this room, if there is one that has so many.
 fn read_piece<D: Disk, T: Desk<Shelf<D>>>(
     alloc: Global,
     desk: &mut T,
     name: &Text,
     at: u64,
     len: u32,
+    room: Option<Blob>,
 ) -> Piece
     ensures desk_id { T.desk_id desk.new ≡ T.desk_id desk.old }
     ensures read { HasReadPiece D.Disk name.now at len (T.sight desk.old) (T.sight desk.new) result }
 {
     turns_add_up::<Shelf<D>>();
+    let Ok(room) = room_for(alloc, room, len) else {
+        return Piece::Ended(VisitEnd::Starved);
+    };
     match name.copy(alloc) {
-        Ok(name) => piece_by(desk.turn(Ask::Read { name, at, len })),
+        Ok(name) => piece_by(desk.turn(Ask::Read { name, at, room })),
         Err(_) => Piece::Ended(VisitEnd::Starved),
     }
 }
@@ -96,7 +112,7 @@ fn look_up<D: Disk, T: Desk<Shelf<D>>>(alloc: Global, desk: &mut T, name: &Text)
     }
 }
 
-// Reads some bytes of a file, and sends them.
+// Reads some bytes of a file, and sends them. The room that they took is left for the next ones.
 fn send_piece<D: Disk, A: Doors, T: Desk<Shelf<D>>>(
     alloc: Global,
     desk: &mut T,
@@ -104,6 +120,7 @@ fn send_piece<D: Disk, A: Doors, T: Desk<Shelf<D>>>(
     name: &Text,
     at: u64,
     len: u32,
+    room: &mut Option<Blob>,
 ) -> Option<VisitEnd>
     requires some { 0 < len }
     requires held { IsTrue D.tells
@@ -115,8 +132,12 @@ fn send_piece<D: Disk, A: Doors, T: Desk<Shelf<D>>>(
         (part_at (file_bytes (files_below D.Disk (T.sight desk.old).given name.now)) at len) 0
         result (origin_at desk.old door.old) (origin_at desk.new door.new) }
 {
-    match read_piece(alloc, desk, name, at, len) {
-        Piece::Read(bytes) => send(door, bytes.bytes()),
+    match read_piece(alloc, desk, name, at, len, room.take()) {
+        Piece::Read(bytes) => {
+            let end = send(door, bytes.bytes());
+            *room = Some(bytes);
+            end
+        }
         Piece::Ended(end) => Some(end),
     }
 }
@@ -142,9 +163,10 @@ fn send_body<D: Disk, A: Doors, T: Desk<Shelf<D>>>(
 {
     turns_add_up::<Shelf<D>>();
     let mut done = 0;
+    let mut room = None;
     while done < len {
         let count = (len - done).min(PIECE_BYTES) as u32;
-        if let Some(end) = send_piece(alloc, desk, door, name, first + done, count) {
+        if let Some(end) = send_piece(alloc, desk, door, name, first + done, count, &mut room) {
             return Some(end);
         }
         done += count as u64;

@@ -14,8 +14,8 @@ use turn_desk::Served;
 pub enum Ask {
     /// The length of a file.
     Length { name: Text },
-    /// So many bytes of a file, from the byte at `at` on.
-    Read { name: Text, at: u64, len: u32 },
+    /// As many bytes of a file as the room takes, from the byte at `at` on. They are given in that room.
+    Read { name: Text, at: u64, room: Blob },
 }
 
 /// What it answers.
@@ -78,13 +78,11 @@ fn length_at<D: Disk>(disk: &mut D, place: &str) -> Told
 }
 
 // Some bytes of the file of this name on the disk.
-fn bytes_at<D: Disk>(alloc: Global, disk: &mut D, place: &str, at: u64, len: u32) -> Told
-    ensures { (name : List ℕ) → HasToldOf D.Disk (Read name at len) place.now
+fn bytes_at<D: Disk>(disk: &mut D, place: &str, at: u64, room: Blob) -> Told
+    ensures { (name : List ℕ) → HasToldOf D.Disk (Read name at room) place.now
         disk.old disk.new result }
 {
-    let Ok(mut bytes) = vec![in alloc; 0; len as usize] else {
-        return Told::NoMemory;
-    };
+    let mut bytes = room.into_vec();
     match disk.read_at(place, at, &mut bytes) {
         Ok(()) => Told::Bytes(Blob::wrap(bytes)),
         Err(error) => told_of_error(disk, error),
@@ -92,24 +90,24 @@ fn bytes_at<D: Disk>(alloc: Global, disk: &mut D, place: &str, at: u64, len: u32
 }
 
 // Whether a file of this length has so many bytes from this place on.
-fn holds(file: Option<u64>, at: u64, len: u32) -> bool
+fn holds(file: Option<u64>, at: u64, len: u64) -> bool
     ensures { result ≡ holds file at len }
 {
     match file {
-        Some(total) => len as u64 <= total && at <= total - len as u64,
+        Some(total) => len <= total && at <= total - len,
         None => false,
     }
 }
 
 // The bytes, where the file holds them.
-fn slice_at<D: Disk>(alloc: Global, disk: &mut D, place: &str, at: u64, len: u32) -> Told
-    ensures { (name : List ℕ) → HasToldOf D.Disk (Read name at len) place.now
+fn slice_at<D: Disk>(disk: &mut D, place: &str, at: u64, room: Blob) -> Told
+    ensures { (name : List ℕ) → HasToldOf D.Disk (Read name at room) place.now
         disk.old disk.new result }
 {
     match disk.len(place) {
         Ok(file) => {
-            if holds(file, at, len) {
-                bytes_at(alloc, disk, place, at, len)
+            if holds(file, at, room.bytes().len() as u64) {
+                bytes_at(disk, place, at, room)
             } else {
                 Told::Length(None)
             }
@@ -118,16 +116,16 @@ fn slice_at<D: Disk>(alloc: Global, disk: &mut D, place: &str, at: u64, len: u32
     }
 }
 
-fn answer<D: Disk>(alloc: Global, disk: &mut D, dir: &str, op: &Ask) -> Told
-    ensures { HasTold D.Disk dir.now op.now disk.old disk.new result }
+fn answer<D: Disk>(alloc: Global, disk: &mut D, dir: &str, op: Ask) -> Told
+    ensures { HasTold D.Disk dir.now op disk.old disk.new result }
 {
     match op {
         Ask::Length { name } => match shelf_name(alloc, dir, name.as_str()) {
             Ok(place) => length_at(disk, &place),
             Err(_) => Told::NoMemory,
         },
-        Ask::Read { name, at, len } => match shelf_name(alloc, dir, name.as_str()) {
-            Ok(place) => slice_at(alloc, disk, &place, *at, *len),
+        Ask::Read { name, at, room } => match shelf_name(alloc, dir, name.as_str()) {
+            Ok(place) => slice_at(disk, &place, at, room),
             Err(_) => Told::NoMemory,
         },
     }
@@ -188,6 +186,6 @@ impl<D: Disk> Served for Shelf<D> {
     ghost stands = { λ s turns. IsShelfAfter D.Disk s.first.value s.dir s.disk turns };
 
     fn serve(&mut self, op: Ask) -> Told {
-        answer(self.alloc, &mut self.disk, self.dir.as_str(), &op)
+        answer(self.alloc, &mut self.disk, self.dir.as_str(), op)
     }
 }
