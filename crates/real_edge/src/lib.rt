@@ -13,6 +13,7 @@ mod links;
 mod opened;
 mod output;
 mod patience;
+mod rests;
 
 pub use clock::StdClock;
 pub use disk::FileDisk;

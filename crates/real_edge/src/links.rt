@@ -4,6 +4,7 @@ ghost use Rattle.link_source.specs.Link.{no_link};
 
 use crate::faults::{NotedFaults, told};
 use crate::patience::{LOOK_MS, MOST_LOOKS, Patience};
+use crate::rests::Rests;
 use dl_kinds::IoErr;
 use fault_notes::{Noted, Notes, Why};
 use link_source::Links;
@@ -24,12 +25,14 @@ const MOST_CONNECTS: usize = 1_000;
 /// The addresses of a host are tried for 60 seconds, all together, and a connection that neither gives nor takes a byte for 60
 /// seconds fails. A mirror that gives one byte in each such span is waited for until the reply is whole. Once the run is over
 /// nothing more is received, and what can't be sent or opened within two seconds fails. How long the system looks for a host's
-/// addresses is its own business.
+/// addresses is its own business. A host whose first reply over a connection was 503 isn't dialled again at once, but behind a rest
+/// of 20 milliseconds, which gets twice as long each time, up to 640.
 #[derive(Drop)]
 pub struct TcpLinks<'a, R: Net<Stream = TcpStream> + Clock + AllocGlobal> {
     rt: &'a R,
     over: &'a AtomicBool,
     stream: Option<TcpStream>,
+    rests: Rests,
     faults: NotedFaults,
 }
 
@@ -40,6 +43,7 @@ impl<'a, R: Net<Stream = TcpStream> + Clock + AllocGlobal> TcpLinks<'a, R> {
             rt,
             over,
             stream: None,
+            rests: Rests::new(rt.alloc()),
             faults: NotedFaults::new(rt.alloc()),
         }
     }
@@ -117,8 +121,10 @@ impl<'a, R: Net<Stream = TcpStream> + Clock + AllocGlobal> Links for TcpLinks<'a
 
     fn dial(&mut self, host: &str, port: u16) -> Result<(), IoErr> {
         self.stream = None;
+        self.rests.rest(self.rt, self.over, host, port);
         let outcome = self.connect(host, port);
         self.stream = Some(self.faults.note(host, outcome)?);
+        self.rests.dialled(host, port);
         Ok(())
     }
 
@@ -137,6 +143,9 @@ impl<'a, R: Net<Stream = TcpStream> + Clock + AllocGlobal> Links for TcpLinks<'a
             Some(stream) => read_some(self.rt, stream, into, self.over),
             None => Err(not_connected()),
         };
+        if let Ok(count) = &outcome {
+            self.rests.received(&into[..*count]);
+        }
         self.faults.note("", told(outcome))
     }
 
@@ -208,7 +217,7 @@ pub(crate) fn write_whole<R: Clock>(
 }
 
 // Nothing came in the span, or a signal broke it off.
-fn is_silent(kind: ErrorKind) -> bool {
+pub(crate) fn is_silent(kind: ErrorKind) -> bool {
     matches!(
         kind,
         ErrorKind::WouldBlock | ErrorKind::TimedOut | ErrorKind::Interrupted

@@ -53,13 +53,15 @@ def _(room):
         want_as_curl(room, url, payload)
 
 
-@case("a mirror that serves one connection, and answers 503 over others", "curl", slow=True)
-def _(room):
-    payload = noise(100 * MIB)
-    with OneEach({"/a.bin": payload}) as mirror:
-        room.torrent(mirror.url(), payload, piece_length=MIB // 16)
-        want_as_curl(room, mirror.url(), payload)
-        want(mirror.turned_away <= 8 * RUNS, f"{mirror.turned_away} connections were turned away")
+for _length in (MIB // 16, MIB):
+
+    @case(f"a mirror that serves one connection, and answers 503 over others, in pieces of {_length >> 10} KiB", "curl", slow=True)
+    def _(room, length=_length):
+        payload = noise(100 * MIB)
+        with OneEach({"/a.bin": payload}) as mirror:
+            room.torrent(mirror.url(), payload, piece_length=length)
+            want_as_curl(room, mirror.url(), payload)
+            want(mirror.turned_away <= 8 * RUNS, f"{mirror.turned_away} connections were turned away")
 
 
 @case("no more connections stand open to a host than the words say, those that rest among them", slow=True)
