@@ -8,15 +8,19 @@ use crate::patience::LOOK_MS;
 use dl_kinds::IoErr;
 use door_source::{Came, Doors};
 use std::io::{ErrorKind, Read, Write};
-use std::net::{Net, OpenListener, Shutdown, SocketAddr, TcpListener, TcpStream};
+use std::net::{Net, Shutdown, SocketAddr, TcpListener, TcpStream};
+use std::os::fd::OwnedFd;
 use std::sync::atomic::{AtomicBool, Ordering};
 use std::time::Duration;
 use std::{io, thread, time};
 
 // For so long a door waits for a connection before it answers that nobody came.
-const ACCEPT_LOOKS: u32 = 20;
+const ACCEPT_MS: u64 = 100;
 
-const ACCEPT_LOOK_MS: u64 = 5;
+// Where the system can't take a connection just now, it is asked again behind such a pause, so often.
+const PAUSE_MS: u64 = 5;
+
+const MOST_PAUSES: u32 = 20;
 
 // A peer whose connection ends is heard for so long, each time, and for so many bytes at once, so often.
 const LAST_MS: u64 = 100;
@@ -25,11 +29,16 @@ const LAST_BYTES: usize = 4096;
 
 const LAST_READS: u32 = 1024;
 
-/// Listens on an address of this machine, for the doors of a run.
-pub fn listen_on<R: Net>(rt: &R, address: SocketAddr) -> io::Result<R::Listener> {
-    let listener = rt.bind(address)?;
-    listener.set_nonblocking(true)?;
-    Ok(listener)
+/// Listens on an address of this machine, for the doors of a run. Each of them sleeps in the system until somebody comes, but no
+/// longer than for 100 milliseconds: for `accept(2)` a socket's limit of receiving counts, too (socket(7)), though std has no name
+/// for it at a listener.
+pub fn listen_on<R: Net<Stream = TcpStream, Listener = TcpListener>>(
+    rt: &R,
+    address: SocketAddr,
+) -> io::Result<TcpListener> {
+    let socket = TcpStream::from(OwnedFd::from(rt.bind(address)?));
+    socket.set_read_timeout(Some(Duration::from_millis(ACCEPT_MS)))?;
+    Ok(TcpListener::from(OwnedFd::from(socket)))
 }
 
 /// Connections of clients over TCP, from a listener that `listen_on` made. Nothing is told of what they bring. Where there is no
@@ -63,11 +72,12 @@ impl<'a, R: Net<Stream = TcpStream, Listener = TcpListener> + time::Clock> TcpDo
         let Some(listener) = self.listener else {
             return Err(not_connected());
         };
-        for _ in 0..ACCEPT_LOOKS {
+        for _ in 0..MOST_PAUSES {
             match listener.accept().and_then(|(stream, _)| patient(stream)) {
                 Ok(stream) => return Ok(Some(stream)),
+                Err(e) if e.kind() == ErrorKind::WouldBlock => return Ok(None),
                 Err(e) if is_passing(&e) => {
-                    thread::sleep(self.rt, Duration::from_millis(ACCEPT_LOOK_MS));
+                    thread::sleep(self.rt, Duration::from_millis(PAUSE_MS));
                 }
                 Err(e) => return Err(e),
             }
@@ -116,7 +126,6 @@ fn hear_out(stream: &mut TcpStream, over: &AtomicBool) {
 
 // Answers are small, and are to go out at once.
 fn patient(stream: TcpStream) -> io::Result<TcpStream> {
-    stream.set_nonblocking(false)?;
     stream.set_nodelay(true)?;
     let look = Some(Duration::from_millis(LOOK_MS));
     stream.set_read_timeout(look)?;
