@@ -3,6 +3,8 @@ from fractions import Fraction
 
 BLOCK = 16384
 GOING = ("active", "waiting", "paused")
+# What a change to a status is told as.
+KINDS = {"active": "Start", "paused": "Pause", "removed": "Stop", "complete": "Complete", "failed": "Error"}
 DEFAULTS = {
     "max-concurrent-downloads": 5, "max-connection-per-server": 1, "max-download-limit": 0,
     "max-overall-download-limit": 0, "max-tries": 5, "min-split-size": 20 * 1048576, "pause": 0,
@@ -331,6 +333,8 @@ class Run:
         # Gids; those that wait stand beside whether they are paused, those that stopped beside their status.
         self.active, self.waiting, self.stopped = [], [], []
         self.now, self.claims, self.shut, self.over = 0, 0, False, False
+        # The status of each download behind the last step, and the notices that weren't told.
+        self.seen, self.untold = {}, []
 
     # ---- the queue
 
@@ -662,6 +666,21 @@ class Run:
             self.halt(download)
         return "true"
 
+    # ---- notices
+
+    def note(self):
+        """Notes what the last step changed; no step changes a status in two events."""
+        for download in self.downloads:
+            gid, status = download.gid, self.status(download.gid)
+            before = self.seen.get(gid, "paused" if self.options["pause"] else "waiting")
+            if status != before and status in KINDS:
+                self.untold.append("%x %s" % (gid >> 60, KINDS[status]))
+            self.seen[gid] = status
+
+    def notices(self):
+        told, self.untold = self.untold[:64], self.untold[64:]
+        return ", ".join(told) or "none"
+
     # ---- steps
 
     def of_download(self, name, key, words):
@@ -691,7 +710,7 @@ class Run:
         if name == "pass":
             self.now += int(words[0])
             return ""
-        if name in ("uri", "torrent", "stop"):
+        if name in ("uri", "torrent", "stop", "notices"):
             return getattr(self, name)(*words)
         if name == "clash-next":
             return self.clash_next()
@@ -710,6 +729,7 @@ class Run:
     def told(self, line):
         words = line.split(" ")
         answer = self.answer(words[0], words[1:])
+        self.note()
         return answer + ";" + self.shown()
 
 

@@ -110,10 +110,17 @@ class Download:
         self.is_opened, self.end, self.is_active = False, None, True
         self.verified, self.givers, self.sole, self.handed = set(), {}, set(), set()
         self.saved, self.marks, self.saved_at, self.checksum = (set(), set()), {}, 0, None
+        self.is_removed, self.is_paused, self.first_status = False, False, "waiting"
 
     @property
     def info_hash(self):
         return self.payload.info_hash if self.payload else b""
+
+    def status(self):
+        """What is told where it becomes so."""
+        if self.end:
+            return "complete" if self.end == "complete" else "error"
+        return "stop" if self.is_removed else "pause" if self.is_paused else "start"
 
     def path(self):
         return f"{self.folder}{self.name}"
@@ -140,6 +147,7 @@ class Course:
     def __init__(self, options, files):
         self.options, self.files = options, files
         self.events, self.downloads, self.claims, self.now = [], [], {}, 0
+        self.notices = []
 
     # -- the disk
 
@@ -319,7 +327,22 @@ class Course:
     # -- operations
 
     def perform(self, words, answer):
-        return getattr(self, f"on_{words[0]}")(*words[1:], answer=answer)
+        before, count = [one.status() for one in self.downloads], len(self.events)
+        getattr(self, f"on_{words[0]}")(*words[1:], answer=answer)
+        changed = []
+        for at, download in enumerate(self.downloads):
+            if download.status() != (before[at] if at < len(before) else download.first_status):
+                place = self.events.index(download.end, count) if download.end else count
+                changed.append((place, at, download.status()))
+        for place, _, kind in sorted(changed):
+            nth = sum(told[0] == place for told in self.notices)
+            self.notices.append((place, nth, kind))
+
+    def on_notices(self, *cursor, answer):
+        due = [it for it in self.notices if it[:2] >= tuple(map(int, cursor))] if cursor else []
+        place, nth = due[64][:2] if len(due) > 64 else (len(self.events), 0)
+        kinds = " ".join(kind for _, _, kind in due[:64]) or "none"
+        need(answer == f"{kinds} up to {place}.{nth}", f"{kinds} up to {place}.{nth}")
 
     def on_at(self, ms, answer):
         need(answer == "later", "another moment")
@@ -332,6 +355,9 @@ class Course:
             folder = f"{option['dir']}/" if "dir" in option else ""
             self.downloads.append(Download(name, folder, seeds, payload))
             self.downloads[-1].checksum = option.get("checksum")
+            if option.get("pause") == "true":
+                self.downloads[-1].is_active, self.downloads[-1].is_paused = False, True
+                self.downloads[-1].first_status = "pause"
 
     def on_torrent(self, name, *option, answer):
         payload = PAYLOADS[name]
@@ -344,17 +370,19 @@ class Course:
         self.events.append("call")
         if answer == "gid":
             self.halt(self.downloads[-1])
-            self.downloads[-1].is_active = False
+            self.downloads[-1].is_active, self.downloads[-1].is_paused = False, True
 
     def on_unpause(self, answer):
         self.events.append("call")
         self.downloads[-1].is_active = answer == "gid"
+        self.downloads[-1].is_paused &= answer != "gid"
 
     def on_remove(self, answer):
         self.events.append("call")
         if answer == "gid":
             self.halt(self.downloads[-1])
             self.downloads[-1].is_active = False
+            self.downloads[-1].is_removed = True
 
     def on_next(self, _, answer):
         word = answer.split()[0]

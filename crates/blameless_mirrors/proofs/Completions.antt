@@ -21,6 +21,7 @@ use Rattle.engine_turns.specs.RunTurns.{IsAnswered, MayComeAfter, OperationRow, 
 use Rattle.engine_turns.specs.SealRows.{SealRow, has_listed_digest}
 use Rattle.engine_turns.specs.Standings.{AnswersOnly, IsHomeOf, OfClaim, RunStanding}
 use Rattle.engine_turns.specs.Told.{AllTurns, RunTurn, history_after, history_of}
+use Rattle.engine_turns.specs.NoticeRows.{notices_said}
 use Rattle.engine_turns.specs.declared.operations.Operation.{Operation}
 use Rattle.engine_turns.specs.declared.operations.Operation.TheVariants as operation
 use Rattle.engine_turns.specs.declared.operations.Said.{Said}
@@ -367,6 +368,8 @@ module _ (laws : RunFollows) (start : RunStart) (before : List RunTurn) (t : Run
   by_row (operation.Sized claim total now) is =
       row_sized IsOpened at s claim total t.events t.answer.said is
   by_row operation.Pulse is = row_only IsOpened Idle t.events t.answer.said is
+  by_row (operation.Notices from) is =
+      row_only IsOpened (notices_said at.start s.past from) t.events t.answer.said is
   by_row operation.Leave is = row_leave IsOpened at s t.events t.answer.said is
   by_row (operation.Stop now) is = row_stop IsOpened at s t.events t.answer.said is
 

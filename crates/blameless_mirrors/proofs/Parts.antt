@@ -13,6 +13,7 @@ use Rattle.engine_turns.specs.Phases.{TurnStart}
 use Rattle.engine_turns.specs.RunTurns.{IsAnswered, MayComeAfter, OperationRow, answer_before, turn_start}
 use Rattle.engine_turns.specs.Standings.{IsHomeOf, RunStanding, standing_after}
 use Rattle.engine_turns.specs.Told.{RunTurn, history_of}
+use Rattle.engine_turns.specs.NoticeRows.{notices_said}
 use Rattle.engine_turns.specs.declared.operations.Operation.{Operation}
 use Rattle.engine_turns.specs.declared.operations.Operation.TheVariants as operation
 use Rattle.engine_turns.specs.declared.operations.Said.{Said}
@@ -64,6 +65,8 @@ landed_by start past t files (operation.Lose claim mark now) writes by gid id mi
 landed_by start past t files (operation.Sized claim total now) writes by gid id mirror part at there =
     absurd (writes gid id mirror part at there)
 landed_by start past t files operation.Pulse writes by gid id mirror part at there =
+    absurd (writes gid id mirror part at there)
+landed_by start past t files (operation.Notices from) writes by gid id mirror part at there =
     absurd (writes gid id mirror part at there)
 landed_by start past t files operation.Leave writes by gid id mirror part at there =
     absurd (writes gid id mirror part at there)
@@ -205,6 +208,9 @@ module _ (start : RunStart) (before : List RunTurn) (t : RunTurn) where
       wrong_never (operation.Sized claim total now) (row_sized FindsNoneWrong plain_finds at_start standing claim total) answered
   wrong_by operation.Pulse is answered =
       wrong_never operation.Pulse (row_only FindsNoneWrong plain_finds Idle) answered
+  wrong_by (operation.Notices from) is answered =
+      wrong_never (operation.Notices from)
+      (row_only FindsNoneWrong plain_finds (notices_said at_start.start standing.past from)) answered
   wrong_by operation.Leave is answered =
       wrong_never operation.Leave (row_leave FindsNoneWrong plain_finds at_start standing) answered
   wrong_by (operation.Stop now) is answered =

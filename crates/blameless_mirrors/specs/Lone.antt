@@ -69,6 +69,7 @@ first_time (t ∷ u ∷ older) = first_time (u ∷ older)
 abbrev pub IsWork : Operation → Type 0
 IsWork (operation.Call session call now) = ⊥
 IsWork operation.Pulse = ⊥
+IsWork (operation.Notices from) = ⊥
 IsWork operation.Leave = ⊥
 IsWork (operation.Stop now) = ⊥
 IsWork op = Unit {0}

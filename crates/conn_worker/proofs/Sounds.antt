@@ -133,6 +133,7 @@ row_sound at s (operation.Seal gid sealed now) events said row =
     ⊎_elim (λ none. only_sound _ events said tt none) (λ settled. unless_starved _ settled.1.outcome said tt settled.1.answer)
     row
 row_sound at s operation.Pulse events said row = only_sound _ events said tt row
+row_sound at s (operation.Notices from) events said row = is_sound _ said tt row.1
 row_sound at s operation.Leave events said row = is_sound _ said tt row.1
 row_sound at s (operation.Stop now) events said row = unless_starved _ row.outcome said tt row.answer
 

@@ -1,7 +1,8 @@
 // The queue.
-ghost use Rattle.std.specs.Prelude.{All, ◌≡◌, ◌≤◌, ◌<◌, ◌-◌, ◌++◌, ◌∷◌, [], ℕ, true, false, IsTrue, Option, Some, None, IfSome, IfOk, OnOk, insert, is_ok, is_some, length, map, option_copied, remove, if◌then◌else◌};
+ghost use Rattle.std.specs.Prelude.{All, ◌≡◌, ◌≤◌, ◌<◌, ◌-◌, ◌++◌, ◌∷◌, [], ℕ, true, false, IsTrue, Option, Some, None, IfSome, IfOk, OnOk, insert, is_ok, is_some, length, map, option_copied, remove, slice_get, if◌then◌else◌};
 ghost use Rattle.std.specs.Option.{ok_or};
 ghost use Rattle.dl_kinds.specs.declared.status.Status.TheVariants.{Active, Waiting};
+ghost use Rattle.dl_queue.specs.declared.kinds.Added.{Added as AddedDownload};
 ghost use Rattle.dl_queue.specs.declared.kinds.QueueErr.TheVariants.{NotFound};
 ghost use Rattle.dl_queue.specs.Places.{status_of, active_place, queued_place, stopped_place, queued_at};
 ghost use Rattle.dl_queue.specs.Calls.{adding_place, was_added, with_pause, as_paused, options_in};
@@ -168,6 +169,23 @@ impl Queue {
     {
         let number = self.number(gid)?;
         Some(number - 1)
+    }
+
+    /// The download at a place in the order of adding, from 0.
+    pub fn added_at(&self, place: usize) -> &Added
+        requires { place < length self.now.added }
+        ensures { slice_get self.now.added place ≡ Some result.now }
+    {
+        &self.added[place]
+    }
+
+    /// The status of the download at a place in the order of adding, from 0, if it stands in one of the lists.
+    pub fn status_at(&self, place: usize) -> Option<Status>
+        requires { place < length self.now.added }
+        ensures { (download : AddedDownload) → slice_get self.now.added place ≡ Some download
+            → result ≡ status_of self.now download.gid }
+    {
+        self.standings[place]
     }
 
     /// The options of a download that was added in this run.

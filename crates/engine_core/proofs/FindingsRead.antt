@@ -67,6 +67,7 @@ next_found state (operation.Lose claim mark now) r r' is finds = absurd is
 next_found state (operation.Sized claim total now) r r' is finds = absurd is
 next_found state (operation.Seal gid sealed now) r r' is finds = absurd is
 next_found state operation.Pulse r r' is finds = absurd is
+next_found state (operation.Notices from) r r' is finds = absurd is
 next_found state operation.Leave r r' is finds = absurd is
 next_found state (operation.Stop now) r r' is finds = absurd is
 

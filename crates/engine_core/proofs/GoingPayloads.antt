@@ -167,6 +167,7 @@ module _ {D : Type 0} (state : D → DiskState) (old new : EngineState D) (told 
     keeps_op (operation.Lose claim mark now) is writes = bytes_same (state mid.disk) (writes star going_mid its.0 kept_mid)
     keeps_op (operation.Sized claim total now) is writes = bytes_same (state mid.disk) (writes star going_mid its.0 kept_mid)
     keeps_op operation.Pulse is writes = bytes_same (state mid.disk) (writes star going_mid its.0 kept_mid)
+    keeps_op (operation.Notices from) is writes = bytes_same (state mid.disk) (writes star going_mid its.0 kept_mid)
     keeps_op operation.Leave is writes = bytes_same (state mid.disk) (writes star going_mid its.0 kept_mid)
     keeps_op (operation.Stop now) is writes = bytes_same (state mid.disk) (writes star going_mid its.0 kept_mid)
 

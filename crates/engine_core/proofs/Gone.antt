@@ -270,6 +270,8 @@ module _ (laws : RunFollows) (at : TurnStart) (s : RunStanding) (legal : IsLegal
   operation_going (operation.Seal gid sealed now) events said is =
       seal_going laws at s legal (operation.Seal gid sealed now) gid sealed events said active is
   operation_going operation.Pulse events said is = none_going at.start s.past operation.Pulse events is.0
+  operation_going (operation.Notices from) events said is =
+      none_going at.start s.past (operation.Notices from) events is.0
   operation_going operation.Leave events said is =
       subst (AreOfGoing at.start s.past operation.Leave) (sym is.0)
       (left_going at.start s.past operation.Leave (doors_left at.start s.past))

@@ -138,6 +138,7 @@ module _ {D : Type 0} (laws : RunFollows) (state : D → DiskState) (old new : E
       keeps_op (operation.Lose claim mark now) is writes = bytes_same (state mid.disk) (writes star going want kept_is)
       keeps_op (operation.Sized claim total now) is writes = bytes_same (state mid.disk) (writes star going want kept_is)
       keeps_op operation.Pulse is writes = bytes_same (state mid.disk) (writes star going want kept_is)
+      keeps_op (operation.Notices from) is writes = bytes_same (state mid.disk) (writes star going want kept_is)
       keeps_op operation.Leave is writes = bytes_same (state mid.disk) (writes star going want kept_is)
       keeps_op (operation.Stop now) is writes = bytes_same (state mid.disk) (writes star going want kept_is)
 

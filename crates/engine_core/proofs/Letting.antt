@@ -11,7 +11,7 @@ use Rattle.engine_turns.specs.RunTurns.{answer_to, is_nearly_full}
 use Rattle.engine_turns.specs.Told.{handed_by}
 use Rattle.engine_turns.specs.declared.operations.Operation.{Operation}
 use Rattle.engine_turns.specs.declared.operations.Said.{Said}
-use Rattle.engine_turns.specs.declared.operations.Said.TheVariants.{Allow, Done, Finished, Grant, Hold, Idle, JournalFull, Kept, NoMemory, Replied, Void}
+use Rattle.engine_turns.specs.declared.operations.Said.TheVariants.{Allow, Done, Finished, Grant, Hold, Idle, JournalFull, Kept, NoMemory, Notices, Replied, Void}
 use Rattle.engine_core.specs.Beginning.{IsBrokenOff}
 
 -- a piece is handed out, or bytes are let through
@@ -31,6 +31,7 @@ nothing_handed Idle none = refl
 nothing_handed Done none = refl
 nothing_handed Finished none = refl
 nothing_handed (JournalFull count) none = refl
+nothing_handed (Notices list upto) none = refl
 nothing_handed NoMemory none = refl
 
 pub nothing_spent : (start : RunStart) (past : List Event) (op : Operation) (said : Said) → lets_go said ≡ false
@@ -45,6 +46,7 @@ nothing_spent start past op Idle none = refl
 nothing_spent start past op Done none = refl
 nothing_spent start past op Finished none = refl
 nothing_spent start past op (JournalFull count) none = refl
+nothing_spent start past op (Notices list upto) none = refl
 nothing_spent start past op NoMemory none = refl
 
 -- what holds of Finished, JournalFull and NoMemory holds of what is answered before an operation

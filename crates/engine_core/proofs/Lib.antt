@@ -41,3 +41,4 @@ pub mod GoingPayloads
 pub mod Unchecking
 pub mod FindingsRead
 pub mod GoingOn
+pub mod ToldNotices

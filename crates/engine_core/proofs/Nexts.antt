@@ -15,7 +15,7 @@ use Rattle.engine_turns.specs.declared.operations.Operation.TheVariants.{Next}
 use Rattle.engine_turns.specs.declared.operations.Said.{Said}
 use Rattle.engine_turns.specs.Levels.{spent_by}
 use Rattle.engine_turns.specs.declared.operations.Grant.TheVariants.{Fetch, Hash, Probe}
-use Rattle.engine_turns.specs.declared.operations.Said.TheVariants.{Allow, Done, Finished, Grant, Hold, Idle, JournalFull, Kept, NoMemory, Replied, Void}
+use Rattle.engine_turns.specs.declared.operations.Said.TheVariants.{Allow, Done, Finished, Grant, Hold, Idle, JournalFull, Kept, NoMemory, Notices, Replied, Void}
 use Rattle.dl_kinds.specs.declared.runs.Moment.{Moment}
 use Rattle.stored_run.specs.Opening.{OpenNextRow}
 use Rattle.stored_run.specs.Steps.{DoesRow, turn_from}
@@ -127,6 +127,7 @@ spent_next start past worker m n Idle = refl
 spent_next start past worker m n Done = refl
 spent_next start past worker m n Finished = refl
 spent_next start past worker m n (JournalFull count) = refl
+spent_next start past worker m n (Notices list upto) = refl
 spent_next start past worker m n NoMemory = refl
 
 pub next_at : {D : Type 0} (worker : ℕ) (m n : Moment) (Row : TurnStart → RunStanding → List Event → Said → Type 0)

@@ -8,7 +8,7 @@ use Rattle.dl_kinds.specs.declared.gid.Gid.{Gid}
 use Rattle.engine_turns.specs.declared.operations.Grant.{Grant}
 use Rattle.engine_turns.specs.declared.operations.Grant.TheVariants.{Fetch, Hash, Probe}
 use Rattle.engine_turns.specs.declared.operations.Said.{Said}
-use Rattle.engine_turns.specs.declared.operations.Said.TheVariants.{Replied, Grant as Granted, Kept, Allow, Void, Hold, Idle, Done, Finished, JournalFull, NoMemory}
+use Rattle.engine_turns.specs.declared.operations.Said.TheVariants.{Replied, Grant as Granted, Kept, Allow, Void, Hold, Idle, Done, Finished, JournalFull, NoMemory, Notices}
 use Rattle.machine_core.specs.Offers.{is_handed_out}
 use Rattle.machine_core.specs.OwnParts.{own_of}
 use Rattle.machine_core.specs.Starts.{RunStart}
@@ -84,6 +84,7 @@ module _ {D : Type 0} (state : D → DiskState) (old mid : StoredView D) (alike 
   gives_before Done is = tt
   gives_before Finished is = tt
   gives_before (JournalFull count) is = tt
+  gives_before (Notices list upto) is = tt
   gives_before NoMemory is = tt
 
   -- what was sealed
@@ -130,4 +131,5 @@ gives_none r Idle seen none = tt
 gives_none r Done seen none = tt
 gives_none r Finished seen none = tt
 gives_none r (JournalFull count) seen none = tt
+gives_none r (Notices list upto) seen none = tt
 gives_none r NoMemory seen none = tt

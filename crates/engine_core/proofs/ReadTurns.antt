@@ -22,7 +22,7 @@ use Rattle.engine_turns.specs.declared.operations.Grant.TheVariants.{Fetch, Hash
 use Rattle.engine_turns.specs.declared.operations.Operation.{Operation}
 use Rattle.engine_turns.specs.declared.operations.Operation.TheVariants as operation
 use Rattle.engine_turns.specs.declared.operations.Said.{Said}
-use Rattle.engine_turns.specs.declared.operations.Said.TheVariants.{Replied, Grant as Granted, Kept, Allow, Void, Hold, Idle, Done, Finished, JournalFull, NoMemory}
+use Rattle.engine_turns.specs.declared.operations.Said.TheVariants.{Replied, Grant as Granted, Kept, Allow, Void, Hold, Idle, Done, Finished, JournalFull, NoMemory, Notices}
 use Rattle.machine_core.specs.Claiming.{next_to_open}
 use Rattle.machine_core.specs.DownloadWants.{HasWant, files_of_subject}
 use Rattle.machine_core.specs.FileNames.{IsPayloadName, IsUnlistedName, folder_in}
@@ -258,6 +258,7 @@ module _ {D : Type 0} (state : D → DiskState) (old new : EngineState D) (told 
   granted Done is = tt
   granted Finished is = tt
   granted (JournalFull count) is = tt
+  granted (Notices list upto) is = tt
   granted NoMemory is = tt
 
   settled_then : (gid : Gid) (piece : ℕ) (e : Event) → Contains t.events e → CameBetween (past_of old) (past_of new) e
@@ -312,6 +313,7 @@ module _ {D : Type 0} (state : D → DiskState) (old new : EngineState D) (told 
   takes_then (operation.Lose claim mark now) is answered = tt
   takes_then (operation.Sized claim total now) is answered = tt
   takes_then operation.Pulse is answered = tt
+  takes_then (operation.Notices from) is answered = tt
   takes_then operation.Leave is answered = tt
   takes_then (operation.Stop now) is answered = tt
 

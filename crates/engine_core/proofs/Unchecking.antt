@@ -154,6 +154,8 @@ module _ {D : Type 0} (state : D → DiskState) (old new : StoredView D) (at : T
       never_found (operation.Sized claim total now)
       (claim_unchecked at s claim (SizedRow at s total) (sized_unchecked at s total)) is
   check_found operation.Pulse finds is = never_found operation.Pulse (λ es answer row. none_checked es row.0) is
+  check_found (operation.Notices from) finds is =
+      never_found (operation.Notices from) (λ es answer row. none_checked es row.0) is
   check_found operation.Leave finds is =
       never_found operation.Leave
       (λ es answer row. subst (Each ChecksNone) (sym row.0) (left_unchecked at s (doors_left at.start s.past))) is

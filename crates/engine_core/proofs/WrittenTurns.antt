@@ -10,6 +10,7 @@ use Rattle.dl_kinds.specs.declared.gid.Gid.{Gid}
 use Rattle.dl_kinds.specs.declared.runs.Moment.{Moment}
 use Rattle.dl_kinds.specs.declared.runs.Run.{Run}
 use Rattle.engine_turns.specs.Told.{RunTurn, history_of}
+use Rattle.engine_turns.specs.NoticeRows.{notices_said}
 use Rattle.engine_turns.specs.declared.operations.Operation.{Operation}
 use Rattle.engine_turns.specs.declared.operations.Operation.TheVariants as operation
 use Rattle.engine_turns.specs.declared.operations.Said.{Said}
@@ -132,6 +133,8 @@ module _ {D : Type 0} (state : D → DiskState) (old new : EngineState D) (told 
   writes_told (operation.Sized claim total now) left answered =
       quiet (operation.Sized claim total now) (quiet_sized at_start standing claim total) answered
   writes_told operation.Pulse left answered = quiet operation.Pulse (quiet_only Idle) answered
+  writes_told (operation.Notices from) left answered =
+      quiet (operation.Notices from) (quiet_only (notices_said at_start.start standing.past from)) answered
   writes_told operation.Leave left answered = quiet operation.Leave (quiet_leave at_start standing) answered
   writes_told (operation.Stop now) left answered = quiet (operation.Stop now) (quiet_stop at_start standing) answered
 

@@ -8,6 +8,7 @@ mod following;
 mod front;
 mod granting;
 mod handing;
+mod noticing;
 mod performing;
 mod sealing;
 mod serving;

@@ -60,6 +60,7 @@ impl<D: Disk> EngineState<D> {
                 back: sealed.into_bytes(),
             },
             Operation::Pulse => without_bytes(alloc, self.pulse()),
+            Operation::Notices { from } => without_bytes(alloc, self.notices(alloc, from)),
             Operation::Leave => without_bytes(alloc, self.leave()),
             Operation::Stop { now } => without_bytes(alloc, self.stop(now)),
         }

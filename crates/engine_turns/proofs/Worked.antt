@@ -1,5 +1,5 @@
 -- The worked turns.
-use Rattle.std.proofs.Common.{◌≡◌, ◌≢◌, ◌∙◌, ℕ, List, None, Some, [], refl, ap, inl, inr, arith}
+use Rattle.std.proofs.Common.{◌≡◌, ◌≢◌, ◌∙◌, ◌∷◌, ℕ, List, None, Some, [], refl, ap, inl, inr, arith}
 use Rattle.std.proofs.lemmas.List.Elements.{All-nil}
 use Rattle.dl_kinds.specs.declared.claims.Claim.{Claim}
 use Rattle.dl_kinds.specs.declared.gid.Gid.{Gid}
@@ -15,9 +15,9 @@ use Rattle.engine_turns.specs.ClaimRows.{MoreRow}
 use Rattle.engine_turns.specs.declared.outcome.Outcome.TheVariants.{Went}
 use Rattle.engine_turns.specs.RunTurns.{IsTurnAnswered, turn_start}
 use Rattle.engine_turns.specs.Standings.{OfClaim, standing_after}
-use Rattle.engine_turns.specs.WorkedTurns.{WorkedRows, WorkedTurns, moment_at, more_granted, replied_turn}
+use Rattle.engine_turns.specs.WorkedTurns.{WorkedRows, WorkedTurns, adding_turn, behind, moment_at, more_granted, replied_turn, started_first, telling_turn}
 use Rattle.engine_turns.specs.declared.operations.Said.{Said}
-use Rattle.engine_turns.specs.declared.operations.Said.TheVariants.{Allow, Replied}
+use Rattle.engine_turns.specs.declared.operations.Said.TheVariants.{Allow, Notices, Replied}
 
 pub worked_turns : WorkedTurns
 worked_turns =
@@ -50,6 +50,12 @@ replied_as : (call : Call) (reply : Reply) → IsTurnAnswered one_at_once [] (re
     → reply ≡ reply_of one_at_once [] unnamed call (moment_at 6)
 replied_as call reply (inl starved) = absurd (let said = starved.1.1 in cc)
 replied_as call reply (inr row) = ap reply_in row.answer ∙ row.is_reply unnamed none_named
+
+-- the download's start is due
+told_nothing : IsTurnAnswered one_at_once (adding_turn ∷ []) (telling_turn (Some (behind 0)) [] 1) None → ⊥
+told_nothing (inl starved) = absurd (let said = starved.1.1 in cc)
+told_nothing (inr row) =
+    absurd (let is : Notices [] (behind 1) ≡ Notices (started_first ∷ []) (behind 1) = row.1 in cc)
 
 pub worked_rows : WorkedRows
 worked_rows =
@@ -115,9 +121,13 @@ worked_rows =
         counts = (tt, refl);
       };
       is_over = record { back = refl; answered = (refl, refl); counts = refl };
+      joins = record { back = refl; answered = inr (refl, refl); counts = refl };
+      joins_later = record { back = refl; answered = inr (refl, refl); counts = refl };
+      starts = record { back = refl; answered = inr (refl, refl); counts = refl };
       not_idle = λ m. absurd (let said = m.answered.1 in cc);
       not_granted = λ m. more_refused m.answered;
       not_carried_out = λ m. absurd (let is = replied_as (Pause key_of_first) Fine m.answered in cc);
       not_told = λ m. absurd (let is = replied_as GetVersion Fine m.answered in cc);
+      not_untold = λ m. told_nothing m.answered;
       not_passed_over = λ m. absurd (let is : 5 ≡ 0 = m.counts in cc);
     }

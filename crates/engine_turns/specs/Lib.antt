@@ -7,6 +7,7 @@ pub mod ClaimRows
 pub mod SealRows
 pub mod CallRows
 pub mod NextRows
+pub mod NoticeRows
 pub mod RunTurns
 pub mod TurnLaws
 pub mod WorkedTurns

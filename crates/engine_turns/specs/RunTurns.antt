@@ -9,6 +9,7 @@ use Rattle.engine_turns.specs.CallRows.{CallRow, LeaveRow, StopRow}
 use Rattle.engine_turns.specs.ClaimRows.{DeliverRow, LoseRow, MoreRow, SizedRow}
 use Rattle.engine_turns.specs.Faults.{CountsFaults}
 use Rattle.engine_turns.specs.NextRows.{NextRow}
+use Rattle.engine_turns.specs.NoticeRows.{notices_said}
 use Rattle.engine_turns.specs.Phases.{TurnStart}
 use Rattle.engine_turns.specs.SealRows.{SealRow}
 use Rattle.engine_turns.specs.Standings.{AnswersOnly, OfClaim, RunStanding, standing_after}
@@ -34,6 +35,7 @@ asks_for_work op = false
 -- the others come after all else too
 abbrev pub needs_entries : Operation → Bool
 needs_entries operation.Pulse = false
+needs_entries (operation.Notices from) = false
 needs_entries operation.Leave = false
 needs_entries (operation.Stop now) = false
 needs_entries op = true
@@ -71,6 +73,7 @@ OperationRow at s (operation.Lose claim mark now) = OfClaim at s claim (LoseRow 
 OperationRow at s (operation.Sized claim total now) = OfClaim at s claim (SizedRow at s total)
 OperationRow at s (operation.Seal gid sealed now) = SealRow at s gid sealed
 OperationRow at s operation.Pulse = AnswersOnly Idle
+OperationRow at s (operation.Notices from) = AnswersOnly (notices_said at.start s.past from)
 OperationRow at s operation.Leave = LeaveRow at s
 OperationRow at s (operation.Stop now) = StopRow at s
 

@@ -45,6 +45,7 @@ moment_of_operation (operation.Lose claim mark now) = now.0
 moment_of_operation (operation.Sized claim total now) = now.0
 moment_of_operation (operation.Seal gid sealed now) = now.0
 moment_of_operation operation.Pulse = 0
+moment_of_operation (operation.Notices from) = 0
 moment_of_operation operation.Leave = 0
 moment_of_operation (operation.Stop now) = now.0
 

@@ -1,5 +1,5 @@
 -- Worked turns, and what they are to say.
-use Rattle.std.specs.Prelude.{◌≡◌, ℕ, true, false, List, [], ◌∷◌}
+use Rattle.std.specs.Prelude.{◌≡◌, ℕ, true, false, Option, Some, None, List, [], ◌∷◌}
 use Rattle.dl_kinds.specs.declared.runs.Moment.{Moment}
 use Rattle.dl_queue.specs.declared.kinds.QueueErr.TheVariants.{NotFound}
 use Rattle.piece_table.specs.declared.giver.Giver.TheVariants.{Mixed}
@@ -11,6 +11,9 @@ use Rattle.machine_core.specs.declared.calls.Call.TheVariants.{GetVersion, Pause
 use Rattle.machine_core.specs.declared.events.Event.{Event}
 use Rattle.machine_core.specs.declared.events.Event.TheVariants.{Called, Settled, Stopped}
 use Rattle.machine_core.specs.declared.handed.Handed.{Handed}
+use Rattle.machine_core.specs.declared.notices.Cursor.{Cursor}
+use Rattle.machine_core.specs.declared.notices.Notice.{Notice}
+use Rattle.machine_core.specs.declared.notices.NoticeKind.TheVariants.{Start}
 use Rattle.run_report.specs.declared.kinds.Reply.{Reply}
 use Rattle.run_report.specs.declared.kinds.Reply.TheVariants.{Fine, Refused, Version}
 use Rattle.engine_turns.specs.RunTurns.{MayComeAfter}
@@ -20,7 +23,7 @@ use Rattle.engine_turns.specs.declared.operations.Operation.{Operation}
 use Rattle.engine_turns.specs.declared.operations.Operation.TheVariants.{Leave, More, Next, Pulse, Seal, Stop}
 use Rattle.engine_turns.specs.declared.operations.Operation.TheVariants as operation
 use Rattle.engine_turns.specs.declared.operations.Said.{Said}
-use Rattle.engine_turns.specs.declared.operations.Said.TheVariants.{Allow, Done, Finished, Grant, Idle, NoMemory, Replied, Void}
+use Rattle.engine_turns.specs.declared.operations.Said.TheVariants.{Allow, Done, Finished, Grant, Idle, NoMemory, Notices, Replied, Void}
 
 abbrev pub moment_at : ℕ → Moment
 moment_at ms = record { 0 = ms }
@@ -93,6 +96,16 @@ stop_turn = turn_with (Stop (moment_at 4)) Done (Stopped ∷ [])
 abbrev pub more_granted : RunTurn
 more_granted = turn_with (More 7 100 (moment_at 2)) (Allow 100) []
 
+-- the first place behind so many events
+abbrev pub behind : ℕ → Cursor
+behind events = record { event = events; nth = 0 }
+
+abbrev pub telling_turn : Option Cursor → List Notice → ℕ → RunTurn
+telling_turn from list events = turn_with (operation.Notices from) (Notices list (behind events)) []
+
+abbrev pub started_first : Notice
+started_first = record { kind = Start; gid = gid_at 1 }
+
 -- the first turn of a run: this call, with this reply
 abbrev pub replied_turn : Call → Reply → RunTurn
 replied_turn call reply =
@@ -108,9 +121,13 @@ pub record WorkedRows : Type 0 where
   pub told : MayComeAfter one_at_once [] (replied_turn GetVersion Version)
   pub stops : MayComeAfter one_at_once [] stop_turn
   pub is_over : MayComeAfter one_at_once (stop_turn ∷ adding_turn ∷ []) (turn_with Pulse Finished [])
+  pub joins : MayComeAfter one_at_once [] (telling_turn None [] 0)
+  pub joins_later : MayComeAfter one_at_once (adding_turn ∷ []) (telling_turn None [] 1)
+  pub starts : MayComeAfter one_at_once (adding_turn ∷ []) (telling_turn (Some (behind 0)) (started_first ∷ []) 1)
   -- and there is no other answer
   pub not_idle : ¬ MayComeAfter one_at_once [] (turn_with Pulse Idle [])
   pub not_granted : ¬ MayComeAfter one_at_once [] more_granted
   pub not_carried_out : ¬ MayComeAfter one_at_once [] (replied_turn (Pause key_of_first) Fine)
   pub not_told : ¬ MayComeAfter one_at_once [] (replied_turn GetVersion Fine)
+  pub not_untold : ¬ MayComeAfter one_at_once (adding_turn ∷ []) (telling_turn (Some (behind 0)) [] 1)
   pub not_passed_over : ¬ MayComeAfter one_at_once (adding_turn ∷ []) (failing 5 (turn_with Pulse Idle []))

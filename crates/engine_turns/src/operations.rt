@@ -1,6 +1,6 @@
 // What is asked of a run, and what it answers.
 use dl_kinds::{Blob, Gid, Mark, Moment, Run, Text};
-use machine_core::Call;
+use machine_core::{Call, Cursor, Notices};
 use run_report::Reply;
 use span_map::Job;
 use verify_piece::Sealed;
@@ -52,6 +52,10 @@ pub enum Operation {
     },
     /// Asks whether anything is left to do.
     Pulse,
+    /// Asks for the next notices from a place of the history on; without one, where the history ends.
+    Notices {
+        from: Option<Cursor>,
+    },
     /// A door of the console closed.
     Leave,
     /// The run is to stop: no claim stands any more, and progress is saved.
@@ -97,6 +101,11 @@ pub enum Said {
     },
     Allow {
         bytes: u32,
+    },
+    /// Notices of the history, in order, and the place behind them.
+    Notices {
+        list: Notices,
+        upto: Cursor,
     },
     /// The operation came too late, or isn't one of its claim or piece: nothing happened.
     Void,

@@ -53,7 +53,7 @@ pub record IsAddingCall (asked : Call) (subject : Subject) (settings : List Assi
 
 -- ---- the replay
 
-abbrev added_replay : Replay → Subject → Option ℕ → Gid → OptionValues → Replay
+abbrev pub added_replay : Replay → Subject → Option ℕ → Gid → OptionValues → Replay
 added_replay r subject position gid options =
     record (with_call r (add_call gid options position)) {
       downloads = r.downloads ++ record { gid = gid; subject = subject; options = options } ∷ [];
@@ -64,7 +64,7 @@ replay_with r subject position gid options =
     cond (is_refused r.queue (add_call gid options position)) r (added_replay r subject position gid options)
 
 -- the gid and the options are those that the parts give
-replay_is : (start : RunStart) (r : Replay) (subject : Subject) (settings : List Assigned) (position : Option ℕ)
+pub replay_is : (start : RunStart) (r : Replay) (subject : Subject) (settings : List Assigned) (position : Option ℕ)
     (gid : Gid) (global : OptionValues) → gid ≡ next_gid start r.downloads (with_settings global settings)
     → global ≡ r.global
     → with_download start r subject settings position
@@ -87,30 +87,30 @@ answer_is start r settings position gid global queue made same queue_is =
     call_answer r.queue (add_call (next_gid start r.downloads (with_settings v settings)) (with_settings v settings) position)
     (Added (next_gid start r.downloads (with_settings v settings)))) same)
 
-taken : (t : Bool) (r more : Replay) → t ≡ false → cond t r more ≡ more
+pub taken : (t : Bool) (r more : Replay) → t ≡ false → cond t r more ≡ more
 taken true r more is = absurd cc
 taken false r more is = refl
 
-refused : (t : Bool) (r more : Replay) → t ≡ true → cond t r more ≡ r
+pub refused : (t : Bool) (r more : Replay) → t ≡ true → cond t r more ≡ r
 refused true r more is = refl
 refused false r more is = absurd cc
 
 -- ---- the queue
 
-unless_none : (o : Option QueueErr) (changed same : QueueLists) → o ≡ None → unless_refused o changed same ≡ changed
+pub unless_none : (o : Option QueueErr) (changed same : QueueLists) → o ≡ None → unless_refused o changed same ≡ changed
 unless_none None changed same is = refl
 unless_none (Some e) changed same is = absurd cc
 
-unless_some : (o : Option QueueErr) (e : QueueErr) (changed same : QueueLists) → o ≡ Some e
+pub unless_some : (o : Option QueueErr) (e : QueueErr) (changed same : QueueLists) → o ≡ Some e
     → unless_refused o changed same ≡ same
 unless_some None e changed same is = absurd cc
 unless_some (Some x) e changed same is = refl
 
-not_known : (t : Bool) (e : QueueErr) (rest : Option QueueErr) → cond t (Some e) rest ≡ None → t ≡ false
+pub not_known : (t : Bool) (e : QueueErr) (rest : Option QueueErr) → cond t (Some e) rest ≡ None → t ≡ false
 not_known true e rest is = absurd cc
 not_known false e rest is = refl
 
-no_place : (t : Bool) (n : ℕ) → t ≡ false → cond t (Some n) None ≡ None
+pub no_place : (t : Bool) (n : ℕ) → t ≡ false → cond t (Some n) None ≡ None
 no_place true n is = absurd cc
 no_place false n is = refl
 

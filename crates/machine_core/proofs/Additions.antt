@@ -17,7 +17,7 @@ use Rattle.machine_core.specs.declared.applied.Applied.TheVariants.{Added, Refus
 use Rattle.machine_core.specs.declared.entries.Entry.{Entry}
 
 -- the call of the queue, by the options that were made
-call_is : (gid : Gid) (options made : OptionValues) (paused : Bool) (position : Option ℕ) → options ≡ made
+pub call_is : (gid : Gid) (options made : OptionValues) (paused : Bool) (position : Option ℕ) → options ≡ made
     → paused ≡ not (number_value options num.Pause == 0)
     → Add gid options paused position ≡ add_call gid made position
 call_is gid options made paused position is paused_is =
@@ -34,7 +34,7 @@ IsMade gids old options gid =
     (start : RunStart) (downloads : List Download) → start.gids ≡ gids → old.added ≡ map added_as downloads
     → gid ≡ next_gid start downloads options
 
-made_by : (gids : ℕ) (old : QueueLists) (options made : OptionValues) (gid : Gid) → options ≡ made
+pub made_by : (gids : ℕ) (old : QueueLists) (options made : OptionValues) (gid : Gid) → options ≡ made
     → IsMade gids old options gid → IsMade gids old made gid
 made_by gids old options made gid is m start downloads g added =
     m start downloads g added ∙ ap (next_gid start downloads) is

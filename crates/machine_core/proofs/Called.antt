@@ -32,6 +32,7 @@ use Rattle.machine_core.proofs.Lists.{element_at, read-more}
 use Rattle.machine_core.proofs.Rooms.{place_is}
 use Rattle.machine_core.proofs.Staying.{halted_told}
 use Rattle.machine_core.proofs.Steps.{homes_stay, lengths_of}
+use Rattle.machine_core.proofs.Logged.{logged_on}
 
 -- ---- entries
 
@@ -118,6 +119,7 @@ call_keeps past s session asked now room new k may queue same options h room_is 
           (λ g there. ap (λ (ds : List Download). is_some (download_of ds g)) same ∙ there) k.homes;
       ends = record { left_is = k.ends.left_is; stopped_is = k.ends.stopped_is };
       room_is = room_is;
+      log_is = logged_on s.start s.events e s.log k.log_is;
     }
 
 -- ---- a plain call

@@ -50,6 +50,7 @@ use Rattle.machine_core.proofs.Tests.{true_not_false}
 use Rattle.machine_core.proofs.Told.{placed}
 use Rattle.machine_core.proofs.Turns.{onto}
 use Rattle.machine_core.proofs.Widening.{none_roomier, one_roomier, roomier_run, roomier_seen}
+use Rattle.machine_core.proofs.Logged.{logged_on}
 
 -- ---- homes
 
@@ -159,6 +160,7 @@ claim_step past s gid claim at d x v room k here may number account rest below r
       homes = homes_more s.start past s.homes gid claim k.homes number (ap is_some may.added);
       ends = record { left_is = k.ends.left_is; stopped_is = k.ends.stopped_is };
       room_is = room_is;
+      log_is = logged_on s.start s.events (Claimed gid claim) s.log k.log_is;
     }
 
 -- ---- what the claim fits

@@ -22,6 +22,7 @@ use Rattle.machine_core.specs.declared.events.Event.{Event}
 use Rattle.machine_core.specs.declared.events.Event.TheVariants.{Stopped}
 use Rattle.machine_core.proofs.Lists.{element_at, read-more, slice_get-set_same, slice_get-set_other}
 use Rattle.machine_core.proofs.Steps.{lengths_of}
+use Rattle.machine_core.proofs.Logged.{logged_on}
 
 -- ---- the loop
 
@@ -124,6 +125,7 @@ stop_step past s ys room k h may room_is =
       };
       ends = record { left_is = k.ends.left_is; stopped_is = refl };
       room_is = room_is;
+      log_is = logged_on s.start s.events Stopped s.log k.log_is;
     }
 
 -- ---- a length is told

@@ -42,6 +42,7 @@ use Rattle.machine_core.proofs.Legal.{Laws}
 use Rattle.machine_core.proofs.Lists.{read-more}
 use Rattle.machine_core.proofs.Steps.{IsAt, MarksFollow}
 use Rattle.machine_core.proofs.Turns.{checking, clearing, ending, finding, landing, losing, onto, saving, sizing}
+use Rattle.machine_core.proofs.Logged.{logged_on}
 
 -- what contracts see of what is kept
 abbrev pub view_of : MachineState → MachineView
@@ -429,6 +430,7 @@ leaves s v events room seen may is room_is =
       };
       ends = record { left_is = left_more s.left (reverse s.events) left_is; stopped_is = k.ends.stopped_is };
       room_is = left_room s.start.doors s.left s.stopped s.room room some room_is (subst (λ (n : ℕ). 1 ≤ s.start.doors - n) (sym left_is) m);
+      log_is = logged_on s.start s.events Left s.log k.log_is;
     })
 
 -- ---- losses

@@ -34,6 +34,7 @@ use Rattle.machine_core.proofs.Lists.{element_at, not_found, read-more, slice_ge
 use Rattle.machine_core.proofs.Parts.{Adds, call_adds, gid_is, lengths_in, lengths_same, stays_added}
 use Rattle.machine_core.proofs.QueuedGids.{IsAdded, named_is, queued_are_added}
 use Rattle.machine_core.proofs.Steps.{homes_stay, untouched}
+use Rattle.machine_core.proofs.Logged.{logged_on}
 
 -- ---- before it is added it has no events but halts
 
@@ -218,7 +219,7 @@ apart_more ds d apart none i j one other first second same =
 
 -- ---- the run after it was added
 
-map-more : (ds : List Download) (d : Download) → map added_as (ds ++ d ∷ []) ≡ map added_as ds ++ added_as d ∷ []
+pub map-more : (ds : List Download) (d : Download) → map added_as (ds ++ d ∷ []) ≡ map added_as ds ++ added_as d ∷ []
 map-more [] d = refl
 map-more (b ∷ ds) d = ap (λ (all : List Added). added_as b ∷ all) (map-more ds d)
 
@@ -227,7 +228,7 @@ there_where : (ds : List Download) (b : Download) (i : ℕ) → slice_get ds i �
 there_where ds b i there None is = absurd (none_there ds b.gid i b is there refl)
 there_where ds b i there (Some d) is = refl
 
-there_is : (ds : List Download) (i : ℕ) (b : Download) → slice_get ds i ≡ Some b → is_some (download_of ds b.gid) ≡ true
+pub there_is : (ds : List Download) (i : ℕ) (b : Download) → slice_get ds i ≡ Some b → is_some (download_of ds b.gid) ≡ true
 there_is ds i b there = there_where ds b i there (download_of ds b.gid) refl
 
 lengths_more : (old new : List Download) (gid : Gid) (own own' : List OwnEvent) → Adds old new
@@ -343,4 +344,5 @@ grown_keeps past s session asked now room new d x k may one global shut added en
           (λ g is. ap is_some (stays_added g ds (after_call s.start r asked).downloads adds is) ∙ is) k.homes;
       ends = record { left_is = k.ends.left_is; stopped_is = k.ends.stopped_is };
       room_is = room_is;
+      log_is = logged_on s.start s.events e s.log k.log_is;
     }

@@ -36,6 +36,7 @@ use Rattle.machine_core.proofs.Leaving.{call_stays}
 use Rattle.machine_core.proofs.Lists.{element_at, read-more, slice_get-set_other, slice_get-set_same}
 use Rattle.machine_core.proofs.Parts.{gid_is}
 use Rattle.machine_core.proofs.Steps.{homes_stay, lengths_of, untouched}
+use Rattle.machine_core.proofs.Logged.{logged_on}
 
 -- ---- entries
 
@@ -191,6 +192,7 @@ setting_applied key settings gids place old new applied queue global shut h answ
             homes = homes_stay s.start past e s.homes (λ g. ap granted_claims (own_same g)) (λ g is. is) k.homes;
             ends = record { left_is = k.ends.left_is; stopped_is = k.ends.stopped_is };
             room_is = room_is;
+            log_is = logged_on s.start s.events e s.log k.log_is;
           };
       answer = λ past s gids_is k.
           answer ∙ ap (λ (q : QueueLists). keyed_answer q key (λ gid. Fine)) k.queue.queue_is;

@@ -31,7 +31,7 @@ comes_of : (r : Replay) (queue_call : Gid → QueueCall) (o : Option Gid)
 comes_of r queue_call None = record { queue_is = refl; downloads_is = refl; global_is = refl; shut_is = refl }
 comes_of r queue_call (Some gid) = record { queue_is = refl; downloads_is = refl; global_is = refl; shut_is = refl }
 
-comes_keyed : (r : Replay) (queue_call : Gid → QueueCall) (key : GidKey) (old new : QueueLists) (was : Bool)
+pub comes_keyed : (r : Replay) (queue_call : Gid → QueueCall) (key : GidKey) (old new : QueueLists) (was : Bool)
     → r.queue ≡ old → r.shut ≡ was → new ≡ queue_keyed old queue_call (keyed_gid old key)
     → ComesTo new was r (with_keyed r key queue_call)
 comes_keyed r queue_call key old new was queue shut is =

@@ -27,6 +27,7 @@ use Rattle.machine_core.specs.declared.events.Event.{Event}
 use Rattle.machine_core.specs.declared.events.Event.TheVariants.{Called, Opened, Sized, Claimed, Landed, Settled, Cleared, Lost, Checked, Saved, Ended, Left, Stopped}
 use Rattle.machine_core.proofs.Lists.{slice_get-set_same, slice_get-set_other, read-more}
 use Rattle.machine_core.proofs.Parts.{gid_is, lengths_in, lengths_same}
+use Rattle.machine_core.proofs.Logged.{logged_on}
 
 -- ---- one's own events, and those of others
 
@@ -272,6 +273,7 @@ run_step past s e gid o at d x v queue room k here c granted queues ends may new
           (λ g there. ap (λ (ds : List Download). is_some (download_of ds g)) c.downloads ∙ there) k.homes;
       ends = ends;
       room_is = room_is;
+      log_is = logged_on s.start s.events e s.log k.log_is;
     }
 
 -- .. that leaves the queue as it was, and is a plain one

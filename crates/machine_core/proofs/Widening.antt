@@ -219,6 +219,7 @@ roomier_kept s ys room k r some =
       homes = k.homes;
       ends = k.ends;
       room_is = some;
+      log_is = k.log_is;
     }
 
 pub roomier_run : (s : MachineState) (v : MachineView) (events : List Event) (ys : List Entry) (room : ℕ) → Seen s v

@@ -13,6 +13,7 @@ use Rattle.option_set.specs.declared.kinds.Num.TheVariants as num
 use Rattle.option_set.specs.declared.setting.Assigned.{Assigned}
 use Rattle.machine_core.specs.Answers.{applied_by, applied_in, call_answer}
 use Rattle.machine_core.specs.Choices.{mirror_urls, options_now}
+pub use Rattle.machine_core.specs.KeptQueues.{add_call}
 use Rattle.machine_core.specs.MachineParts.{IsHalted, KeepsRun, MachineState, added_as, kept_room}
 use Rattle.machine_core.specs.OwnParts.{is_shutdown}
 use Rattle.machine_core.specs.Replays.{Replay, after_call, has_active, next_gid, with_settings}
@@ -91,10 +92,6 @@ IsEntryAdded None download place old new = (x : Entry) × (new ≡ old ++ x ∷ 
 IsEntryAdded (Some refused) download place old new = new ≡ old
 
 -- ---- a call
-
--- the call of the queue by which a download of these options is added
-abbrev pub add_call : Gid → OptionValues → Option ℕ → QueueCall
-add_call gid options position = Add gid options (not (number_value options num.Pause == 0)) position
 
 -- a download of this subject is added, or refused. `gids` is what gids are made from, `place` the place of the call
 pub record IsAddition (gids place : ℕ) (global : OptionValues) (subject : Subject) (settings : List Assigned)

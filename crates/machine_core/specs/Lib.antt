@@ -13,6 +13,7 @@ pub mod WorkedRuns
 pub mod WorkedAnswers
 pub mod Journals
 pub mod MachineViews
+pub mod KeptQueues
 pub mod MachineParts
 pub mod CallParts
 pub mod Reads
@@ -24,3 +25,6 @@ pub mod KeptOffers
 pub mod Claiming
 pub mod Done
 pub mod RunSteps
+pub mod Notices
+pub mod WorkedNotices
+pub mod NoticeLogs

@@ -20,11 +20,14 @@ use Rattle.machine_core.specs.Replays.{Replay, replay_of}
 use Rattle.machine_core.specs.RunLegal.{IsLegal, download_in, is_left, is_stop, known_lengths, mirrors_by, next_number, tries_in}
 use Rattle.machine_core.specs.Starts.{RunStart, Download, Subject, Listed, Unlisted}
 use Rattle.machine_core.specs.Wanted.{wanted_pieces}
+pub use Rattle.machine_core.specs.KeptQueues.{KeepsQueue, added_as}
+use Rattle.machine_core.specs.NoticeLogs.{KeepsLogged}
 use Rattle.machine_core.specs.declared.calls.Call.{Call}
 use Rattle.machine_core.specs.declared.calls.Call.TheVariants.{AddUri, AddTorrent}
 use Rattle.machine_core.specs.declared.entries.Entry.{Entry}
 use Rattle.machine_core.specs.declared.events.Event.{Event}
 use Rattle.machine_core.specs.declared.events.Event.TheVariants.{Called}
+use Rattle.machine_core.specs.declared.notice_log.NoticeLog.{NoticeLog}
 
 -- ---- one download
 
@@ -74,17 +77,6 @@ AreAddedAt events downloads entries =
     → slice_get entries i ≡ Some entry
     → option_and_then subject_of_event (slice_get events entry.called) ≡ Some download.subject
 
--- ---- the queue
-
-abbrev pub added_as : Download → Added
-added_as download = record { gid = download.gid; options = download.options }
-
-pub record KeepsQueue (replay : Replay) (queue : QueueLists) (global : OptionValues) (shut : Bool) : Type 0 where
-  pub queue_is : queue ≡ replay.queue
-  pub global_is : global ≡ replay.global
-  pub shut_is : shut ≡ replay.shut
-  pub added : replay.queue.added ≡ map added_as replay.downloads
-
 -- ---- claims
 
 -- the gid of each claim's download stands at the claim's number, and is of a download
@@ -118,6 +110,7 @@ pub record MachineState : Type 0 where
   pub entries : List Entry
   pub homes : List Gid
   pub room : ℕ  -- for how many more events
+  pub log : NoticeLog
 
 pub record KeepsRun (past : List Event) (s : MachineState) : Type 0 where
   pub legal : IsLegal s.start past
@@ -128,6 +121,7 @@ pub record KeepsRun (past : List Event) (s : MachineState) : Type 0 where
   pub homes : KeepsHomes s.start past s.homes
   pub ends : KeepsEnds past s.left s.stopped
   pub room_is : kept_room s.start.doors s.left s.stopped ≤ s.room
+  pub log_is : KeepsLogged s.start s.events s.log
 
 -- ---- a halt of downloads
 

@@ -59,7 +59,7 @@ fn judged(fault: QueueErr) -> Result<QueueErr, AllocError>
 }
 
 // Adds a download to the queue, or tells why it is refused. After an Err the queue is as before.
-fn add_to_queue(
+pub(crate) fn add_to_queue(
     queue: &mut Queue,
     gid: Gid,
     options: Options,
@@ -78,7 +78,7 @@ fn add_to_queue(
     }
 }
 
-fn is_paused(options: &Options) -> bool
+pub(crate) fn is_paused(options: &Options) -> bool
     ensures { result ≡ not (number_value options.now Pause == 0) }
 {
     options.number(Num::Pause) != 0

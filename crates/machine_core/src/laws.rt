@@ -1,8 +1,10 @@
 // What holds of every legal history of a run.
 ghost use Rattle.machine_core.specs.MachineViews.{NoneGoes, PlacesAreBehind, PlacesStay};
+ghost use Rattle.machine_core.specs.Notices.{NoneIsDueAtEnd, NoticesGoOn, UptoIsWithin, WithinStays};
 ghost use Rattle.machine_core.specs.RunLegal.{DownloadsAreLegal, DownloadsStay, KnownAreIdle, LengthsStay};
 ghost use Rattle.machine_core.specs.RunSteps.{AccountsMatchRuns, OpenedHavePlans, StepsStayLegal};
 ghost use Rattle.machine_core.specs.WorkedAnswers.{WorkedAnswers};
+ghost use Rattle.machine_core.specs.WorkedNotices.{WorkedNotices};
 ghost use Rattle.machine_core.specs.WorkedRuns.{WorkedRuns};
 ghost use Rattle.std.specs.Prelude.{◌≡◌};
 ghost use Rattle.machine_core.specs.declared.gids.TheConstants.{GID_STEP};
@@ -67,6 +69,20 @@ pub fn worked_runs_are_told()
 /// What the definitions say of the answers of calls in worked runs.
 pub fn worked_answers_are_told()
     ensures { WorkedAnswers }
+{}
+
+/// What is told of notices from a place on, and then what is due from there, is what was due from the place and what came
+/// since, whatever events came; and the place behind what is told is within the history, as it stays.
+pub fn notices_go_on()
+    ensures on { NoticesGoOn }
+    ensures upto { UptoIsWithin }
+    ensures stays { WithinStays }
+    ensures end { NoneIsDueAtEnd }
+{}
+
+/// What the definitions say of the notices of worked runs.
+pub fn worked_notices_are_told()
+    ensures { WorkedNotices }
 {}
 
 /// The events that a turn needs room for, and what a made GID is multiplied by. It does nothing when it runs.

@@ -16,6 +16,7 @@ mod done;
 mod ends;
 mod entries;
 mod events;
+mod following;
 mod gids;
 mod halts;
 mod handed;
@@ -23,12 +24,16 @@ mod journal;
 mod keyed;
 mod laws;
 mod machine;
+mod notice_log;
+mod notices;
+mod noting;
 mod offers;
 mod opening;
 mod pausing;
 mod plain;
 mod rests;
 mod spares;
+mod telling;
 mod wants;
 
 pub use applied::Applied;
@@ -41,8 +46,10 @@ pub use handed::{Handed, HandedPieces};
 pub use journal::{Journal, MAX_BEFORE_TURN, MAX_EVENTS, TURN_EVENTS};
 pub use laws::{
     accounts_match_runs, downloads_are_legal, downloads_stay, known_downloads_are_idle,
-    limits_are_told, steps_stay_legal, worked_answers_are_told, worked_runs_are_told,
+    limits_are_told, notices_go_on, steps_stay_legal, worked_answers_are_told,
+    worked_notices_are_told, worked_runs_are_told,
 };
 pub use machine::Machine;
+pub use notices::{Cursor, MOST_NOTICES, Notice, NoticeKind, Notices};
 pub use offers::{Offer, Offered};
 pub use wants::{payload_folder, payload_name, wants_stay};

@@ -20,6 +20,7 @@ ghost use Rattle.machine_core.specs.declared.journal.TheConstants.{MAX_BEFORE_TU
 use crate::calling::apply;
 use crate::entries::Entry;
 use crate::halts::halt_all;
+use crate::notice_log::NoticeLog;
 use crate::rests::is_at_rest;
 use crate::spares::reserve_marks;
 use crate::{Applied, Call, End, Event, Journal, MAX_BEFORE_TURN, TURN_EVENTS};
@@ -36,7 +37,7 @@ use std::marker::Model;
 /// A run: what happened, and what is kept of its queue and of each download.
 #[derive(Drop)]
 pub struct Machine {
-    gids: u64,
+    pub(crate) gids: u64,
     // The global options at the start, and as they are now.
     first: Options,
     global: Options,
@@ -50,6 +51,8 @@ pub struct Machine {
     // The gid of the download of each claim, by its number.
     pub(crate) homes: Vec<Gid>,
     pub(crate) journal: Journal,
+    // The notices of its first events.
+    pub(crate) log: NoticeLog,
 }
 
 impl Model for Machine {
@@ -78,6 +81,7 @@ impl Model for Machine {
       entries = m.entries.items;
       homes = m.homes.items;
       room = room_in m.journal;
+      log = m.log;
     } };
 }
 
@@ -99,6 +103,7 @@ impl Machine {
         let mut journal = Journal::new(alloc);
         journal.reserve(doors as usize + 1)?;
         let limit = global.number(Num::MaxConcurrentDownloads) as u16;
+        let log = NoticeLog::new(alloc, &global)?;
         Ok(Machine {
             gids,
             first: global.copy(alloc)?,
@@ -111,6 +116,7 @@ impl Machine {
             entries: Vec::new(alloc),
             homes: Vec::new(alloc),
             journal,
+            log,
         })
     }
 

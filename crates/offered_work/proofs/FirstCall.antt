@@ -109,6 +109,7 @@ module _ (at : TurnStart) where
     call_keeps (operation.Sized claim total now) events said is row = absurd cc
     call_keeps (operation.Seal gid sealed now) events said is row = absurd cc
     call_keeps operation.Pulse events said is row = absurd cc
+    call_keeps (operation.Notices from) events said is row = absurd cc
     call_keeps operation.Leave events said is row = absurd cc
     call_keeps (operation.Stop now) events said is row = absurd cc
 

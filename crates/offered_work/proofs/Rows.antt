@@ -273,6 +273,7 @@ module _ (counts : CountedAreTries) (at : TurnStart) (s : RunStanding) (sound : 
         none_keeps events void.1.0
     claim_row_keeps (operation.Seal gid sealed now) events said fed of row = seal_keeps gid sealed events said fed row
     claim_row_keeps operation.Pulse events said fed of row = absurd cc
+    claim_row_keeps (operation.Notices from) events said fed of row = absurd cc
     claim_row_keeps operation.Leave events said fed of row = absurd cc
     claim_row_keeps (operation.Stop now) events said fed of row = absurd cc
 

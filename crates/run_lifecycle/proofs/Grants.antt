@@ -110,6 +110,7 @@ row_none at s (operation.Seal gid sealed now) events answer other row =
     ⊎_elim (λ void. by_usual said.Void answer tt void.1)
     (λ settles. unless_starved said.Done settles.1.outcome answer tt settles.1.answer) row
 row_none at s operation.Pulse events answer other row = by_usual said.Idle answer tt row.1
+row_none at s (operation.Notices from) events answer other row = by_usual _ answer tt row.1
 row_none at s operation.Leave events answer other row = by_usual said.Done answer tt row.1
 row_none at s (operation.Stop now) events answer other row = unless_starved said.Done row.outcome answer tt row.answer
 

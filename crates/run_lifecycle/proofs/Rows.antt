@@ -475,6 +475,7 @@ row_brought at s (operation.Sized id total now) events said is =
 row_brought at s (operation.Seal gid sealed now) events said is =
     seal_row at s (operation.Seal gid sealed now) gid sealed now refl (gid_added at.start s.past gid) events said is
 row_brought at s operation.Pulse events said is = only at s operation.Pulse Idle events said is
+row_brought at s (operation.Notices from) events said is = only at s (operation.Notices from) _ events said is
 row_brought at s operation.Leave events said is =
     subst (AllBrought at s operation.Leave) (sym is.0) (left_brought at s operation.Leave (doors_left at.start s.past))
 row_brought at s (operation.Stop now) events said is = stop_row at s (operation.Stop now) events said is

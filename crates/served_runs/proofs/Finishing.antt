@@ -142,6 +142,7 @@ busy_row at s (operation.Sized claim total now) events said is =
     busy_claim at s claim (SizedRow at s total) (busy_sized at s total) events said is
 busy_row at s (operation.Seal gid sealed now) events said is = busy_seal at s gid sealed events said is
 busy_row at s operation.Pulse events said is = busy_only Idle refl events said is
+busy_row at s (operation.Notices from) events said is = ap ends_all is.1
 busy_row at s operation.Leave events said is = ap ends_all is.1
 busy_row at s (operation.Stop now) events said is = unless_starved Done is.outcome said refl is.answer
 

@@ -149,6 +149,7 @@ row_calm at s (operation.Sized id total now) events said work is =
     events said is
 row_calm at s (operation.Seal gid sealed now) events said work is = seal_calm at s gid sealed events said is
 row_calm at s operation.Pulse events said work is = absurd work
+row_calm at s (operation.Notices from) events said work is = absurd work
 row_calm at s operation.Leave events said work is = absurd work
 row_calm at s (operation.Stop now) events said work is = absurd work
 

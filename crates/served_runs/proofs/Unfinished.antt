@@ -161,6 +161,7 @@ row_stops at s (operation.Call session asked now) events said is there =
     one_stop_not (Called session asked at.now) is.saves refl (subst (λ (es : List Event). Contains es Stopped) is.cut there)
     (λ saved. ones_stop_not is.saves (saves_of_ones at is.those _ is.saves is.outcome is.saved) saved)
 row_stops at s operation.Pulse events said is there = none_stop events is.0 there
+row_stops at s (operation.Notices from) events said is there = none_stop events is.0 there
 row_stops at s operation.Leave events said is there =
     left_stop_not (doors_left at.start s.past) (subst (λ (es : List Event). Contains es Stopped) is.0 there)
 row_stops at s (operation.Next worker now) events said is there =

@@ -13,6 +13,7 @@ mod following;
 mod granting;
 mod jobs;
 mod landing;
+mod noticing;
 mod opening;
 mod run;
 mod saves;

@@ -12,7 +12,7 @@ use dl_disk::MemDisk;
 use dl_kinds::{Blob, Code, GID_DIGITS, Gid, GidKey, Mark, Moment, Run};
 use engine_core::Engine;
 use engine_turns::{FetchGrant, Grant, Operation, Said};
-use machine_core::{Call, Journal};
+use machine_core::{Call, Cursor, Journal};
 use option_set::{Options, Settings, read};
 use run_report::Reply;
 use std::alloc::Global;
@@ -111,6 +111,13 @@ fn operation_of(alloc: Global, words: &[&str], gid: Gid, now: Moment) -> Result<
         }
         ["stop"] => Operation::Stop { now },
         ["pulse"] => Operation::Pulse,
+        ["notices"] => Operation::Notices { from: None },
+        ["notices", event, nth] => Operation::Notices {
+            from: Some(Cursor {
+                event: event.parse::<u32>()?,
+                nth: nth.parse::<u32>()?,
+            }),
+        },
         [word, claim, number] => operation_of_claim(word, claim.parse::<u64>()?, number, now)?,
         _ => bail!("no operation"),
     })

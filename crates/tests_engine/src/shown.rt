@@ -3,7 +3,7 @@ use crate::letters;
 use anyhow::{Context, Result};
 use dl_kinds::Claim;
 use engine_turns::{FetchGrant, Grant, Said};
-use machine_core::{Call, End, Event, Journal};
+use machine_core::{Call, Cursor, End, Event, Journal, NoticeKind, Notices};
 use piece_table::Giver;
 use run_report::Reply;
 use std::alloc::Global;
@@ -46,6 +46,26 @@ fn shown_reply(alloc: Global, reply: &Reply) -> Result<String> {
     })
 }
 
+fn word_of_kind(kind: NoticeKind) -> &'static str {
+    match kind {
+        NoticeKind::Start => "start",
+        NoticeKind::Pause => "pause",
+        NoticeKind::Stop => "stop",
+        NoticeKind::Complete => "complete",
+        NoticeKind::Error => "error",
+    }
+}
+
+// What became of downloads, and up to which place that is told.
+fn shown_notices(alloc: Global, list: &Notices, upto: Cursor) -> Result<String> {
+    let mut text = String::from_str(alloc, if list.len() == 0 { "none " } else { "" })?;
+    for notice in list.as_slice() {
+        write!(text, "{} ", word_of_kind(notice.kind))?;
+    }
+    write!(text, "up to {}.{}", upto.event, upto.nth)?;
+    Ok(text)
+}
+
 // An answer without numbers.
 fn word_of(said: &Said) -> &'static str {
     match said {
@@ -68,6 +88,7 @@ pub fn shown_said(alloc: Global, said: &Said) -> Result<String> {
         }
         Said::Allow { bytes } => format!(in alloc; "{bytes} now")?,
         Said::Hold { ms } => format!(in alloc; "hold {ms}")?,
+        Said::Notices { list, upto } => shown_notices(alloc, list, *upto)?,
         other => String::from_str(alloc, word_of(other))?,
     })
 }

@@ -1,7 +1,7 @@
 // What is told of a step, and of the run after it.
 use crate::rig::{Rig, Taken, Work};
 use dl_kinds::{Gid, Mark, Run, Status};
-use machine_core::{Applied, End, Machine};
+use machine_core::{Applied, End, Machine, Notice, Notices};
 use rate_tokens::Take;
 use std::alloc::{AllocError, Global};
 
@@ -24,6 +24,8 @@ pub enum Answer {
     Dead(Option<Mark>),
     /// What a bucket lets go; none, where no claim stands.
     Let(Option<Take>),
+    /// What came of the downloads.
+    Told(Notices),
     /// No download has this key.
     NoDownload,
     /// There is nothing to tell.
@@ -122,6 +124,23 @@ fn push_take(text: &mut String, take: Option<Take>) -> Result<(), AllocError> {
     }
 }
 
+fn push_notice(text: &mut String, notice: Notice) -> Result<(), AllocError> {
+    if !text.is_empty() {
+        text.push_str(", ")?;
+    }
+    write!(text, "{:x} {:?}", digit(notice.gid), notice.kind)
+}
+
+fn push_notices(text: &mut String, notices: &Notices) -> Result<(), AllocError> {
+    for notice in notices.as_slice() {
+        push_notice(text, *notice)?;
+    }
+    if text.is_empty() {
+        text.push_str("none")?;
+    }
+    Ok(())
+}
+
 fn push_answer(text: &mut String, answer: Answer) -> Result<(), AllocError> {
     match answer {
         Answer::Came(came) => write!(text, "{came}"),
@@ -131,6 +150,7 @@ fn push_answer(text: &mut String, answer: Answer) -> Result<(), AllocError> {
         Answer::Clash(end) => push_clash(text, end),
         Answer::Dead(mark) => push_dead(text, mark),
         Answer::Let(take) => push_take(text, take),
+        Answer::Told(notices) => push_notices(text, &notices),
         Answer::NoDownload => text.push_str("no download"),
         Answer::Nothing => Ok(()),
     }

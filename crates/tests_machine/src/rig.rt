@@ -16,7 +16,9 @@ use crate::rates::as_rate;
 use bit_rows::BitRow;
 use control_file::Opened;
 use dl_kinds::{Code, Gid, Mark, Moment, Plan, Run};
-use machine_core::{Applied, Call, HandedPieces, Machine, Offer, Offered, downloads_stay};
+use machine_core::{
+    Applied, Call, Cursor, HandedPieces, Machine, Notices, Offer, Offered, downloads_stay,
+};
 use option_set::{Num, Options};
 use rate_limits::RateLimits;
 use std::alloc::{AllocError, Global};
@@ -30,6 +32,8 @@ pub struct Rig {
     pub(crate) now: Moment,
     // How many claims were granted.
     claims: u64,
+    // From where on notices weren't told yet.
+    untold: Cursor,
     ghost later: { IsLaterThan machine.past now },
 }
 
@@ -93,6 +97,7 @@ impl Rig {
             limits: RateLimits::new(alloc, rate, Moment(0)),
             now: Moment(0),
             claims: 0,
+            untold: Cursor { event: 0, nth: 0 },
         })
     }
 
@@ -111,6 +116,13 @@ impl Rig {
     /// How many claims were granted. They are numbered from 0.
     pub fn claims(&self) -> u64 {
         self.claims
+    }
+
+    /// The notices since those that were told, 64 at most.
+    pub fn notices(&mut self, alloc: Global) -> Result<Notices, AllocError> {
+        let (notices, upto) = self.machine.notices(alloc, self.untold)?;
+        self.untold = upto;
+        Ok(notices)
     }
 
     /// Time goes on.

@@ -148,6 +148,7 @@ fn of_run(alloc: Global, rig: &mut Rig, name: &str, words: &[&str]) -> Result<An
         "pass" => Ok(pass(rig, number(words, 0)?)),
         "clash-next" => Ok(Answer::Clash(rig.clash_next(alloc)?)),
         "stop" => Ok(Answer::Came(rig.stop())),
+        "notices" => Ok(Answer::Told(rig.notices(alloc)?)),
         _ => call_run(alloc, rig, name),
     }
 }

@@ -105,6 +105,7 @@ idle_asks at s (operation.Seal gid sealed now) events answer idle row =
     absurd (⊎_elim (λ void. unidle said.Void answer idle tt void.1)
     (λ settled. unless_idle said.Done answer settled.1.outcome idle tt settled.1.answer) row)
 idle_asks at s operation.Pulse events answer idle row = inr refl
+idle_asks at s (operation.Notices from) events answer idle row = absurd (unidle _ answer idle tt row.1)
 idle_asks at s operation.Leave events answer idle row = absurd (unidle said.Done answer idle tt row.1)
 idle_asks at s (operation.Stop now) events answer idle row =
     absurd (unless_idle said.Done answer row.outcome idle tt row.answer)

@@ -63,6 +63,7 @@ ungranted said.Idle answer granted is none same = (let no_way = sym is ∙ same 
 ungranted said.Done answer granted is none same = (let no_way = sym is ∙ same in cc)
 ungranted said.Finished answer granted is none same = (let no_way = sym is ∙ same in cc)
 ungranted (said.JournalFull count) answer granted is none same = (let no_way = sym is ∙ same in cc)
+ungranted (said.Notices list upto) answer granted is none same = (let no_way = sym is ∙ same in cc)
 ungranted said.NoMemory answer granted is none same = (let no_way = sym is ∙ same in cc)
 
 unless_granted : (usual answer : Said) (outcome : Outcome) (granted : Grant) → answer ≡ said.Grant granted → NoGrant
@@ -113,6 +114,8 @@ grant_is_next at s (operation.Seal gid sealed now) events answer granted is row 
     absurd (⊎_elim (λ void. ungranted said.Void answer granted is tt void.1)
     (λ settled. unless_granted said.Done answer settled.1.outcome granted is tt settled.1.answer) row)
 grant_is_next at s operation.Pulse events answer granted is row = absurd (ungranted said.Idle answer granted is tt
+    row.1)
+grant_is_next at s (operation.Notices from) events answer granted is row = absurd (ungranted _ answer granted is tt
     row.1)
 grant_is_next at s operation.Leave events answer granted is row = absurd (ungranted said.Done answer granted is tt
     row.1)

@@ -1,0 +1,12 @@
+use Rattle.std.proofs.Common.{sym}
+use Rattle.dl_queue.specs.Calls.{Remove}
+use Rattle.machine_core.proofs.Keys.{queue_found, queue_missed}
+use Rattle.machine_core.proofs.following.remove.Goals as goal
+
+pub returns-in-Ok : goal.returns-in-Ok
+returns-in-Ok c =
+    queue_found c.args.queue.now c.remove.new.self Remove c.args.key c.in-Ok.gid (sym c.in-Ok.ensures)
+    c.remove.ensures.state
+
+pub returns-in-Err : goal.returns-in-Err
+returns-in-Err c = queue_missed c.args.queue.now Remove c.args.key c.in-Err.field-0 (sym c.in-Err.ensures)
