@@ -12,11 +12,14 @@ use Rattle.rpc_envelope.specs.Turns.{Invoked}
 use Rattle.console_http.proofs.Calling.{CallsBetween, calls_both, calls_none}
 use Rattle.console_http.specs.Conversations.{CausesEnd, Conversation, Serves, conversation_of}
 use Rattle.console_http.specs.Readings.{DoorAt}
-use Rattle.console_http.specs.Sessions.{AskingAt, CallsAt}
+use Rattle.console_http.specs.Sessions.{AskingAt, CallsAt, SteppingAt}
 use Rattle.console_http.specs.Talks.{TalkStep}
-use Rattle.console_http.specs.Visits.{Visit, Waits, Welcomes, AsksDoor, EndsDoor, GainsTalks, HadConversation, HasAccepted, IsVisit, Keeps, KeepsDoor, KeepsToEnd, RoseBy, capped, failed_by, failed_in, faults_of_end, finds_end, starved_in, starved_of_end, turns_in}
+use Rattle.console_http.specs.Visits.{Visit, Waits, Welcomes, AsksDoor, EndsDoor, GainsTalks, HadConversation, HasAccepted, IsVisit, Keeps, KeepsDoor, KeepsToEnd, RoseBy, capped, failed_by, failed_by_socket, failed_in, faults_of_end, finds_end, starved_in, starved_of_end, turns_in}
 use Rattle.console_http.specs.declared.ends.ConnectionEnd.{ConnectionEnd}
-use Rattle.console_http.specs.declared.ends.ConnectionEnd.TheVariants.{AtItsEnd, HungUp, RunEnded, Failed, Starved}
+use Rattle.console_http.specs.declared.ends.ConnectionEnd.TheVariants.{AtItsEnd, HungUp, RunEnded, Failed, Starved, Socket}
+use Rattle.console_socket.specs.Sockets.{CausesSocketEnd}
+use Rattle.console_socket.specs.declared.ends.SocketEnd.{SocketEnd}
+use Rattle.console_socket.specs.declared.ends.SocketEnd.TheVariants.{Finished as SocketFinished, Closed as SocketClosed, Refused as SocketRefused, Broken as SocketBroken, Failed as SocketFailed, Starved as SocketStarved}
 use Rattle.console_http.specs.declared.ends.DoorEnd.{DoorEnd}
 use Rattle.console_http.specs.declared.ends.DoorEnd.TheVariants.{Closed, Finished, Fault, NoBuffers}
 use Rattle.console_http.specs.declared.keeping.DoorKept.{DoorKept}
@@ -30,12 +33,21 @@ rose_both : (m n k : ℕ) (before middle now : ℕ) → RoseBy m before middle �
     → RoseBy (m + n + k) before now
 rose_both m n k before middle now first then = omega (arith, first, then)
 
+rose_by_socket : (how : SocketEnd) (before now : ℕ) → CausesSocketEnd how before now → RoseBy (failed_by_socket how) before now
+rose_by_socket SocketFailed before now cause = cause
+rose_by_socket SocketFinished before now same = rose_none before now same
+rose_by_socket SocketClosed before now same = rose_none before now same
+rose_by_socket SocketRefused before now same = rose_none before now same
+rose_by_socket SocketBroken before now same = rose_none before now same
+rose_by_socket SocketStarved before now same = rose_none before now same
+
 rose_by : (end : ConnectionEnd) (before now : ℕ) → CausesEnd end before now → RoseBy (failed_by end) before now
 rose_by Failed before now cause = cause
 rose_by AtItsEnd before now same = rose_none before now same
 rose_by HungUp before now same = rose_none before now same
 rose_by RunEnded before now same = rose_none before now same
 rose_by Starved before now same = rose_none before now same
+rose_by (Socket how) before now cause = rose_by_socket how before now cause
 
 -- ---- connections
 
@@ -62,10 +74,10 @@ gains_one steps end visits connection old middle new had one gains = record {
 }
 
 module _ (newest_is_one : NewestIsOne) {S T A : Type 0} (at : CallsAt S T)
-    (asks : AskingAt S T) (says : DoorSays A) (most : ℕ) where
+    (asks : AskingAt S T) (moves : SteppingAt S T) (says : DoorSays A) (most : ℕ) where
   -- the calls of these visits, the connections gained in them, and their faults
   record ComesTo (visits : List Visit) (end : DoorEnd) (a b : DoorAt S T A) : Type 0 where
-    extends : CallsBetween at asks says a b (turns_in visits)
+    extends : CallsBetween at asks moves says a b (turns_in visits)
     told : IsTrue says.tells → GainsTalks visits (says.state a.door) (says.state b.door)
     faults : RoseBy (failed_in visits + faults_of_end end) (says.faults a.door) (says.faults b.door)
     -- the buffers were made
@@ -73,15 +85,15 @@ module _ (newest_is_one : NewestIsOne) {S T A : Type 0} (at : CallsAt S T)
 
   -- ---- the end
 
-  ends_to : (end : DoorEnd) (a b : DoorAt S T A) → EndsDoor at asks says most end a b → ComesTo [] end a b
+  ends_to : (end : DoorEnd) (a b : DoorAt S T A) → EndsDoor at asks moves says most end a b → ComesTo [] end a b
   ends_to Closed a b ends = record {
-    extends = calls_none at asks says a b ends.stays;
+    extends = calls_none at asks moves says a b ends.stays;
     told = λ told. gains_none _ _ (ap (λ (s : DoorState). s.connections) (ends.told told));
     faults = rose_none _ _ ends.faults;
     buffered = λ e. cc;
   }
   ends_to (Fault count) a b ends = record {
-    extends = calls_none at asks says a b ends.0;
+    extends = calls_none at asks moves says a b ends.0;
     told = λ told. gains_none _ _ (ap (λ (s : DoorState). s.connections) (ends.1.told told));
     faults = ends.1.cause;
     buffered = λ e. cc;
@@ -91,7 +103,7 @@ module _ (newest_is_one : NewestIsOne) {S T A : Type 0} (at : CallsAt S T)
 
   stops_to : (a : DoorAt S T A) → ComesTo [] Finished a a
   stops_to a = record {
-    extends = calls_none at asks says a a (record { session = refl; desk = refl });
+    extends = calls_none at asks moves says a a (record { session = refl; desk = refl });
     told = λ _. gains_none _ _ refl;
     faults = rose_none _ _ refl;
     buffered = λ e. cc;
@@ -99,17 +111,17 @@ module _ (newest_is_one : NewestIsOne) {S T A : Type 0} (at : CallsAt S T)
 
   -- ---- one visit
 
-  waits_to : (visits : List Visit) (end : DoorEnd) (a m b : DoorAt S T A) → IsVisit at asks says most Waits a m
+  waits_to : (visits : List Visit) (end : DoorEnd) (a m b : DoorAt S T A) → IsVisit at asks moves says most Waits a m
       → ComesTo visits end m b → ComesTo (Waits ∷ visits) end a b
   waits_to visits end a m b is then = record {
-    extends = calls_both at asks says a m b [] (turns_in visits) (calls_none at asks says a m is.0) then.extends;
+    extends = calls_both at asks moves says a m b [] (turns_in visits) (calls_none at asks moves says a m is.0) then.extends;
     told = λ told. gains_waiting visits _ _ _ (is.1.told told) (then.told told);
     faults = subst (λ n. RoseBy (failed_in visits + faults_of_end end) n (says.faults b.door)) is.1.faults then.faults;
     buffered = then.buffered;
   }
 
-  had : (steps : List TalkStep) (end : ConnectionEnd) (a m k b : DoorAt S T A) → HasAccepted at asks says most Somebody a m
-      → Serves at asks says most steps end m b → (told : IsTrue says.tells)
+  had : (steps : List TalkStep) (end : ConnectionEnd) (a m k b : DoorAt S T A) → HasAccepted at asks moves says most Somebody a m
+      → Serves at asks moves says most steps end m b → (told : IsTrue says.tells)
       → (connection : Connection) × HadConversation end (conversation_of steps) connection
       × ((says.state b.door).connections ≡ (says.state a.door).connections ++ connection ∷ [])
   had steps end a m k b accepted serves told =
@@ -125,14 +137,14 @@ module _ (newest_is_one : NewestIsOne) {S T A : Type 0} (at : CallsAt S T)
       )
 
   welcomes_to : (steps : List TalkStep) (how : ConnectionEnd) (visits : List Visit) (end : DoorEnd) (a m b : DoorAt S T A)
-      → IsVisit at asks says most (Welcomes steps how) a m → ComesTo visits end m b → ComesTo (Welcomes steps how ∷ visits) end a b
+      → IsVisit at asks moves says most (Welcomes steps how) a m → ComesTo visits end m b → ComesTo (Welcomes steps how ∷ visits) end a b
   welcomes_to steps how visits end a m b (k, accepted, serves) then =
       let turns : List Invoked = (conversation_of steps).turns in
-      let mine = calls_both at asks says a k m [] turns (calls_none at asks says a k accepted.stays) serves.extends in
+      let mine = calls_both at asks moves says a k m [] turns (calls_none at asks moves says a k accepted.stays) serves.extends in
       let rose = rose_by how _ _ serves.cause in
       let begun = subst (λ n. RoseBy (failed_by how) n (says.faults m.door)) accepted.faults rose in
       record {
-        extends = calls_both at asks says a m b turns (turns_in visits) mine then.extends;
+        extends = calls_both at asks moves says a m b turns (turns_in visits) mine then.extends;
         told = λ told.
             let one = had steps how a k k m accepted serves told in
             gains_one steps how visits one.0 _ _ _ one.1 one.2 (then.told told);
@@ -141,14 +153,14 @@ module _ (newest_is_one : NewestIsOne) {S T A : Type 0} (at : CallsAt S T)
       }
 
   visit_to : (visit : Visit) (visits : List Visit) (end : DoorEnd) (a m b : DoorAt S T A)
-      → IsVisit at asks says most visit a m → ComesTo visits end m b → ComesTo (visit ∷ visits) end a b
+      → IsVisit at asks moves says most visit a m → ComesTo visits end m b → ComesTo (visit ∷ visits) end a b
   visit_to Waits visits end a m b is then = waits_to visits end a m b is then
   visit_to (Welcomes steps how) visits end a m b is then = welcomes_to steps how visits end a m b is then
 
   asks_to : (finished : Bool) (visits : List Visit) (end : DoorEnd) (m n b : DoorAt S T A)
-      → AsksDoor at asks says most finished m n → ComesTo visits end n b → ComesTo visits end m b
+      → AsksDoor at asks moves says most finished m n → ComesTo visits end n b → ComesTo visits end m b
   asks_to finished visits end m n b asked then = record {
-    extends = calls_both at asks says m n b [] (turns_in visits) asked.asks_session.extends then.extends;
+    extends = calls_both at asks moves says m n b [] (turns_in visits) asked.asks_session.extends then.extends;
     told = λ told. subst (λ d. GainsTalks visits (says.state d) (says.state b.door)) asked.door (then.told told);
     faults = subst (λ d. RoseBy (failed_in visits + faults_of_end end) (says.faults d) (says.faults b.door)) asked.door then.faults;
     buffered = then.buffered;
@@ -161,8 +173,8 @@ module _ (newest_is_one : NewestIsOne) {S T A : Type 0} (at : CallsAt S T)
 
   abbrev GoesOnFrom : List Visit → DoorEnd → DoorAt S T A → DoorAt S T A → Type 0
   GoesOnFrom visits end m b =
-      (n : DoorAt S T A) × (finished : Bool) × AsksDoor at asks says most finished m n
-      × MatchBool finished (Stops visits end n b) (Keeps at asks says most visits end n b)
+      (n : DoorAt S T A) × (finished : Bool) × AsksDoor at asks moves says most finished m n
+      × MatchBool finished (Stops visits end n b) (Keeps at asks moves says most visits end n b)
 
   stopped : (visits : List Visit) (end : DoorEnd) (m b : DoorAt S T A) → Stops visits end m b → ComesTo visits end m b
   stopped visits end m b is =
@@ -170,14 +182,14 @@ module _ (newest_is_one : NewestIsOne) {S T A : Type 0} (at : CallsAt S T)
       (subst (λ others. ComesTo others end m m) (sym is.0) (subst (λ e. ComesTo [] e m m) (sym is.1) (stops_to m)))
 
   stops_or_goes : (finished : Bool) (visits : List Visit) (end : DoorEnd) (n b : DoorAt S T A)
-      → MatchBool finished (Stops visits end n b) (Keeps at asks says most visits end n b)
-      → (Keeps at asks says most visits end n b → ComesTo visits end n b) → ComesTo visits end n b
+      → MatchBool finished (Stops visits end n b) (Keeps at asks moves says most visits end n b)
+      → (Keeps at asks moves says most visits end n b → ComesTo visits end n b) → ComesTo visits end n b
   stops_or_goes true visits end n b stops on = stopped visits end n b stops
   stops_or_goes false visits end n b goes on = on goes
 
   behind : (visit : Visit) (visits : List Visit) (end : DoorEnd) (m b : DoorAt S T A)
       → MatchBool (finds_end visit) (Stops visits end m b) (GoesOnFrom visits end m b)
-      → ((n : DoorAt S T A) → Keeps at asks says most visits end n b → ComesTo visits end n b) → ComesTo visits end m b
+      → ((n : DoorAt S T A) → Keeps at asks moves says most visits end n b → ComesTo visits end n b) → ComesTo visits end m b
   behind visit visits end m b then on = elim (cases_Bool (finds_end visit)) [
     | inl found ↦
         stopped visits end m b (MatchBool-at_true (Stops visits end m b) (GoesOnFrom visits end m b) found then)
@@ -186,21 +198,21 @@ module _ (newest_is_one : NewestIsOne) {S T A : Type 0} (at : CallsAt S T)
         asks_to goes.1 visits end m goes.0 b goes.2 (stops_or_goes goes.1 visits end goes.0 b goes.3 (on goes.0))
   ]
 
-  comes_to : (visits : List Visit) (end : DoorEnd) (a b : DoorAt S T A) → Keeps at asks says most visits end a b
+  comes_to : (visits : List Visit) (end : DoorEnd) (a b : DoorAt S T A) → Keeps at asks moves says most visits end a b
       → ComesTo visits end a b
   comes_to [] end a b ends = ends_to end a b ends
   comes_to (visit ∷ visits) end a b (m, is, then) =
       visit_to visit visits end a m b is (behind visit visits end m b then (λ n keeps. comes_to visits end n b keeps))
 
-  kept_to_end : (visits : List Visit) (end : DoorEnd) (a b : DoorAt S T A) → Keeps at asks says most visits end a b
-      → (end ≡ NoBuffers → ⊥) → KeepsToEnd at asks says most visits end a b × (starved_of_end end ≡ 0)
+  kept_to_end : (visits : List Visit) (end : DoorEnd) (a b : DoorAt S T A) → Keeps at asks moves says most visits end a b
+      → (end ≡ NoBuffers → ⊥) → KeepsToEnd at asks moves says most visits end a b × (starved_of_end end ≡ 0)
   kept_to_end visits Closed a b keeps buffered = (keeps, refl)
   kept_to_end visits Finished a b keeps buffered = (keeps, refl)
   kept_to_end visits (Fault count) a b keeps buffered = (keeps, refl)
   kept_to_end visits NoBuffers a b keeps buffered = absurd (buffered refl)
 
-  pub keeps_door : (visits : List Visit) (kept : DoorKept) (a b : DoorAt S T A) → Keeps at asks says most visits kept.end a b
-      → kept.starved ≡ capped (starved_in visits) → KeepsDoor at asks says most visits kept a b
+  pub keeps_door : (visits : List Visit) (kept : DoorKept) (a b : DoorAt S T A) → Keeps at asks moves says most visits kept.end a b
+      → kept.starved ≡ capped (starved_in visits) → KeepsDoor at asks moves says most visits kept a b
   keeps_door visits kept a b keeps counted =
       let comes = comes_to visits kept.end a b keeps in
       let ends = kept_to_end visits kept.end a b keeps comes.buffered in

@@ -1,6 +1,7 @@
 mod Sending
 mod WritingLemmas
 mod Steps
+mod Plain
 mod Waiting
 mod Outcomes
 mod Showing

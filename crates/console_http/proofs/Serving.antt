@@ -11,25 +11,26 @@ use Rattle.console_http.proofs.Outcomes.{outcome}
 use Rattle.console_http.proofs.Showing.{IsNewest, shows}
 use Rattle.console_http.specs.Conversations.{ClosesConnection, CausesEnd, HadTalk, HasMet, Serves, conversation_of}
 use Rattle.console_http.specs.Readings.{Reading, DoorAt, console_at, fresh_reading}
-use Rattle.console_http.specs.Sessions.{AskingAt, CallsAt}
+use Rattle.console_http.specs.Sessions.{AskingAt, CallsAt, SteppingAt}
 use Rattle.console_http.specs.Talks.{TalkStep, Talks}
+use Rattle.console_http.specs.Upgrading.{NoUpgradeStays}
 use Rattle.console_http.specs.declared.ends.ConnectionEnd.{ConnectionEnd}
 
-module _ (stays : RequestStays) (within : RequestIsWithin) (newest_is_one : NewestIsOne) {S T A : Type 0}
-    (at : CallsAt S T) (asks : AskingAt S T) (says : DoorSays A) where
+module _ (stays : RequestStays) (within : RequestIsWithin) (plain_stays : NoUpgradeStays) (newest_is_one : NewestIsOne) {S T A : Type 0}
+    (at : CallsAt S T) (asks : AskingAt S T) (moves : SteppingAt S T) (says : DoorSays A) where
   had_talk : (steps : List TalkStep) (end : ConnectionEnd) (most : ℕ) (a closing : DoorAt S T A)
       → (IsTrue says.tells → HasMet (says.state a.door))
-      → Talks at asks says steps end (console_at a.session a.desk a.door (fresh_reading most)) closing → IsTrue says.tells
+      → Talks at asks moves says steps end (console_at a.session a.desk a.door (fresh_reading most)) closing → IsTrue says.tells
       → HadTalk end (conversation_of steps) (says.state a.door) (says.state closing.door)
   had_talk steps end most a closing met_one talks told =
       let one = met_one told in
       let newest : IsNewest (met one.whole) (says.state a.door) =
       record { earlier = one.earlier; stands = one.connections; rest = one.whole; front = refl } in
-      let grows = shows newest_is_one at asks says told steps end _ closing (met one.whole) newest talks in
+      let grows = shows newest_is_one at asks moves says told steps end _ closing (met one.whole) newest talks in
       record { whole = one.whole; becomes = grows.becomes; rest = grows.rest; front = grows.front; all = grows.all }
 
-  closed_calls : (steps : List TalkStep) (a closing b : DoorAt S T A) → ClosesConnection at asks says closing b
-      → CallsBetween at asks says a closing (conversation_of steps).turns → CallsBetween at asks says a b (conversation_of steps).turns
+  closed_calls : (steps : List TalkStep) (a closing b : DoorAt S T A) → ClosesConnection at asks moves says closing b
+      → CallsBetween at asks moves says a closing (conversation_of steps).turns → CallsBetween at asks moves says a b (conversation_of steps).turns
   closed_calls steps a closing b closes calls =
       let turns : List Invoked = (conversation_of steps).turns in
       subst (λ s. Extends (at a.session a.desk) (at s b.desk) turns) (sym closes.session)
@@ -37,18 +38,18 @@ module _ (stays : RequestStays) (within : RequestIsWithin) (newest_is_one : Newe
 
   pub serves : (steps : List TalkStep) (end : ConnectionEnd) (most : ℕ) (reading : Reading) (a closing b : DoorAt S T A)
       → (IsTrue says.tells → HasMet (says.state a.door)) → reading ≡ fresh_reading most
-      → Talks at asks says steps end (console_at a.session a.desk a.door reading) closing
-      → (closes : ClosesConnection at asks says closing b) → Serves at asks says most steps end a b
+      → Talks at asks moves says steps end (console_at a.session a.desk a.door reading) closing
+      → (closes : ClosesConnection at asks moves says closing b) → Serves at asks moves says most steps end a b
   serves steps end most reading a closing b met_one fresh talks closes =
-      let begun : Talks at asks says steps end (console_at a.session a.desk a.door (fresh_reading most)) closing =
-      subst (λ r. Talks at asks says steps end (console_at a.session a.desk a.door r) closing) fresh talks in
+      let begun : Talks at asks moves says steps end (console_at a.session a.desk a.door (fresh_reading most)) closing =
+      subst (λ r. Talks at asks moves says steps end (console_at a.session a.desk a.door r) closing) fresh talks in
       record {
         closing = closing;
         talks = begun;
         closes = closes;
-        served = outcome stays within at asks says steps end _ closing begun;
-        extends = closed_calls steps a closing b closes (calls_of_talk at asks says steps end _ closing begun);
+        served = outcome stays within plain_stays at asks moves says steps end _ closing begun;
+        extends = closed_calls steps a closing b closes (calls_of_talk at asks moves says steps end _ closing begun);
         told = had_talk steps end most a closing met_one begun;
         cause = subst (λ n. CausesEnd end (says.faults a.door) n) (sym closes.faults)
-            (causes_of_talk at asks says steps end _ closing begun);
+            (causes_of_talk at asks moves says steps end _ closing begun);
       }

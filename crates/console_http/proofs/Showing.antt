@@ -8,16 +8,18 @@ use Rattle.door_source.specs.DoorLaws.{NewestIsOne}
 use Rattle.door_source.specs.Doors.{Connection, DoorState, Becomes}
 use Rattle.door_source.specs.declared.Doors.{Ghosts as DoorSays}
 use Rattle.request_stream.specs.Requests.{Request, is_last}
-use Rattle.rpc_envelope.specs.Turns.{Invoked, outcomes_in}
+use Rattle.rpc_envelope.specs.Turns.{BeginsWith, Invoked, outcomes_in}
 use Rattle.console_http.specs.Answering.{CausesBreak}
 use Rattle.console_http.specs.Conversations.{Conversation, conversation_of, with_step}
 use Rattle.console_http.specs.Readings.{DoorAt, ConsoleAt}
 use Rattle.console_http.specs.Receiving.{GivesOut, GivesPart, HearsAll, TakesIn}
 use Rattle.console_http.specs.Responding.{response_to}
-use Rattle.console_http.specs.Sessions.{AskingAt, CallsAt}
-use Rattle.console_http.specs.Talks.{TalkStep, Hears, Answers, AsksRun, Begins, EndsHere, IsAnswering, Talks}
+use Rattle.console_http.specs.Sessions.{AskingAt, CallsAt, SteppingAt}
+use Rattle.console_http.specs.Talks.{TalkStep, Hears, Answers, AsksRun, Begins, Upgrades, EndsHere, IsAnswering, Talks}
 use Rattle.console_http.specs.declared.ends.ConnectionEnd.{ConnectionEnd}
-use Rattle.console_http.specs.declared.ends.ConnectionEnd.TheVariants.{AtItsEnd, HungUp, RunEnded, Failed, Starved}
+use Rattle.console_http.specs.declared.ends.ConnectionEnd.TheVariants.{AtItsEnd, HungUp, RunEnded, Failed, Starved, Socket}
+use Rattle.console_socket.specs.Sockets.{GainsBytes, GainsTalk, SocketTalk}
+use Rattle.console_socket.specs.declared.ends.SocketEnd.{SocketEnd}
 
 -- so much was received and sent behind what a connection had before
 abbrev pub grown : Connection → List ℕ → List ℕ → Connection
@@ -165,19 +167,50 @@ module _ (newest_is_one : NewestIsOne) where
       let P : List ℕ → Type 0 = λ bytes. Grows c end [] (bytes ++ []) s t in
       subst P (sym none.0) (grows_no_more c end s t newest none.1 other)
 
-  module _ {S T A : Type 0} (at : CallsAt S T) (asks : AskingAt S T) (says : DoorSays A)
+  -- a WebSocket received and sent this, behind what the connection had before
+  gained : (c : Connection) (received sent : List ℕ) (s t : DoorState) → IsNewest c s → GainsBytes received sent s t
+      → (end : ConnectionEnd) → (end ≡ AtItsEnd → ⊥) → Grows c end received sent s t
+  gained c received sent s t newest gains end other =
+      let next : Connection = gains.newest in
+      let same = (newest_is_one next (grown next received sent) c newest.earlier s t gains.becomes newest.stands).0 in
+      let P : Connection → Type 0 = λ d. Becomes d (grown d received sent) s t × (BeginsWith d.whole d.received → BeginsWith d.whole (d.received ++ received)) in
+      let is = subst P same (gains.becomes, gains.next) in
+      let more = is.1 (newest.rest, newest.front) in
+      record {
+        becomes = is.0;
+        rest = more.0;
+        front = more.1;
+        all = λ e. absurd (other e);
+      }
+
+  socket_shows : (c : Connection) (end : ConnectionEnd) (talk : SocketTalk) (s t : DoorState) → IsNewest c s
+      → GainsTalk talk s t → (end ≡ AtItsEnd → ⊥) → Grows c end (talk.received ++ []) (talk.sent ++ []) s t
+  socket_shows c end talk s t newest gains other =
+      let P : List ℕ → Type 0 = λ received. Grows c end received (talk.sent ++ []) s t in
+      let Q : List ℕ → Type 0 = λ sent. Grows c end talk.received sent s t in
+      subst P (sym (append-nil talk.received)) (subst Q (sym (append-nil talk.sent)) (by gains))
+    where
+      by : GainsTalk talk s t → Grows c end talk.received talk.sent s t
+      by (inl gains) = gained c talk.received talk.sent s t newest gains end other
+      by (inr (unheard, unsaid, still)) =
+          let P : List ℕ → Type 0 = λ received. Grows c end received talk.sent s t in
+          let Q : List ℕ → Type 0 = λ sent. Grows c end [] sent s t in
+          subst P (sym unheard) (subst Q (sym unsaid) (grows_no_more c end s t newest still other))
+
+  module _ {S T A : Type 0} (at : CallsAt S T) (asks : AskingAt S T) (moves : SteppingAt S T) (says : DoorSays A)
       (told : IsTrue says.tells) where
     abbrev pub Shows : Connection → ConnectionEnd → Conversation → A → A → Type 0
     Shows c end talk old new = Grows c end talk.received talk.sent (says.state old) (says.state new)
 
     quiet : (end : ConnectionEnd) (a : ConsoleAt S T A) (b : DoorAt S T A) (c : Connection)
-        → IsNewest c (says.state a.place.door) → EndsHere at asks says end a b
+        → IsNewest c (says.state a.place.door) → EndsHere at asks moves says end a b
         → Grows c end [] [] (says.state a.place.door) (says.state b.door)
     quiet AtItsEnd a b c newest here = hears_all c _ _ newest (here.2.told told)
     quiet Failed a b c newest here = grows_no_more c Failed _ _ newest (here.2.told told) (λ e. cc)
     quiet Starved a b c newest here = grows_no_more c Starved _ _ newest (here.1.told told) (λ e. cc)
     quiet HungUp a b c newest here = absurd here
     quiet RunEnded a b c newest here = absurd here
+    quiet (Socket how) a b c newest here = absurd here
 
     -- the connection ends behind the last step
     abbrev LastOf : List TalkStep → ConnectionEnd → ConnectionEnd → ConsoleAt S T A → DoorAt S T A → Type 0
@@ -194,9 +227,9 @@ module _ (newest_is_one : NewestIsOne) where
 
     answers_show : (request : Request) (turns : List Invoked) (steps : List TalkStep) (end : ConnectionEnd)
         (a m : ConsoleAt S T A) (b : DoorAt S T A) (c : Connection) → IsNewest c (says.state a.place.door)
-        → IsAnswering at asks says request turns a m
-        → MatchBool (is_last request) (LastOf steps end HungUp m b) (Talks at asks says steps end m b)
-        → ((d : Connection) → IsNewest d (says.state m.place.door) → Talks at asks says steps end m b
+        → IsAnswering at asks moves says request turns a m
+        → MatchBool (is_last request) (LastOf steps end HungUp m b) (Talks at asks moves says steps end m b)
+        → ((d : Connection) → IsNewest d (says.state m.place.door) → Talks at asks moves says steps end m b
         → Shows d end (conversation_of steps) m.place.door b.door)
         → Shows c end (with_step (Answers request turns) (conversation_of steps)) a.place.door b.door
     answers_show request turns steps end a m b c newest is then on =
@@ -207,29 +240,33 @@ module _ (newest_is_one : NewestIsOne) where
         let rest : Shows d end (conversation_of steps) m.place.door b.door = elim (cases_Bool (is_last request)) [
           | inl last ↦
               last_shows steps end HungUp m b d
-              (MatchBool-at_true (LastOf steps end HungUp m b) (Talks at asks says steps end m b) last then) (λ e. cc) next
+              (MatchBool-at_true (LastOf steps end HungUp m b) (Talks at asks moves says steps end m b) last then) (λ e. cc) next
           | inr more ↦
-              on d next (MatchBool-at_false (LastOf steps end HungUp m b) (Talks at asks says steps end m b) more then)
+              on d next (MatchBool-at_false (LastOf steps end HungUp m b) (Talks at asks moves says steps end m b) more then)
         ] in
         gives_then c end bytes _ _ _ _ _ becomes rest
 
     asks_show : (finished : Bool) (steps : List TalkStep) (end : ConnectionEnd) (m : ConsoleAt S T A) (b : DoorAt S T A)
         (c : Connection) → IsNewest c (says.state m.place.door)
-        → MatchBool finished (LastOf steps end RunEnded m b) (Talks at asks says steps end m b)
-        → (Talks at asks says steps end m b → Shows c end (conversation_of steps) m.place.door b.door)
+        → MatchBool finished (LastOf steps end RunEnded m b) (Talks at asks moves says steps end m b)
+        → (Talks at asks moves says steps end m b → Shows c end (conversation_of steps) m.place.door b.door)
         → Shows c end (conversation_of steps) m.place.door b.door
     asks_show true steps end m b c newest ends on = last_shows steps end RunEnded m b c ends (λ e. cc) newest
     asks_show false steps end m b c newest goes on = on goes
+
+    no_end : (end : ConnectionEnd) (how : SocketEnd) → end ≡ Socket how → end ≡ AtItsEnd → ⊥
+    no_end end how is e = cc
 
     breaks : (end : ConnectionEnd) (before now : ℕ) → CausesBreak end before now → end ≡ AtItsEnd → ⊥
     breaks AtItsEnd before now never e = absurd never
     breaks HungUp before now never e = absurd never
     breaks RunEnded before now never e = absurd never
+    breaks (Socket how) before now never e = absurd never
     breaks Failed before now cause e = cc
     breaks Starved before now cause e = cc
 
     pub shows : (steps : List TalkStep) (end : ConnectionEnd) (a : ConsoleAt S T A) (b : DoorAt S T A) (c : Connection)
-        → IsNewest c (says.state a.place.door) → Talks at asks says steps end a b
+        → IsNewest c (says.state a.place.door) → Talks at asks moves says steps end a b
         → Shows c end (conversation_of steps) a.place.door b.door
     shows [] end a b c newest here = quiet end a b c newest here
     shows (Hears piece ∷ steps) end a b c newest (m, is, then) =
@@ -245,3 +282,6 @@ module _ (newest_is_one : NewestIsOne) where
     shows (Begins request turns part ∷ steps) end a b c newest (is, none) =
         subst (λ others. Shows c end (with_step (Begins request turns part) (conversation_of others)) a.place.door b.door) (sym none)
         (gives_part c end part _ _ newest (is.begins.told told) (breaks end _ _ is.begins.cause))
+    shows (Upgrades socket ∷ steps) end a b c newest (is, none) =
+        subst (λ others. Shows c end (with_step (Upgrades socket) (conversation_of others)) a.place.door b.door) (sym none)
+        (socket_shows c end socket _ _ newest (is.keeps.told told) (no_end end is.how is.end_is))

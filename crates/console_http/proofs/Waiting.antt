@@ -7,16 +7,16 @@ use Rattle.request_stream.specs.Streams.{HasNoWholeRequest}
 use Rattle.console_http.proofs.Steps.{hears_on, goes_both}
 use Rattle.console_http.specs.Readings.{Reading, ConsoleAt, console_at, door_at}
 use Rattle.console_http.specs.Receiving.{HasReceived, ReceivesPiece}
-use Rattle.console_http.specs.Sessions.{AskingAt, CallsAt}
+use Rattle.console_http.specs.Sessions.{AskingAt, CallsAt, SteppingAt}
 use Rattle.console_http.specs.Talks.{Hears, AsksRun, IsCaughtUp, AsksSession, AsksIfDue, IsHearing, IsAskingRun, TalksToEnd, TalksOn, HasTalkedOn}
 use Rattle.console_http.specs.declared.ends.ConnectionEnd.{ConnectionEnd}
-use Rattle.console_http.specs.declared.ends.ConnectionEnd.TheVariants.{AtItsEnd, HungUp, RunEnded, Failed, Starved}
+use Rattle.console_http.specs.declared.ends.ConnectionEnd.TheVariants.{AtItsEnd, HungUp, RunEnded, Failed, Starved, Socket}
 
-module _ {S T A : Type 0} (at : CallsAt S T) (asks : AskingAt S T) (says : DoorSays A)
+module _ {S T A : Type 0} (at : CallsAt S T) (asks : AskingAt S T) (moves : SteppingAt S T) (says : DoorSays A)
     (s : S) (d : T) (s' : S) (d' : T) (reading reading' : Reading) (none : HasNoWholeRequest reading.most reading.unread) where
   is_asking : (finished : Bool) (door : A) → reading.is_due ≡ true → AsksSession at asks finished s d s' d'
       → reading' ≡ record reading { is_due = false }
-      → IsAskingRun at asks says finished (console_at s d door reading) (console_at s' d' door reading')
+      → IsAskingRun at asks moves says finished (console_at s d door reading) (console_at s' d' door reading')
   is_asking finished door due session is =
       record { none = none; due = due; asks_session = session; door = refl; reading = is }
 
@@ -27,7 +27,7 @@ module _ {S T A : Type 0} (at : CallsAt S T) (asks : AskingAt S T) (says : DoorS
   Unasked finished = (finished ≡ false) × (s' ≡ s) × (d' ≡ d) × (reading' ≡ reading)
 
   pub run_ended : (door : A) → AsksIfDue at asks s d reading s' d' reading' true
-      → TalksToEnd at asks says RunEnded (console_at s d door reading) (door_at s' d' door)
+      → TalksToEnd at asks moves says RunEnded (console_at s d door reading) (door_at s' d' door)
   run_ended door asked = elim (cases_Bool reading.is_due) [
     | inl due ↦
         let is = MatchBool-at_true (Asked true) (Unasked true) due asked in
@@ -50,7 +50,7 @@ module _ {S T A : Type 0} (at : CallsAt S T) (asks : AskingAt S T) (says : DoorS
   ]
 
   asks_on : (door : A) → AsksIfDue at asks s d reading s' d' reading' false
-      → TalksOn at asks says (console_at s d door reading) (console_at s' d' door reading')
+      → TalksOn at asks moves says (console_at s d door reading) (console_at s' d' door reading')
   asks_on door asked = elim (cases_Bool reading.is_due) [
     | inl due ↦
         let is = MatchBool-at_true (Asked false) (Unasked false) due asked in
@@ -58,21 +58,21 @@ module _ {S T A : Type 0} (at : CallsAt S T) (asks : AskingAt S T) (says : DoorS
     | inr settled ↦
         let is = MatchBool-at_false (Asked false) (Unasked false) settled asked in
         λ end c ends.
-        let P : ConsoleAt S T A → Type 0 = λ here. TalksToEnd at asks says end here c in
+        let P : ConsoleAt S T A → Type 0 = λ here. TalksToEnd at asks moves says end here c in
         subst P (λ i. console_at (is.1 i) (is.2 i) door (is.3 i)) ends
   ]
 
   is_hearing : (piece : List ℕ) (old new : A) (now : Reading) → IsCaughtUp reading' → ReceivesPiece says piece old new
       → now ≡ record reading' { unread = reading'.unread ++ piece }
-      → IsHearing at asks says piece (console_at s' d' old reading') (console_at s' d' new now)
+      → IsHearing at asks moves says piece (console_at s' d' old reading') (console_at s' d' new now)
   is_hearing piece old new now settled receives is =
       record { settled = settled; stays = record { session = refl; desk = refl }; receives = receives; reading = is }
 
   receives_on : (old new : A) (now : Reading) (gone : Option ConnectionEnd) → IsCaughtUp reading'
       → now ≡ record reading' { unread = now.unread } → HasReceived says old reading'.unread new now.unread gone
-      → HasTalkedOn at asks says (console_at s' d' old reading') (console_at s' d' new now) gone
+      → HasTalkedOn at asks moves says (console_at s' d' old reading') (console_at s' d' new now) gone
   receives_on old new now None settled same (piece, receives, is) =
-      hears_on at asks says piece _ _ (is_hearing piece old new now settled receives
+      hears_on at asks moves says piece _ _ (is_hearing piece old new now settled receives
       (same ∙ ap (λ unread. record reading' { unread = unread }) is))
   receives_on old new now (Some AtItsEnd) settled same all = ([], (settled, record { session = refl; desk = refl }, all))
   receives_on old new now (Some Failed) settled same breaks = ([], (settled, record { session = refl; desk = refl }, breaks))
@@ -88,10 +88,11 @@ module _ {S T A : Type 0} (at : CallsAt S T) (asks : AskingAt S T) (says : DoorS
       )
   receives_on old new now (Some HungUp) settled same never = absurd never
   receives_on old new now (Some RunEnded) settled same never = absurd never
+  receives_on old new now (Some (Socket how)) settled same never = absurd never
 
   pub waited : (old new : A) (now : Reading) (gone : Option ConnectionEnd)
       → AsksIfDue at asks s d reading s' d' reading' false
       → now ≡ record reading' { unread = now.unread } → HasReceived says old reading'.unread new now.unread gone
-      → HasTalkedOn at asks says (console_at s d old reading) (console_at s' d' new now) gone
+      → HasTalkedOn at asks moves says (console_at s d old reading) (console_at s' d' new now) gone
   waited old new now gone asked same received =
-      goes_both at asks says _ _ _ gone (asks_on old asked) (receives_on old new now gone (settles asked) same received)
+      goes_both at asks moves says _ _ _ gone (asks_on old asked) (receives_on old new now gone (settles asked) same received)

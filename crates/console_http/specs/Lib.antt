@@ -4,6 +4,7 @@ pub mod Sessions
 pub mod Receiving
 pub mod Responding
 pub mod Answering
+pub mod Upgrading
 pub mod Writing
 pub mod Talks
 pub mod Conversations

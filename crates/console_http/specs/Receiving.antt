@@ -4,7 +4,7 @@ use Rattle.dl_kinds.specs.Counts.{Rose}
 use Rattle.door_source.specs.Doors.{Connection, DoorState, Becomes}
 use Rattle.door_source.specs.declared.Doors.{Ghosts as DoorSays}
 use Rattle.console_http.specs.declared.ends.ConnectionEnd.{ConnectionEnd}
-use Rattle.console_http.specs.declared.ends.ConnectionEnd.TheVariants.{AtItsEnd, HungUp, RunEnded, Failed, Starved}
+use Rattle.console_http.specs.declared.ends.ConnectionEnd.TheVariants.{AtItsEnd, HungUp, RunEnded, Failed, Starved, Socket}
 
 -- the newest connection received these bytes, which its peer sends next
 pub record TakesIn (piece : List ℕ) (old new : DoorState) : Type 0 where
@@ -65,3 +65,4 @@ module _ {A : Type 0} (says : DoorSays A) where
   HasReceived old was new now (Some Starved) = RunsOut old new
   HasReceived old was new now (Some HungUp) = ⊥
   HasReceived old was new now (Some RunEnded) = ⊥
+  HasReceived old was new now (Some (Socket how)) = ⊥

@@ -10,11 +10,15 @@ use Rattle.console_http.specs.Answering.{Responds, BeginsResponse}
 use Rattle.console_http.specs.Readings.{Reading, DoorAt, ConsoleAt}
 use Rattle.console_http.specs.Receiving.{ReceivesPiece, ReceivesAll, StaysSilent, BreaksDown}
 use Rattle.console_http.specs.Responding.{calls_in_request, response_to}
-use Rattle.console_http.specs.Sessions.{AskingAt, CallsAt}
+use Rattle.console_http.specs.Sessions.{AskingAt, CallsAt, SteppingAt}
+use Rattle.console_http.specs.Upgrading.{HasNoUpgrade}
 use Rattle.console_http.specs.declared.answering.Advance.{Advance}
-use Rattle.console_http.specs.declared.answering.Advance.TheVariants.{Answered, Waiting, Ended}
+use Rattle.console_http.specs.declared.answering.Advance.TheVariants.{Answered, Waiting, Upgraded, Ended}
 use Rattle.console_http.specs.declared.ends.ConnectionEnd.{ConnectionEnd}
-use Rattle.console_http.specs.declared.ends.ConnectionEnd.TheVariants.{AtItsEnd, HungUp, RunEnded, Failed, Starved}
+use Rattle.console_http.specs.declared.ends.ConnectionEnd.TheVariants.{AtItsEnd, HungUp, RunEnded, Failed, Starved, Socket}
+use Rattle.console_socket.specs.Sockets.{KeepsSocket, SocketTalk}
+use Rattle.console_socket.specs.Upgrades.{IsUpgradeAt}
+use Rattle.console_socket.specs.declared.ends.SocketEnd.{SocketEnd}
 
 pub data TalkStep : Type 0 where
   -- bytes were received
@@ -25,6 +29,8 @@ pub data TalkStep : Type 0 where
   AsksRun : (finished : Bool) → TalkStep
   -- a request was answered in part, or not at all
   Begins : (request : Request) → (turns : List Invoked) → (part : List ℕ) → TalkStep
+  -- the connection was kept as a WebSocket
+  Upgrades : (socket : SocketTalk) → TalkStep
 
 -- each whole request that was received is answered, and the run was asked about since
 pub record IsCaughtUp (reading : Reading) : Type 0 where
@@ -44,7 +50,7 @@ module _ {S T : Type 0} (at : CallsAt S T) (asks : AskingAt S T) where
       (AsksSession finished session desk session' desk' × (reading' ≡ record reading { is_due = false }))
       ((finished ≡ false) × (session' ≡ session) × (desk' ≡ desk) × (reading' ≡ reading))
 
-module _ {S T A : Type 0} (at : CallsAt S T) (asks : AskingAt S T) (says : DoorSays A) where
+module _ {S T A : Type 0} (at : CallsAt S T) (asks : AskingAt S T) (moves : SteppingAt S T) (says : DoorSays A) where
   -- neither a call nor an asking
   pub record StaysAtDesk (a b : DoorAt S T A) : Type 0 where
     pub session : b.session ≡ a.session
@@ -62,6 +68,7 @@ module _ {S T A : Type 0} (at : CallsAt S T) (asks : AskingAt S T) (says : DoorS
   pub record IsAnswering (request : Request) (turns : List Invoked) (a b : ConsoleAt S T A) : Type 0 where
     pub used : ℕ
     pub is : IsOneRequest a.reading.most a.reading.unread request used
+    pub plain : HasNoUpgrade a.reading.unread
     pub responds : Responds at says (calls_in_request request) (response_to request) turns a.place b.place
     pub reading : b.reading ≡ record a.reading { unread = drop used a.reading.unread; is_due = true }
 
@@ -78,7 +85,17 @@ module _ {S T A : Type 0} (at : CallsAt S T) (asks : AskingAt S T) (says : DoorS
       (a : ConsoleAt S T A) (b : DoorAt S T A) : Type 0 where
     pub used : ℕ
     pub is : IsOneRequest a.reading.most a.reading.unread request used
+    pub plain : HasNoUpgrade a.reading.unread
     pub begins : BeginsResponse at says (calls_in_request request) (response_to request) turns part end a.place b
+
+  -- the request at the front asks for a WebSocket, as which the connection was kept
+  pub record IsUpgrading (socket : SocketTalk) (end : ConnectionEnd) (a : ConsoleAt S T A) (b : DoorAt S T A)
+      : Type 0 where
+    pub used : ℕ
+    pub is : IsUpgradeAt a.reading.unread used
+    pub how : SocketEnd
+    pub end_is : end ≡ Socket how
+    pub keeps : KeepsSocket at asks moves says a.reading.most a.reading.unread socket how a.place b
 
   -- between two steps
   abbrev pub EndsHere : ConnectionEnd → ConsoleAt S T A → DoorAt S T A → Type 0
@@ -87,6 +104,7 @@ module _ {S T A : Type 0} (at : CallsAt S T) (asks : AskingAt S T) (says : DoorS
   EndsHere Starved a b = StaysAtDesk a.place b × StaysSilent says a.place.door b.door
   EndsHere HungUp a b = ⊥
   EndsHere RunEnded a b = ⊥
+  EndsHere (Socket how) a b = ⊥
 
   -- ---- all steps
 
@@ -101,6 +119,7 @@ module _ {S T A : Type 0} (at : CallsAt S T) (asks : AskingAt S T) (says : DoorS
       (m : ConsoleAt S T A) × IsAskingRun finished a m
       × MatchBool finished ((steps ≡ []) × (end ≡ RunEnded) × (b ≡ m.place)) (Talks steps end m b)
   Talks (Begins request turns part ∷ steps) end a b = IsBeginning request turns part end a b × (steps ≡ [])
+  Talks (Upgrades socket ∷ steps) end a b = IsUpgrading socket end a b × (steps ≡ [])
 
   abbrev pub TalksToEnd : ConnectionEnd → ConsoleAt S T A → DoorAt S T A → Type 0
   TalksToEnd end a b = (steps : List TalkStep) × Talks steps end a b
@@ -117,4 +136,5 @@ module _ {S T A : Type 0} (at : CallsAt S T) (asks : AskingAt S T) (says : DoorS
   abbrev pub HasAdvanced : ConsoleAt S T A → ConsoleAt S T A → Advance → Type 0
   HasAdvanced a b Answered = TalksOn a b
   HasAdvanced a b Waiting = (b ≡ a) × IsUnfinishedRequest a.reading.most a.reading.unread
+  HasAdvanced a b Upgraded = (b ≡ a) × ((used : ℕ) × IsUpgradeAt a.reading.unread used)
   HasAdvanced a b (Ended end) = TalksToEnd end a b.place

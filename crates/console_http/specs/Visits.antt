@@ -9,15 +9,17 @@ use Rattle.rpc_envelope.specs.Turns.{Invoked, Extends}
 use Rattle.console_http.specs.Conversations.{Conversation, Serves, conversation_of}
 use Rattle.console_http.specs.Readings.{DoorAt}
 use Rattle.console_http.specs.Receiving.{BreaksDown, StaysSilent}
-use Rattle.console_http.specs.Sessions.{AskingAt, CallsAt}
+use Rattle.console_http.specs.Sessions.{AskingAt, CallsAt, SteppingAt}
 use Rattle.console_http.specs.Talks.{TalkStep, AsksSession, StaysAtDesk}
 use Rattle.console_http.specs.declared.ends.ConnectionEnd.{ConnectionEnd}
-use Rattle.console_http.specs.declared.ends.ConnectionEnd.TheVariants.{AtItsEnd, RunEnded, Failed, Starved}
+use Rattle.console_http.specs.declared.ends.ConnectionEnd.TheVariants.{AtItsEnd, RunEnded, Failed, Starved, Socket}
 use Rattle.console_http.specs.declared.ends.DoorEnd.{DoorEnd}
 use Rattle.console_http.specs.declared.ends.DoorEnd.TheVariants.{Closed, Finished, Fault, NoBuffers}
 use Rattle.console_http.specs.declared.keeping.DoorKept.{DoorKept}
 use Rattle.console_http.specs.declared.keeping.Visited.{Visited}
 use Rattle.console_http.specs.declared.keeping.Visited.TheVariants.{NobodyCame, Talked, Ended}
+use Rattle.console_socket.specs.declared.ends.SocketEnd.{SocketEnd}
+use Rattle.console_socket.specs.declared.ends.SocketEnd.TheVariants.{Failed as SocketFailed, Starved as SocketStarved}
 
 pub data Visit : Type 0 where
   -- nobody came, or memory was wanting to let one in
@@ -36,8 +38,13 @@ finds_end (Welcomes steps end) = ends_run end
 
 -- ---- counts
 
+abbrev pub failed_by_socket : SocketEnd → ℕ
+failed_by_socket SocketFailed = 1
+failed_by_socket how = 0
+
 abbrev pub failed_by : ConnectionEnd → ℕ
 failed_by Failed = 1
+failed_by (Socket how) = failed_by_socket how
 failed_by end = 0
 
 -- how many connections a call of the door ended
@@ -46,8 +53,13 @@ failed_in [] = 0
 failed_in (Waits ∷ visits) = failed_in visits
 failed_in (Welcomes steps end ∷ visits) = failed_by end + failed_in visits
 
+abbrev pub starved_by_socket : SocketEnd → ℕ
+starved_by_socket SocketStarved = 1
+starved_by_socket how = 0
+
 abbrev pub starved_by : ConnectionEnd → ℕ
 starved_by Starved = 1
+starved_by (Socket how) = starved_by_socket how
 starved_by end = 0
 
 -- how many connections want of memory ended
@@ -127,16 +139,16 @@ AsksBehind {S} {T} at asks (Talked how) session desk session' desk' end =
 AsksBehind {S} {T} at asks (Ended how) session desk session' desk' end =
     (session' ≡ session) × (desk' ≡ desk) × (end ≡ Some how)
 
-module _ {S T A : Type 0} (at : CallsAt S T) (asks : AskingAt S T) (says : DoorSays A) (most : ℕ) where
+module _ {S T A : Type 0} (at : CallsAt S T) (asks : AskingAt S T) (moves : SteppingAt S T) (says : DoorSays A) (most : ℕ) where
   -- what accept told is so
   pub record HasAccepted (came : Came) (a b : DoorAt S T A) : Type 0 where
-    pub stays : StaysAtDesk at asks says a b
+    pub stays : StaysAtDesk at asks moves says a b
     pub told : IsTrue says.tells → Accepts came (says.state a.door) (says.state b.door)
     pub faults : says.faults b.door ≡ says.faults a.door
 
   abbrev pub IsVisit : Visit → DoorAt S T A → DoorAt S T A → Type 0
-  IsVisit Waits a b = StaysAtDesk at asks says a b × StaysSilent says a.door b.door
-  IsVisit (Welcomes steps end) a b = (m : DoorAt S T A) × HasAccepted Somebody a m × Serves at asks says most steps end m b
+  IsVisit Waits a b = StaysAtDesk at asks moves says a b × StaysSilent says a.door b.door
+  IsVisit (Welcomes steps end) a b = (m : DoorAt S T A) × HasAccepted Somebody a m × Serves at asks moves says most steps end m b
 
   -- it was asked whether the run is finished
   pub record AsksDoor (finished : Bool) (a b : DoorAt S T A) : Type 0 where
@@ -147,7 +159,7 @@ module _ {S T A : Type 0} (at : CallsAt S T) (asks : AskingAt S T) (says : DoorS
   abbrev pub EndsDoor : DoorEnd → DoorAt S T A → DoorAt S T A → Type 0
   EndsDoor Closed a b = HasAccepted NoneAnyMore a b
   EndsDoor (Fault count) a b =
-      StaysAtDesk at asks says a b × BreaksDown says a.door b.door × (count ≡ says.faults b.door)
+      StaysAtDesk at asks moves says a b × BreaksDown says a.door b.door × (count ≡ says.faults b.door)
   EndsDoor Finished a b = ⊥
   EndsDoor NoBuffers a b = ⊥
 

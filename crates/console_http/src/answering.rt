@@ -1,20 +1,22 @@
 // The request at the front of what came.
-ghost use Rattle.std.specs.Prelude.{◌≡◌, ◌≤◌, length, slice_range, true, IsTrue};
+ghost use Rattle.std.specs.Prelude.{◌≡◌, ◌≤◌, ℕ, length, slice_range, true, IsTrue};
 ghost use Rattle.request_stream.specs.Next.{IsServedBetween};
+ghost use Rattle.request_stream.specs.Requests.{IsOneRequest, turned_away};
 ghost use Rattle.request_stream.specs.Responses.{served_response, refusal_response};
 ghost use Rattle.rpc_envelope.specs.Answers.{answer_text, read_bytes};
 ghost use Rattle.rpc_envelope.specs.Asks.{found_calls};
 ghost use Rattle.console_http.specs.Answering.{HasResponded, HasTurnedAway};
 ghost use Rattle.console_http.specs.Readings.{console_at, door_at};
 ghost use Rattle.console_http.specs.Talks.{HasAdvanced};
+ghost use Rattle.console_http.specs.Upgrading.{HasNoUpgrade, is_for_method};
 
 use crate::ends::{ConnectionEnd, end_by_error};
 use crate::intake::Intake;
-use crate::session::Session;
 use crate::writing::send_response;
+use console_socket::{Session, upgrade_at};
 use dl_kinds::IoErr;
 use door_source::Doors;
-use request_stream::{NextRequest, Refusal, refusal_response};
+use request_stream::{NextRequest, Refusal, refusal_response, requests_are_one_and_stay};
 use rpc_envelope::answer_body;
 use std::alloc::Global;
 
@@ -25,6 +27,8 @@ pub(crate) enum Advance {
     Answered,
     /// No whole request stands there.
     Waiting,
+    /// A request for a WebSocket stands there.
+    Upgraded,
     Ended(ConnectionEnd),
 }
 
@@ -58,10 +62,11 @@ fn serve_between<T, S: Session<T>, A: Doors>(
     last: bool,
 ) -> Advance
     requires between { IsServedBetween intake.old.most intake.old.unread from used last }
+    requires plain { HasNoUpgrade intake.old.unread }
     requires opened { IsTrue A.tells → (A.state door.old).is_open ≡ true }
     ensures stays_open { IsTrue A.tells → (A.state door.new).is_open ≡ true }
     ensures most { intake.new.most ≡ intake.old.most }
-    ensures advances { HasAdvanced S.at S.asks A.Doors
+    ensures advances { HasAdvanced S.at S.asks S.steps A.Doors
         (console_at session.old desk.old door.old intake.old)
         (console_at session.new desk.new door.new intake.new) result }
 {
@@ -91,6 +96,40 @@ fn turn_away<A: Doors>(door: &mut A, refusal: Refusal) -> ConnectionEnd
     }
 }
 
+fn is_for_method(refusal: Refusal) -> bool
+    ensures { result ≡ is_for_method refusal }
+{
+    matches!(refusal, Refusal::MethodNotAllowed)
+}
+
+// Turns the request at the front away, unless it asks for a WebSocket.
+fn refuse<T, S: Session<T>, A: Doors>(
+    alloc: Global,
+    desk: &T,
+    session: &S,
+    door: &mut A,
+    intake: &Intake,
+    refusal: Refusal,
+) -> Advance
+    requires away { (used : ℕ)
+        × IsOneRequest intake.now.most intake.now.unread (turned_away refusal) used }
+    requires opened { IsTrue A.tells → (A.state door.old).is_open ≡ true }
+    ensures stays_open { IsTrue A.tells → (A.state door.new).is_open ≡ true }
+    ensures advances { HasAdvanced S.at S.asks S.steps A.Doors
+        (console_at session.now desk.now door.old intake.now)
+        (console_at session.now desk.now door.new intake.now) result }
+{
+    requests_are_one_and_stay();
+    if is_for_method(refusal) {
+        return match upgrade_at(alloc, intake.unread()) {
+            Ok(Some(_)) => Advance::Upgraded,
+            Ok(None) => Advance::Ended(turn_away(door, refusal)),
+            Err(_) => Advance::Ended(ConnectionEnd::Starved),
+        };
+    }
+    Advance::Ended(turn_away(door, refusal))
+}
+
 /// Answers the request at the front, if a whole one stands there.
 pub(crate) fn answer_next<T, S: Session<T>, A: Doors>(
     alloc: Global,
@@ -102,15 +141,16 @@ pub(crate) fn answer_next<T, S: Session<T>, A: Doors>(
     requires opened { IsTrue A.tells → (A.state door.old).is_open ≡ true }
     ensures stays_open { IsTrue A.tells → (A.state door.new).is_open ≡ true }
     ensures most { intake.new.most ≡ intake.old.most }
-    ensures advances { HasAdvanced S.at S.asks A.Doors
+    ensures advances { HasAdvanced S.at S.asks S.steps A.Doors
         (console_at session.old desk.old door.old intake.old)
         (console_at session.new desk.new door.new intake.new) result }
 {
+    requests_are_one_and_stay();
     match intake.next(alloc) {
         NextRequest::Served { from, used, last } => {
             serve_between(alloc, desk, session, door, intake, from, used, last)
         }
-        NextRequest::TurnedAway(refusal) => Advance::Ended(turn_away(door, refusal)),
+        NextRequest::TurnedAway(refusal) => { refuse(alloc, desk, session, door, intake, refusal) }
         NextRequest::More => Advance::Waiting,
         NextRequest::NoMemory => Advance::Ended(ConnectionEnd::Starved),
     }

@@ -2,6 +2,7 @@
 ghost use Rattle.std.specs.Prelude.{◌≡◌};
 ghost use Rattle.console_http.specs.Ends.{end_by_error};
 
+use console_socket::SocketEnd;
 use dl_kinds::IoErr;
 
 /// Why a connection was closed.
@@ -17,6 +18,8 @@ pub enum ConnectionEnd {
     Failed,
     /// Memory ran out.
     Starved,
+    /// It was kept as a WebSocket, which ended so.
+    Socket(SocketEnd),
 }
 
 /// Why a door is served no more.

@@ -110,6 +110,20 @@ impl Intake {
         next_request(alloc, self.most, &self.unread, &mut self.progress)
     }
 
+    /// The most bytes that the content of a request may take.
+    pub(crate) fn most(&self) -> u32
+        ensures { result ≡ self.now.most }
+    {
+        self.most
+    }
+
+    /// What came and was not answered yet.
+    pub(crate) fn unread(&self) -> &[u8]
+        ensures { result.now ≡ self.now.unread }
+    {
+        &self.unread
+    }
+
     pub(crate) fn between(&self, from: usize, used: usize) -> &[u8]
         requires ordered { from ≤ used }
         requires within { used ≤ length self.now.unread }

@@ -1,12 +1,12 @@
 // A door, and the connections of its clients.
 ghost use Rattle.std.specs.Prelude.{◌≡◌, List};
 ghost use Rattle.console_http.specs.Readings.{door_at};
-ghost use Rattle.console_http.specs.Visits.{AsksBehind, AsksForEnd, HasKeptOn, HasVisited, Keeps, KeepsDoor, Visit, capped, ends_run, starved_at, starved_by, starved_in};
+ghost use Rattle.console_http.specs.Visits.{AsksBehind, AsksForEnd, HasKeptOn, HasVisited, Keeps, KeepsDoor, Visit, capped, ends_run, starved_at, starved_by, starved_by_socket, starved_in};
 
 use crate::ends::{ConnectionEnd, DoorEnd};
 use crate::intake::Intake;
-use crate::session::Session;
 use crate::talking::serve_connection;
+use console_socket::{Session, SocketEnd};
 use dl_kinds::IoErr;
 use door_source::{Came, Doors, newest_connection_is_one};
 use std::alloc::Global;
@@ -38,7 +38,7 @@ fn let_in<R: Wait, T, S: Session<T>, A: Doors>(
     intake: &mut Intake,
 ) -> Visited
     ensures most { intake.new.most ≡ intake.old.most }
-    ensures visited { HasVisited S.at S.asks A.Doors intake.old.most
+    ensures visited { HasVisited S.at S.asks S.steps A.Doors intake.old.most
         (door_at session.old desk.old door.old)
         (door_at session.new desk.new door.new) result }
 {
@@ -55,11 +55,25 @@ fn let_in<R: Wait, T, S: Session<T>, A: Doors>(
     }
 }
 
+fn starved_by_socket(end: SocketEnd) -> u32
+    ensures { result ≡ starved_by_socket end }
+{
+    match end {
+        SocketEnd::Starved => 1,
+        SocketEnd::Finished
+        | SocketEnd::Closed
+        | SocketEnd::Refused
+        | SocketEnd::Broken
+        | SocketEnd::Failed => 0,
+    }
+}
+
 fn starved_by(end: ConnectionEnd) -> u32
     ensures { result ≡ starved_by end }
 {
     match end {
         ConnectionEnd::Starved => 1,
+        ConnectionEnd::Socket(how) => starved_by_socket(how),
         ConnectionEnd::AtItsEnd
         | ConnectionEnd::HungUp
         | ConnectionEnd::RunEnded
@@ -123,7 +137,7 @@ fn keep_on<R: Wait, T, S: Session<T>, A: Doors>(
     starved: &mut u32,
 ) -> Option<DoorEnd>
     ensures most { intake.new.most ≡ intake.old.most }
-    ensures kept { HasKeptOn S.at S.asks A.Doors intake.old.most
+    ensures kept { HasKeptOn S.at S.asks S.steps A.Doors intake.old.most
         (door_at session.old desk.old door.old) starved.old
         (door_at session.new desk.new door.new) starved.new result }
 {
@@ -142,7 +156,7 @@ fn keep_with<R: Wait, T, S: Session<T>, A: Doors>(
     intake: &mut Intake,
 ) -> DoorKept
     ensures { (visits : List Visit)
-        × Keeps S.at S.asks A.Doors intake.old.most visits result.end
+        × Keeps S.at S.asks S.steps A.Doors intake.old.most visits result.end
         (door_at session.old desk.old door.old) (door_at session.new desk.new door.new)
         × (result.starved ≡ capped (starved_in visits)) }
 {
@@ -167,7 +181,7 @@ pub fn keep_door<R: Wait, T, S: Session<T>, A: Doors>(
     most: u32,
 ) -> DoorKept
     ensures { (visits : List Visit)
-        × KeepsDoor S.at S.asks A.Doors most visits result
+        × KeepsDoor S.at S.asks S.steps A.Doors most visits result
         (door_at session.old desk.old door.old) (door_at session.new desk.new door.new) }
 {
     newest_connection_is_one();

@@ -6,12 +6,13 @@ mod answering;
 mod ends;
 mod intake;
 mod keeping;
-mod session;
+mod laws;
 mod talking;
 mod writing;
 
+pub use console_socket::{Inward, Session, SocketEnd};
 pub use ends::{ConnectionEnd, DoorEnd};
 pub use intake::{Intake, PIECE_BYTES};
 pub use keeping::{DoorKept, keep_door};
-pub use session::Session;
+pub use laws::upgrades_are_refused_over_http;
 pub use talking::serve_connection;

@@ -1,6 +1,6 @@
 -- Turns of a session behind others, and the calls that were carried out in them.
-use Rattle.std.proofs.Common.{◌≡◌, inl, inr, ℕ, Bool, List, [], ◌∷◌, ◌++◌, Option, refl, sym, ap, ◌∙◌, subst, append-nil, append_assoc}
-use Rattle.std.specs.Prelude.{◌+◌, All, if◌then◌else◌}
+use Rattle.std.proofs.Common.{◌≡◌, inl, inr, ℕ, Bool, List, [], ◌∷◌, ◌++◌, Option, Result, refl, sym, ap, ◌∙◌, subst, append-nil, append_assoc}
+use Rattle.std.specs.Prelude.{◌+◌, All, IfOk, if◌then◌else◌}
 use Rattle.std.proofs.lemmas.List.Elements.{All-append, All-cons, All-nil}
 use Rattle.console_http.specs.Visits.{capped}
 use Rattle.dl_kinds.specs.declared.runs.Moment.{Moment}
@@ -9,16 +9,19 @@ use Rattle.engine_turns.specs.Told.{RunTurn}
 use Rattle.engine_turns.specs.declared.operations.Answer.{Answer}
 use Rattle.engine_turns.specs.declared.operations.Operation.{Operation}
 use Rattle.engine_turns.specs.declared.operations.Operation.TheVariants as operation
+use Rattle.engine_turns.specs.declared.operations.Said.TheVariants as said
 use Rattle.machine_core.specs.declared.calls.Call.{Call}
+use Rattle.machine_core.specs.declared.notices.Cursor.{Cursor}
+use Rattle.machine_core.specs.declared.notices.Notice.{Notice}
 use Rattle.rpc_console.specs.Dispatch.{InvocationAsks}
 use Rattle.rpc_console.specs.declared.asking.Asking.TheVariants.{One}
 use Rattle.rpc_console.specs.declared.asking.Keys.{Keys}
-use Rattle.rpc_envelope.specs.Turns.{Extends, Invocation, Invoked, OutcomeData}
+use Rattle.rpc_envelope.specs.Turns.{Invocation, Invoked, OutcomeData}
 use Rattle.turn_desk.specs.Laws.{NoTurnsChangeNothing, TurnsAddUp}
 use Rattle.turn_desk.specs.Sights.{DeskId, Went}
 use Rattle.console_session.proofs.CallTurnLists.{call_turns_on, came_on, places_on, read_on, starved_on}
 use Rattle.console_session.specs.CallTurns.{AreReadFrom, CameBy, CameInOrder, IsOfSession, NeedsNoTurn, SessionSight, call_turns, is_call, moment_of_call, places_by, reply_places, starved_in_reply}
-use Rattle.console_session.specs.Sessions.{AsksForFinish, CarriesOutCall, GoesOnAs, HasCarriedOut, NotesAnswer, SessionAt, TakesCallTurn, TakesTurns, secret_of, starved_after}
+use Rattle.console_session.specs.Sessions.{AsksForFinish, AsksForNotices, CarriesOutCall, GoesOnAs, HasCarriedOut, NotesAnswer, SessionAt, TakesCallTurn, TakesTurns, secret_of, session_at, starved_after}
 use Rattle.console_session.specs.declared.session.ConsoleSession.{ConsoleSession}
 
 -- ---- one turn
@@ -29,6 +32,15 @@ pulse_none t is = subst (λ (op : Operation). (if is_call op then t ∷ [] else 
 pub pulse_kind : (session : ℕ) (t : RunTurn) → t.op ≡ operation.Pulse
     → All (λ (u : RunTurn). IsOfSession session u.op) (t ∷ [])
 pulse_kind session t is =
+    let P : RunTurn → Type 0 = λ u. IsOfSession session u.op in
+    All-cons P t [] (subst (IsOfSession session) (sym is) tt) (All-nil P)
+
+pub notices_none : (t : RunTurn) (from : Option Cursor) → t.op ≡ operation.Notices from → call_turns (t ∷ []) ≡ []
+notices_none t from is = subst (λ (op : Operation). (if is_call op then t ∷ [] else []) ≡ []) (sym is) refl
+
+pub notices_kind : (session : ℕ) (t : RunTurn) (from : Option Cursor) → t.op ≡ operation.Notices from
+    → All (λ (u : RunTurn). IsOfSession session u.op) (t ∷ [])
+notices_kind session t from is =
     let P : RunTurn → Type 0 = λ u. IsOfSession session u.op in
     All-cons P t [] (subst (IsOfSession session) (sym is) tt) (All-nil P)
 
@@ -61,6 +73,10 @@ module _ {D T K : Type 0} (sight : T → SessionSight D) (desk_id : T → DeskId
     starved = refl;
   }
 
+  -- .. and no call was carried out
+  pub carried_none : NoTurnsChangeNothing (ties_run {D = D}) → (a : SessionAt K T) → HasCarriedOut sight desk_id reads a [] a
+  carried_none none a = record { turns = []; takes = takes_none none a; came = refl }
+
   module _ (add_up : TurnsAddUp (ties_run {D = D})) where
     pub takes_both : (a b c : SessionAt K T) (first later : List RunTurn) → TakesTurns sight desk_id reads first a b
         → TakesTurns sight desk_id reads later b c → TakesTurns sight desk_id reads (first ++ later) a c
@@ -90,19 +106,15 @@ module _ {D T K : Type 0} (sight : T → SessionSight D) (desk_id : T → DeskId
         }
 
     -- what was carried out, and what came of the turns behind
-    pub carried_on : (start : Option (SessionAt K T)) (a b : SessionAt K T) (turns : List RunTurn) (more : List Invoked)
+    pub carried_on : (first a b : SessionAt K T) (turns : List RunTurn) (earlier more : List Invoked)
         → TakesTurns sight desk_id reads turns a b
         → CameInOrder (secret_of a.session) a.session.number (call_turns turns) more
-        → Extends (λ (l : List Invoked). HasCarriedOut sight desk_id reads start l a)
-        (λ (l : List Invoked). HasCarriedOut sight desk_id reads start l b) more
-    carried_on start a b turns more takes came earlier at =
-        let first = at.first in
+        → HasCarriedOut sight desk_id reads first earlier a → HasCarriedOut sight desk_id reads first (earlier ++ more) b
+    carried_on first a b turns earlier more takes came at =
         let here = subst (λ (s : Option (List ℕ)). CameInOrder s first.session.number (call_turns turns) more)
         at.takes.goes_on.secret
         (subst (λ (n : ℕ). CameInOrder (secret_of a.session) n (call_turns turns) more) at.takes.goes_on.number came) in
         record {
-          first = first;
-          first_is = at.first_is;
           turns = at.turns ++ turns;
           takes = takes_both first a b at.turns turns at.takes takes;
           came = subst
@@ -113,21 +125,44 @@ module _ {D T K : Type 0} (sight : T → SessionSight D) (desk_id : T → DeskId
         }
 
     -- a call was carried out, or needed no turn
-    pub called_on : (start : Option (SessionAt K T)) (a b : SessionAt K T) (invoked : Invoked)
-        → CarriesOutCall sight desk_id reads invoked a b
-        → Extends (λ (l : List Invoked). HasCarriedOut sight desk_id reads start l a)
-        (λ (l : List Invoked). HasCarriedOut sight desk_id reads start l b) (invoked ∷ [])
-    called_on start a b invoked carries =
-        carried_on start a b carries.turns (invoked ∷ []) carries.takes
+    pub called_on : (first a b : SessionAt K T) (earlier : List Invoked) (invoked : Invoked)
+        → CarriesOutCall sight desk_id reads invoked a b → HasCarriedOut sight desk_id reads first earlier a
+        → HasCarriedOut sight desk_id reads first (earlier ++ invoked ∷ []) b
+    called_on first a b earlier invoked carries =
+        carried_on first a b carries.turns earlier (invoked ∷ []) carries.takes
         (call_turns carries.turns, [], sym (append-nil (call_turns carries.turns)), carries.came, refl)
 
     -- no call is carried out where it is asked whether the run is finished
-    pub asked_on : (start : Option (SessionAt K T)) (a b : SessionAt K T) (finished : Bool)
-        → AsksForFinish sight desk_id reads a finished b
-        → Extends (λ (l : List Invoked). HasCarriedOut sight desk_id reads start l a)
-        (λ (l : List Invoked). HasCarriedOut sight desk_id reads start l b) []
-    asked_on start a b finished asks =
-        carried_on start a b (asks.turn ∷ []) [] asks.takes (pulse_none asks.turn asks.op)
+    pub asked_on : (first a b : SessionAt K T) (earlier : List Invoked) (finished : Bool)
+        → AsksForFinish sight desk_id reads a finished b → HasCarriedOut sight desk_id reads first earlier a
+        → HasCarriedOut sight desk_id reads first (earlier ++ []) b
+    asked_on first a b earlier finished asks =
+        carried_on first a b (asks.turn ∷ []) earlier [] asks.takes (pulse_none asks.turn asks.op)
+
+  -- a turn was taken for notices: nothing else changed
+  pub notices_asked : {E : Type 0} (session : ConsoleSession K) (desk desk' : T) (t : RunTurn) (from : Option Cursor)
+      (answer : Answer) (result : Result (List Notice × Cursor) E) → t.op ≡ operation.Notices from → t.answer ≡ answer
+      → IfOk result (λ told. answer.said ≡ said.Notices told.0 told.1)
+      → Went ties_run (sight desk) (t ∷ []) (sight desk') → desk_id desk' ≡ desk_id desk
+      → AsksForNotices sight desk_id reads from (session_at session desk) result (session_at session desk')
+  notices_asked session desk desk' t from answer result op is told went desk_is =
+      let none = sym (notices_none t from op) in
+      record {
+        turn = t;
+        op = op;
+        told = subst (λ (x : Answer). IfOk result (λ told. x.said ≡ said.Notices told.0 told.1)) (sym is) told;
+        takes = record {
+          goes_on = record { number = refl; secret = refl };
+          went = went;
+          desk_is = desk_is;
+          kinds = notices_kind session.number t from op;
+          read = subst (λ (l : List RunTurn). AreReadFrom reads session.clock.now l session.clock.now) none refl;
+          places = sym (append-nil session.places.items)
+              ∙ ap (λ (l : List RunTurn). session.places.items ++ reply_places l) none;
+          starved = ap (starved_after session.starved) none;
+        };
+        cursor = refl;
+      }
 
   -- ---- calls
 

@@ -48,6 +48,7 @@ module _ {D T K A : Type 0} (sight : T → SessionSight D) (desk_id : T → Desk
       served = did.served;
       last = did.last;
       came = did.came;
+      sockets = did.sockets;
       told = did.told;
       faults = did.faults;
       cause = did.cause;

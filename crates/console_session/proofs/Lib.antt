@@ -1,9 +1,14 @@
 pub mod CallTurnLists
 pub mod Carrying
+pub mod Stepping
 pub mod DoorEnds
+pub mod DoorTurns
+pub mod DoorTells
 pub mod Leaving
 pub mod Replying
 pub mod Served
 pub mod Telling
 pub mod Uncalled
 pub mod Placing
+pub mod TellingAll
+pub mod Notifying

@@ -133,6 +133,8 @@ module _ (session : ℕ) where
         (uncalled at s events answer (operation.Seal gid sealed now) (answer_before at.start s.past (operation.Seal gid sealed now)) refl is)
     by_op operation.Pulse is = none_placed (length s.past) events
         (uncalled at s events answer operation.Pulse (answer_before at.start s.past operation.Pulse) refl is)
+    by_op (operation.Notices from) is = none_placed (length s.past) events
+        (uncalled at s events answer (operation.Notices from) (answer_before at.start s.past (operation.Notices from)) refl is)
     by_op operation.Leave is = none_placed (length s.past) events
         (uncalled at s events answer operation.Leave (answer_before at.start s.past operation.Leave) refl is)
     by_op (operation.Stop now) is = none_placed (length s.past) events

@@ -43,6 +43,7 @@ module _ (at : TurnStart) (s : RunStanding) (events : List Event) (said : Said) 
       (λ (taken : _ × IsSettled at s gid sealed events said).
       calm_owned taken.1.download.gid events (owned_settled at s gid sealed events said taken.1)) is
   calm_row operation.Pulse none is = no_events events is.0
+  calm_row (operation.Notices from) none is = no_events events is.0
   calm_row operation.Leave none is = (calm_leave at s events said is).0
   calm_row (operation.Stop now) none is = (calm_stop at s events said is).0
 

@@ -27,10 +27,11 @@ SessionSight D = Sight (EngineStart D) Operation Answer Event
 
 -- ---- turns
 
--- a call of this session, or an asking whether the run is finished
+-- a call of this session, or an asking whether the run is finished, or for notices
 abbrev pub IsOfSession : ℕ → Operation → Type 0
 IsOfSession session (operation.Call number call now) = number ≡ session
 IsOfSession session operation.Pulse = Unit {0}
+IsOfSession session (operation.Notices from) = Unit {0}
 IsOfSession session other = ⊥
 
 abbrev pub is_call : Operation → Bool

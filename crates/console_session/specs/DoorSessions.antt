@@ -1,29 +1,52 @@
 -- What a session did at the desk of a run, for the clients of its door.
-use Rattle.std.specs.Prelude.{◌≡◌, ◌+◌, ℕ, true, IsTrue, List, [], ◌∷◌, ◌++◌, All, Option}
+use Rattle.std.specs.Prelude.{◌≡◌, ◌+◌, ℕ, Bool, true, IsTrue, List, [], ◌∷◌, ◌++◌, All, Option, Some, None}
 use Rattle.std.specs.Bool.{MatchBool}
 use Rattle.console_http.specs.Conversations.{IsServedBy, conversation_of}
 use Rattle.console_http.specs.Visits.{GainsTalks, RoseBy, Visit, Waits, Welcomes, capped, failed_in, faults_of_end, finds_end, starved_in, starved_of_end, turns_in}
 use Rattle.console_http.specs.declared.ends.DoorEnd.{DoorEnd}
+use Rattle.console_socket.specs.Sockets.{SocketTalk}
 use Rattle.console_http.specs.declared.ends.DoorEnd.TheVariants.{Closed, Finished, Fault, NoBuffers}
 use Rattle.door_source.specs.declared.Doors.{Ghosts as DoorSays}
 use Rattle.engine_core.specs.Beginnings.{ties_run}
 use Rattle.engine_turns.specs.Told.{RunTurn}
 use Rattle.engine_turns.specs.declared.operations.Operation.TheVariants.{Leave}
+use Rattle.machine_core.specs.declared.notices.Cursor.{Cursor}
 use Rattle.turn_desk.specs.Sights.{Went}
 use Rattle.console_session.specs.CallTurns.{AreReadFrom, CameInOrder, FindsFinish, IsOfSession, SessionSight, call_turns, reply_places, starved_replies}
+use Rattle.console_session.specs.SocketSteps.{MakeEvents}
 use Rattle.console_session.specs.declared.serving.Transcript.{Transcript}
 
--- each connection was served as its end says
-abbrev pub AreServed : ℕ → List Visit → Type 0
-AreServed most [] = Unit {0}
-AreServed most (Waits ∷ visits) = AreServed most visits
-AreServed most (Welcomes steps end ∷ visits) = IsServedBy most end (conversation_of steps) × AreServed most visits
+-- each connection was served as its end says, by whether the door tells what it received and sent
+abbrev pub AreServed : Bool → ℕ → List Visit → Type 0
+AreServed told most [] = Unit {0}
+AreServed told most (Waits ∷ visits) = AreServed told most visits
+AreServed told most (Welcomes steps end ∷ visits) =
+    IsServedBy told most end (conversation_of steps) × AreServed told most visits
 
 -- a connection that was cut off since the run was found finished is the last one, and so the door ended
 abbrev pub EndsLast : List Visit → DoorEnd → Type 0
 EndsLast [] end = Unit {0}
 EndsLast (visit ∷ visits) end =
     MatchBool (finds_end visit) ((visits ≡ []) × (end ≡ Finished)) (EndsLast visits end)
+
+-- ---- WebSockets
+
+module _ (secret : Option (List ℕ)) (session : ℕ) where
+  -- by these turns the events of a connection's WebSocket were made, one behind another
+  abbrev pub MakesSocket : Option SocketTalk → List RunTurn → Type 0
+  MakesSocket None turns = turns ≡ []
+  MakesSocket (Some socket) turns =
+      (from : Option Cursor) × (to : Option Cursor) × MakeEvents secret session socket.events turns from to
+
+  -- among these turns stand those of the WebSocket of each connection, in order, each of them whole
+  abbrev pub MakeSockets : List Visit → List RunTurn → Type 0
+  MakeSockets [] turns = Unit {0}
+  MakeSockets (Waits ∷ visits) turns = MakeSockets visits turns
+  MakeSockets (Welcomes steps end ∷ visits) turns =
+      (before : List RunTurn) × (its : List RunTurn) × (others : List RunTurn) × (turns ≡ before ++ (its ++ others))
+      × MakesSocket (conversation_of steps).socket its × MakeSockets visits others
+
+-- ---- a door
 
 module _ {A : Type 0} (says : DoorSays A) where
   -- Why the door is served no more: no client comes any more, the last turn found the run finished, a call of the door
@@ -40,9 +63,10 @@ module _ {A : Type 0} (says : DoorSays A) where
     pub kinds : All (λ (t : RunTurn). IsOfSession session t.op) turns
     pub visits : List Visit
     pub end : DoorEnd
-    pub served : AreServed most visits
+    pub served : AreServed says.tells most visits
     pub last : EndsLast visits end
     pub came : CameInOrder secret session (call_turns turns) (turns_in visits)
+    pub sockets : MakeSockets secret session visits turns
     pub told : IsTrue says.tells → GainsTalks visits (says.state door) (says.state door')
     pub faults : RoseBy (failed_in visits + faults_of_end end) (says.faults door) (says.faults door')
     pub cause : IsCauseOf end turns visits door'

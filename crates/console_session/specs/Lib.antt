@@ -1,5 +1,9 @@
 pub mod CallTurns
+pub mod DoorLaws
 pub mod DoorSessions
+pub mod NoticeTexts
 pub mod SessionLaws
 pub mod SessionPlaces
 pub mod Sessions
+pub mod SocketLaws
+pub mod SocketSteps

@@ -1,20 +1,26 @@
 -- What the turns of a session make of it and its desk.
-use Rattle.std.specs.Prelude.{◌≡◌, ◌⊎◌, ◌+◌, ℕ, Bool, IsTrue, List, [], ◌∷◌, ◌++◌, All, Option, Some, None}
+use Rattle.std.specs.Prelude.{◌≡◌, ◌⊎◌, ◌+◌, ℕ, Bool, IsTrue, List, [], ◌∷◌, ◌++◌, All, IfOk, OnOk, Option, Some, None, Result}
+use Rattle.std.specs.Option.{option_to_list}
 use Rattle.console_http.specs.Readings.{DoorAt}
 use Rattle.console_http.specs.Visits.{GainsTalks, RoseBy, Visit, capped, failed_in, faults_of_end, starved_in, starved_of_end, turns_in}
 use Rattle.console_http.specs.declared.keeping.DoorKept.{DoorKept}
+use Rattle.console_socket.specs.Sessions.{InwardData, SocketStep}
 use Rattle.door_source.specs.declared.Doors.{Ghosts as DoorSays}
 use Rattle.engine_core.specs.Beginnings.{ties_run}
 use Rattle.engine_turns.specs.Told.{RunTurn}
 use Rattle.engine_turns.specs.declared.operations.Operation.TheVariants as operation
 use Rattle.engine_turns.specs.declared.operations.Said.{Said}
+use Rattle.engine_turns.specs.declared.operations.Said.TheVariants as said
 use Rattle.machine_core.specs.declared.calls.Call.{Call}
+use Rattle.machine_core.specs.declared.notices.Cursor.{Cursor}
+use Rattle.machine_core.specs.declared.notices.Notice.{Notice}
 use Rattle.rpc_console.specs.declared.asking.Keys.{Keys}
-use Rattle.rpc_envelope.specs.Turns.{Invoked, OutcomeData}
+use Rattle.rpc_envelope.specs.Turns.{BeginsWith, Invoked, OutcomeData, invocations_in, outcomes_in}
 use Rattle.turn_desk.specs.Sights.{DeskId, Went}
 use Rattle.console_session.specs.CallTurns.{AreReadFrom, CameBy, CameInOrder, IsOfSession, IsToldOrLost, SessionSight, call_turns, is_finish, outcome_by, places_by, reply_places, starved_in_reply}
-use Rattle.console_session.specs.DoorSessions.{AreServed, EndsLast, IsCauseOf}
+use Rattle.console_session.specs.DoorSessions.{AreServed, EndsLast, IsCauseOf, MakeSockets}
 pub use Rattle.console_session.specs.SessionPlaces.{SessionAt, secret_of, session_at}
+use Rattle.console_session.specs.SocketSteps.{MakesStep, answers_to, calls_in}
 use Rattle.console_session.specs.declared.session.ConsoleSession.{ConsoleSession}
 
 -- the count with that of these turns, up to its last value at each
@@ -65,14 +71,40 @@ module _ {D T K : Type 0} (sight : T → SessionSight D) (desk_id : T → DeskId
     pub op : turn.op ≡ operation.Pulse
     pub answer : finished ≡ is_finish turn.answer.said
     pub takes : TakesTurns (turn ∷ []) a b
+    pub cursor : b.session.cursor ≡ a.session.cursor
 
-  -- From its start on the session took turns, in which just these calls were carried out.
-  pub record HasCarriedOut (start : Option (SessionAt K T)) (invoked : List Invoked) (b : SessionAt K T) : Type 0 where
-    pub first : SessionAt K T
-    pub first_is : start ≡ Some first
+  -- .. for the notices from a place on; they were told, with the place behind them, or memory ran out
+  pub record AsksForNotices {E : Type 0} (from : Option Cursor) (a : SessionAt K T)
+      (result : Result (List Notice × Cursor) E) (b : SessionAt K T) : Type 0 where
+    pub turn : RunTurn
+    pub op : turn.op ≡ operation.Notices from
+    pub told : IfOk result (λ told. turn.answer.said ≡ said.Notices told.0 told.1)
+    pub takes : TakesTurns (turn ∷ []) a b
+    pub cursor : b.session.cursor ≡ a.session.cursor
+
+  -- Since it was the first one the session took turns, in which just these calls were carried out.
+  pub record HasCarriedOut (first : SessionAt K T) (invoked : List Invoked) (b : SessionAt K T) : Type 0 where
     pub turns : List RunTurn
     pub takes : TakesTurns turns first b
     pub came : CameInOrder (secret_of first.session) first.session.number (call_turns turns) invoked
+
+  -- The calls that came were carried out in turns, and this answers them; or the first ones were, and memory ran out.
+  pub record HasAnswered {E : Type 0} (inward : InwardData) (a : SessionAt K T) (result : Result (Option (List ℕ)) E)
+      (b : SessionAt K T) : Type 0 where
+    pub invoked : List Invoked
+    pub turns : List RunTurn
+    pub takes : TakesTurns turns a b
+    pub came : CameInOrder (secret_of a.session) a.session.number (call_turns turns) invoked
+    pub front : BeginsWith (calls_in inward) (invocations_in invoked)
+    pub called : OnOk result (invocations_in invoked ≡ calls_in inward)
+    pub text : IfOk result (λ text. option_to_list text ≡ answers_to inward (outcomes_in invoked))
+    pub cursor : b.session.cursor ≡ a.session.cursor
+
+  -- a step of a WebSocket was made in turns
+  pub record TakesStep (step : SocketStep) (a b : SessionAt K T) : Type 0 where
+    pub turns : List RunTurn
+    pub takes : TakesTurns turns a b
+    pub makes : MakesStep (secret_of a.session) a.session.number step turns a.session.cursor b.session.cursor
 
   module _ {A : Type 0} (says : DoorSays A) (most : ℕ) where
     abbrev pub session_in : DoorAt (ConsoleSession K) T A → SessionAt K T
@@ -83,9 +115,10 @@ module _ {D T K : Type 0} (sight : T → SessionSight D) (desk_id : T → DeskId
       pub turns : List RunTurn
       pub takes : TakesTurns turns (session_in a) (session_in b)
       pub visits : List Visit
-      pub served : AreServed most visits
+      pub served : AreServed says.tells most visits
       pub last : EndsLast visits kept.end
       pub came : CameInOrder (secret_of a.session) a.session.number (call_turns turns) (turns_in visits)
+      pub sockets : MakeSockets (secret_of a.session) a.session.number visits turns
       pub told : IsTrue says.tells → GainsTalks visits (says.state a.door) (says.state b.door)
       pub faults : RoseBy (failed_in visits + faults_of_end kept.end) (says.faults a.door) (says.faults b.door)
       pub cause : IsCauseOf says kept.end turns visits b.door

@@ -4,8 +4,12 @@
 
 mod attendant;
 mod laws;
+mod noticing;
 mod serving;
 mod session;
 
-pub use laws::{calls_stand_where_replied, replies_are_of_the_history};
+pub use laws::{
+    calls_stand_where_replied, doors_tell_notices, replies_are_of_the_history,
+    socket_steps_tell_all,
+};
 pub use serving::{Transcript, serve_door};

@@ -1,10 +1,10 @@
 // A door of the console, served at the desk of a run.
-ghost use Rattle.std.specs.Prelude.{◌≡◌, Some, option_map};
+ghost use Rattle.std.specs.Prelude.{◌≡◌, option_map};
 ghost use Rattle.console_http.specs.Readings.{door_at};
 ghost use Rattle.console_session.specs.DoorSessions.{ReadsMoments, ServesDoor};
 ghost use Rattle.console_session.specs.Sessions.{Attends, session_at};
 
-use crate::attendant::{Attendant, Origin};
+use crate::attendant::Attendant;
 use crate::session::ConsoleSession;
 use console_http::{DoorEnd, DoorKept, keep_door};
 use dl_clock::Clock;
@@ -13,7 +13,7 @@ use door_source::Doors;
 use engine_core::Engine;
 use engine_turns::Operation;
 use std::alloc::Global;
-use std::marker::{Brand, PhantomData};
+use std::marker::PhantomData;
 use std::sync::Wait;
 use turn_desk::{Desk, turns_add_up};
 
@@ -38,7 +38,7 @@ struct Attended<'a, K> {
 }
 
 // Carries out the calls of the door's clients, until the door ends.
-fn attend<'a, B: Origin<K, T>, R: Wait, D: Disk, T: Desk<Engine<D>>, A: Doors, K: Clock>(
+fn attend<'a, R: Wait, D: Disk, T: Desk<Engine<D>>, A: Doors, K: Clock>(
     rt: &R,
     alloc: Global,
     desk: &mut T,
@@ -46,18 +46,17 @@ fn attend<'a, B: Origin<K, T>, R: Wait, D: Disk, T: Desk<Engine<D>>, A: Doors, K
     most: u32,
     door: &mut A,
 ) -> Attended<'a, K>
-    requires { B.start ≡ Some (session_at session desk.old) }
     ensures { Attends T.sight T.desk_id K.reads A.Doors most result.kept
         (door_at session.entry desk.old door.old)
         (door_at result.session desk.new door.new) }
 {
     turns_add_up::<Engine<D>>();
-    let mut attendant = Attendant::<B, D, T, K> {
-        origin: PhantomData,
+    let mut attendant = Attendant::<D, T, K> {
+        desks: PhantomData,
         session,
     };
     let kept = keep_door(rt, alloc, desk, &mut attendant, door, most);
-    let Attendant { origin: _, session } = attendant;
+    let Attendant { desks: _, session } = attendant;
     Attended { session, kept }
 }
 
@@ -87,11 +86,12 @@ pub fn serve_door<R: Wait, D: Disk, T: Desk<Engine<D>>, A: Doors, K: Clock>(
         clock,
         places: Vec::new(alloc),
         starved: 0,
+        cursor: None,
     };
     let Attended {
         session: console,
         kept,
-    } = attend::<Brand, R, D, T, A, K>(rt, alloc, desk, console, most, door);
+    } = attend::<R, D, T, A, K>(rt, alloc, desk, console, most, door);
     desk.turn(Operation::Leave);
     let ConsoleSession {
         number,
@@ -99,6 +99,7 @@ pub fn serve_door<R: Wait, D: Disk, T: Desk<Engine<D>>, A: Doors, K: Clock>(
         clock: _,
         places,
         starved,
+        cursor: _,
     } = console;
     Transcript {
         session: number,

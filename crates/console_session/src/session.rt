@@ -1,18 +1,19 @@
 // A session of the console, and how it carries calls out.
 ghost use Rattle.std.specs.Prelude.{◌≡◌, ◌<◌, ◌++◌, IfOk, vec_len, vec_capacity};
+ghost use Rattle.engine_turns.specs.declared.operations.Said.TheVariants as answer;
 ghost use Rattle.machine_core.specs.LawfulCalls.{IsLawful};
 ghost use Rattle.rpc_envelope.specs.Outcomes.{outcome_if_any, outcome_view, seen_if_any, turn_of};
 ghost use Rattle.rpc_envelope.specs.Turns.{IsPlain};
 ghost use Rattle.console_session.specs.CallTurns as specs;
 ghost use Rattle.console_session.specs.CallTurns.{IsToldOrLost, places_by};
-ghost use Rattle.console_session.specs.Sessions.{AsksForFinish, CarriesOutCall, NotesAnswer, TakesCallTurn, session_at};
+ghost use Rattle.console_session.specs.Sessions.{AsksForFinish, AsksForNotices, CarriesOutCall, NotesAnswer, TakesCallTurn, session_at};
 
 use dl_clock::Clock;
 use dl_disk::Disk;
 use dl_kinds::NoMemory;
 use engine_core::Engine;
 use engine_turns::{Answer, Operation, Said};
-use machine_core::Call;
+use machine_core::{Call, Cursor, Notices};
 use reply_values::{methods_outcome, reply_value};
 use rpc_console::{Asking, Keys, RpcErr, call_of};
 use rpc_envelope::{Outcome, RpcFault};
@@ -30,6 +31,8 @@ pub(crate) struct ConsoleSession<'a, K> {
     pub(crate) places: Vec<u32>,
     /// How many of its calls left out saves for want of memory, up to 2^32 - 1.
     pub(crate) starved: u32,
+    /// The place up to which a WebSocket was told notices; none before one joined.
+    pub(crate) cursor: Option<Cursor>,
 }
 
 fn is_finish(said: &Said) -> bool
@@ -67,6 +70,17 @@ fn outcome_by(alloc: Global, said: &Said, keys: &Keys) -> Result<Outcome, NoMemo
         Said::Replied { reply, .. } => reply_value(alloc, reply, keys),
         Said::JournalFull { .. } => Ok(Outcome::Failed(RpcFault::JournalFull)),
         // Memory was wanting: a call is answered by nothing else.
+        _ => Err(NoMemory),
+    }
+}
+
+// The notices that an answer tells, and the place behind them.
+fn told_notices(said: Said) -> Result<(Notices, Cursor), NoMemory>
+    ensures { IfOk result (λ told. said ≡ answer.Notices told.0 told.1) }
+{
+    match said {
+        Said::Notices { list, upto } => Ok((list, upto)),
+        // Memory was wanting: a turn for notices is answered by nothing else.
         _ => Err(NoMemory),
     }
 }
@@ -137,5 +151,19 @@ impl<'a, K: Clock> ConsoleSession<'a, K> {
         turns_add_up::<Engine<D>>();
         let Answer { said, back: _ } = desk.turn(Operation::Pulse);
         is_finish(&said)
+    }
+
+    /// Asks in a turn for the notices from a place on, and the place behind them; without one, where the history ends.
+    pub(crate) fn notices<D: Disk, T: Desk<Engine<D>>>(
+        &mut self,
+        desk: &mut T,
+        from: Option<Cursor>,
+    ) -> Result<(Notices, Cursor), NoMemory>
+        ensures { AsksForNotices T.sight T.desk_id K.reads from
+            (session_at self.old desk.old) result (session_at self.new desk.new) }
+    {
+        turns_add_up::<Engine<D>>();
+        let Answer { said, back: _ } = desk.turn(Operation::Notices { from });
+        told_notices(said)
     }
 }

@@ -14,7 +14,7 @@ at_door clients n is_open is_closed = record { connections = take n clients; is_
 before_last : (n : ℕ) → 0 < n → n ≡ n - 1 + 1
 before_last n some = omega (arith, some)
 
-stood : (clients : List Connection) (n : ℕ) (newest : Connection) → 0 < n → n ≤ length clients → newest ≡ get_or clients (n - 1) newest
+pub stood : (clients : List Connection) (n : ℕ) (newest : Connection) → 0 < n → n ≤ length clients → newest ≡ get_or clients (n - 1) newest
     → take n clients ≡ take (n - 1) clients ++ newest ∷ []
 stood clients n newest some fits is =
     ap (λ k. take k clients) (before_last n some) ∙ take_more clients (n - 1) newest (omega (arith, some, fits))

@@ -1,5 +1,5 @@
 -- What a door with clients in memory tells of itself.
-use Rattle.std.specs.Prelude.{◌≡◌, ◌⊎◌, ℕ, ◌+◌, ◌-◌, ◌^◌, min, false, List, [], ◌∷◌, ◌++◌, length, map, take, drop, Contains, option_map, unwrap_or, slice_get, Result, IsErrOf}
+use Rattle.std.specs.Prelude.{◌≡◌, ◌⊎◌, ℕ, ◌+◌, ◌-◌, ◌^◌, min, nat_lt, Bool, false, not, ◌||◌, List, [], ◌∷◌, ◌++◌, length, map, take, drop, Contains, option_map, unwrap_or, slice_get, Result, IsErrOf}
 use Rattle.dl_kinds.specs.declared.outside.IoErr.{IoErr}
 use Rattle.dl_kinds.specs.declared.outside.IoErr.TheVariants.{NoMemory}
 use Rattle.door_source.specs.Doors.{Connection, DoorState, Meets, left_of}
@@ -50,6 +50,18 @@ pub record GivesNext (count room : ℕ) (doors : MemDoors) : Type 0 where
   pub stands : (door_state doors).connections ≡ earlier ++ newest ∷ []
   pub most : count ≡ min (min (length (left_of newest)) room) (door_cut doors)
 
+-- it was told that nothing of the newest connection is left
+abbrev pub has_told_idle : MemDoors → Bool
+has_told_idle doors = doors.told_idle
+
+-- A byte of the newest connection is left, or it was told before that none is, so that its end is received next.
+pub record TellsReady (is_ready : Bool) (old new : MemDoors) : Type 0 where
+  pub earlier : List Connection
+  pub newest : Connection
+  pub stands : (door_state old).connections ≡ earlier ++ newest ∷ []
+  pub is : is_ready ≡ (has_told_idle old || nat_lt 0 (length (left_of newest)))
+  pub told : has_told_idle new ≡ (not is_ready || has_told_idle old)
+
 -- A call is numbered, unless it is answered with want of memory. It changes neither the numbers that fail nor the cut.
 pub record IsDoorCall {T : Type 0} (old new : MemDoors) (result : Result T IoErr) : Type 0 where
   pub failing : failing_door_calls new ≡ failing_door_calls old
@@ -64,6 +76,7 @@ pub record IsNewDoor (sessions : List (List ℕ)) (cut : ℕ) (failing : List �
   pub unclosed : (door_state doors).is_closed ≡ false
   pub coming_are : coming doors ≡ sessions
   pub faults : door_faults doors ≡ 0
+  pub untold : has_told_idle doors ≡ false
   pub cut_is : door_cut doors ≡ cut
   pub failing_are : failing_door_calls doors ≡ failing
   pub none_made : door_calls doors ≡ 0

@@ -57,6 +57,12 @@ pub trait Doors {
         ensures failed { OnErr result (IsTrue tells → state self.new ≡ state self.old) }
         ensures cause { HasCause (faults self.old) (faults self.new) result };
 
+    /// Whether a byte of the connection, or its end, is there to be received: false where neither came for a while.
+    fn ready(&mut self) -> Result<bool, IoErr>
+        requires opened { IsTrue tells → (state self.old).is_open ≡ true }
+        ensures same { IsTrue tells → state self.new ≡ state self.old }
+        ensures cause { HasCause (faults self.old) (faults self.new) result };
+
     /// Sends all of the bytes. Where it fails a part of them may have been sent.
     fn send(&mut self, bytes: &[u8]) -> Result<(), IoErr>
         requires opened { IsTrue tells → (state self.old).is_open ≡ true }

@@ -1,5 +1,5 @@
 // Doors with clients in memory.
-ghost use Rattle.std.specs.Prelude.{◌≡◌, ◌<◌, ◌≤◌, All, drop, length, map, IsTrue, IfOk};
+ghost use Rattle.std.specs.Prelude.{◌≡◌, ◌<◌, ◌≤◌, ◌||◌, All, drop, length, map, IsTrue, IfOk};
 ghost use Rattle.door_source.specs.Doors.{met, IsUntouched};
 
 use crate::sessions::MemSession;
@@ -15,6 +15,8 @@ pub struct MemDoors {
     came: usize,
     is_open: bool,
     is_closed: bool,
+    // Whether it was told that nothing of the newest one is left.
+    told_idle: bool,
     cut: u32,
     calls: Calls,
     ghost cuts: { 0 < cut },
@@ -33,12 +35,18 @@ fn sessions_of(alloc: Global, wholes: Vec<Blob>) -> Result<Vec<MemSession>, NoMe
     Ok(sessions)
 }
 
+fn either(one: bool, other: bool) -> bool
+    ensures { result ≡ (one || other) }
+{
+    one || other
+}
+
 impl MemDoors {
     ghost use Rattle.door_source.specs.MemDoors.{IsNewDoor, sent_in};
 
     /// A door to which a client comes for each session, and sends its bytes. It gives at most `cut` bytes at once. The calls
-    /// of the given numbers fail: `accept`, `recv` and `send` are numbered from 0, but for those that are answered with want
-    /// of memory.
+    /// of the given numbers fail: `accept`, `recv`, `ready` and `send` are numbered from 0, but for those that are answered
+    /// with want of memory.
     pub fn new(
         alloc: Global,
         sessions: Vec<Blob>,
@@ -53,6 +61,7 @@ impl MemDoors {
             came: 0,
             is_open: false,
             is_closed: false,
+            told_idle: false,
             cut,
             calls: Calls::new(failing),
         })
@@ -74,7 +83,7 @@ impl Doors for MemDoors {
     ghost use Rattle.dl_kinds.specs.Causes.{HasCause};
     ghost use Rattle.dl_kinds.specs.declared.outside.IoErr.TheVariants.{Fault};
     ghost use Rattle.door_source.specs.Doors.{Accepts, ReceivesFromPeer, SendsToPeer, hung_up};
-    ghost use Rattle.door_source.specs.MemDoors.{door_faults, door_state, door_cut, coming, AcceptsNext, GivesNext, FailsNext, IsDoorCall};
+    ghost use Rattle.door_source.specs.MemDoors.{door_faults, door_state, door_cut, coming, AcceptsNext, GivesNext, TellsReady, FailsNext, IsDoorCall};
 
     ghost tells = { true };
 
@@ -102,6 +111,7 @@ impl Doors for MemDoors {
         if self.came < self.sessions.len() {
             self.came += 1;
             self.is_open = true;
+            self.told_idle = false;
             Ok(Came::Somebody)
         } else {
             self.is_closed = true;
@@ -127,6 +137,25 @@ impl Doors for MemDoors {
         }
         self.calls.pass();
         Ok(self.sessions[self.came - 1].give(into, self.cut as usize))
+    }
+
+    fn ready(&mut self) -> Result<bool, IoErr>
+        requires opened { (door_state self.old).is_open ≡ true }
+        ensures ready { IfOk result (λ is_ready. TellsReady is_ready self.old self.new) }
+        ensures same { door_state self.new ≡ door_state self.old }
+        ensures coming { coming self.new ≡ coming self.old }
+        ensures cause { HasCause (door_faults self.old) (door_faults self.new) result }
+        ensures fault { IsErrOf result Fault ↔ FailsNext self.old }
+        ensures numbered { IsDoorCall self.old self.new result }
+    {
+        if self.calls.is_failing() {
+            return Err(self.calls.fail());
+        }
+        self.calls.pass();
+        let has_more = self.sessions[self.came - 1].has_more();
+        let is_ready = either(self.told_idle, has_more);
+        self.told_idle = either(!is_ready, self.told_idle);
+        Ok(is_ready)
     }
 
     fn send(&mut self, bytes: &[u8]) -> Result<(), IoErr>

@@ -1,5 +1,5 @@
 // What a client in memory sends, and what it was sent.
-ghost use Rattle.std.specs.Prelude.{◌≡◌, ◌++◌, length, take, min, OnOk, OnErr};
+ghost use Rattle.std.specs.Prelude.{◌≡◌, ◌++◌, length, nat_lt, take, min, OnOk, OnErr};
 ghost use Rattle.door_source.specs.Doors.{met, left_of};
 
 use dl_kinds::Blob;
@@ -53,6 +53,13 @@ impl MemSession {
         into[..count].copy_from_slice(&left[..count]);
         self.given += count;
         count
+    }
+
+    /// Whether some bytes are left.
+    pub fn has_more(&self) -> bool
+        ensures { result ≡ nat_lt 0 (length (left_of self.now)) }
+    {
+        self.given < self.whole.bytes().len()
     }
 
     /// Keeps what is sent to the client.

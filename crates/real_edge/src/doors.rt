@@ -3,7 +3,7 @@ ghost use Rattle.door_source.specs.Doors.{no_door};
 ghost use Rattle.std.specs.Prelude.{false};
 
 use crate::faults::Faults;
-use crate::links::{not_connected, read_some, write_whole};
+use crate::links::{is_silent, not_connected, read_some, write_whole};
 use crate::patience::LOOK_MS;
 use dl_kinds::IoErr;
 use door_source::{Came, Doors};
@@ -21,6 +21,9 @@ const ACCEPT_MS: u64 = 100;
 const PAUSE_MS: u64 = 5;
 
 const MOST_PAUSES: u32 = 20;
+
+// A connection is looked at for so long before it is told that nothing came.
+const READY_MS: u64 = 100;
 
 // A peer whose connection ends is heard for so long, each time, and for so many bytes at once, so often.
 const LAST_MS: u64 = 100;
@@ -133,6 +136,18 @@ fn patient(stream: TcpStream) -> io::Result<TcpStream> {
     Ok(stream)
 }
 
+// Whether something came within a short time. Nothing is received.
+fn has_come(stream: &TcpStream) -> io::Result<bool> {
+    stream.set_read_timeout(Some(Duration::from_millis(READY_MS)))?;
+    let outcome = stream.peek(&mut [0]);
+    stream.set_read_timeout(Some(Duration::from_millis(LOOK_MS)))?;
+    match outcome {
+        Ok(_) => Ok(true),
+        Err(e) if is_silent(e.kind()) => Ok(false),
+        Err(e) => Err(e),
+    }
+}
+
 impl<'a, R: Net<Stream = TcpStream, Listener = TcpListener> + time::Clock> Doors
     for TcpDoors<'a, R> {
     ghost tells = { false };
@@ -158,6 +173,19 @@ impl<'a, R: Net<Stream = TcpStream, Listener = TcpListener> + time::Clock> Doors
     fn recv(&mut self, into: &mut [u8]) -> Result<usize, IoErr> {
         let outcome = match &mut self.stream {
             Some(stream) => read_some(self.rt, stream, into, self.over),
+            None => Err(not_connected()),
+        };
+        self.faults.note(outcome)
+    }
+
+    // A client that never falls silent would keep a run that is over.
+    fn ready(&mut self) -> Result<bool, IoErr> {
+        if self.over.load(Ordering::SeqCst) {
+            thread::sleep(self.rt, Duration::from_millis(PAUSE_MS));
+            return Ok(false);
+        }
+        let outcome = match &self.stream {
+            Some(stream) => has_come(stream),
             None => Err(not_connected()),
         };
         self.faults.note(outcome)

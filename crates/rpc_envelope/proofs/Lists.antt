@@ -7,7 +7,7 @@ use Rattle.serde_json.specs.Written.{compact_text}
 use Rattle.serde_json.specs.declared.value.Value.{Value}
 use Rattle.rpc_envelope.specs.Answers.{answer, batch_answer, list_if_any, shared_out, member_answers}
 use Rattle.rpc_envelope.specs.Asks.{data_of, is_call_part, member_calls, calls_of_all}
-use Rattle.rpc_envelope.specs.Turns.{OutcomeData, Invoked, Walks, failed}
+use Rattle.rpc_envelope.specs.Turns.{OutcomeData, Since, Walks, failed}
 use Rattle.rpc_envelope.specs.declared.fault.RpcFault.TheVariants.{NoRequest}
 use Rattle.rpc_envelope.proofs.TextLemmas.{some_is}
 use Rattle.rpc_envelope.proofs.Walks.{walks_none}
@@ -30,7 +30,7 @@ batch_some (value ∷ values) ss some =
     ap (λ members. list_if_any (shared_out member_calls member_answers members ss)) (list_of_items (value ∷ values))
 
 -- a batch without members is answered with a fault, and calls nothing
-pub empty_batch : (W : List Invoked → Type 0) (values : List Value) (text : List ℕ) → (length values == 0) ≡ true
+pub empty_batch : {S T : Type 0} (W : Since S T) (values : List Value) (text : List ℕ) → (length values == 0) ≡ true
     → text ≡ compact_text (answer null (failed NoRequest))
     → Walks W W (calls_of_all (map view values)) (λ ss. Some text ≡ option_map compact_text (batch_answer (items_view values) ss))
 empty_batch W [] text none is = walks_none W _ (ap Some is)

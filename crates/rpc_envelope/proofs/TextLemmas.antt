@@ -1,7 +1,7 @@
 -- The texts of answers, in passages, and as the items of a list.
-use Rattle.std.proofs.Common.{◌≡◌, ◌∙◌, ◌==◌, ◌+◌, ℕ, suc, List, [], ◌∷◌, ◌++◌, Bool, true, false, true≢false, length, refl, sym, ap, append_assoc, arith, Some, None, option_map}
+use Rattle.std.proofs.Common.{◌≡◌, ◌∙◌, ◌==◌, ◌+◌, ◌<◌, get_or, take, ℕ, suc, List, [], ◌∷◌, ◌++◌, Bool, true, false, true≢false, length, refl, sym, ap, append_assoc, arith, Some, None, option_map}
 use Rattle.std.proofs.lemmas.Bool.{ne_eqb}
-use Rattle.std.proofs.lemmas.List.{append-nil}
+use Rattle.std.proofs.lemmas.List.{append-nil, take_more}
 use Rattle.std.proofs.lemmas.List.Concat.{flat_map-append}
 use Rattle.std.specs.List.{flat_map}
 use Rattle.serde_json.specs.Data.{Data}
@@ -17,6 +17,15 @@ pub passages_more : (passages : List Passage) (passage : Passage)
     → passages_text (passages ++ passage ∷ []) ≡ passages_text passages ++ passage_text passage
 passages_more passages passage =
     flat_map-append passage_text passages (passage ∷ []) ∙ ap (λ text. passages_text passages ++ text) (append-nil (passage_text passage))
+
+-- one passage more of those that are read
+pub passages_next : (passages : List Passage) (i : ℕ) (passage : Passage) → i < length passages
+    → passage ≡ get_or passages i passage
+    → passages_text (take (i + 1) passages) ≡ passages_text (take i passages) ++ passage_text passage
+passages_next passages i passage within is =
+    ap passages_text (take_more passages i passage within
+    ∙ ap (λ (p : Passage). take i passages ++ p ∷ []) (sym is))
+    ∙ passages_more (take i passages) passage
 
 -- a text stands behind the passages
 pub once_more : (passages : List Passage) (passage : Passage) → passage.times ≡ 1

@@ -8,7 +8,7 @@ use Rattle.std.specs.Prelude.{All}
 use Rattle.std.specs.Result.{IsErr}
 use Rattle.rpc_envelope.specs.Answers.{shared_out, first_outcome}
 use Rattle.rpc_envelope.specs.Outcomes.{outcome_view, outcome_if_any}
-use Rattle.rpc_envelope.specs.Turns.{Invocation, OutcomeData, Invoked, IsPlain, CamePlain, invocations_in, outcomes_in, Extends, Walks, StopsShort, Walked}
+use Rattle.rpc_envelope.specs.Turns.{Invocation, OutcomeData, Invoked, IsPlain, CamePlain, invocations_in, outcomes_in, Extends, Since, Walks, StopsShort, Walked}
 use Rattle.rpc_envelope.specs.declared.caller.Outcome.{Outcome}
 
 -- what is made of the outcomes of one asker
@@ -30,26 +30,27 @@ shared_out_more calls f (d ∷ done) a ss more e e' =
     rw (take-append-le n ss more fits, drop-append-le n ss more fits, shared_out_more calls f done a (drop n ss) more left e')
     (sym (append_assoc (f d (take n ss)) _ _))
 
-pub extends_none : (W : List Invoked → Type 0) → Extends W W []
-extends_none W earlier h = subst W (sym (append-nil earlier)) h
+pub extends_none : {S T : Type 0} (W : Since S T) → Extends W W []
+extends_none W caller desk earlier h = subst (W caller desk) (sym (append-nil earlier)) h
 
-pub walks_none : (W : List Invoked → Type 0) (P : List (Option OutcomeData) → Type 0) → P [] → Walks W W [] P
+pub walks_none : {S T : Type 0} (W : Since S T) (P : List (Option OutcomeData) → Type 0) → P [] → Walks W W [] P
 walks_none W P p = record { mine = []; extends = extends_none W; asked = refl; came = All-nil CamePlain; holds = p }
 
-pub breaks_none : (W : List Invoked → Type 0) (calls : List Invocation) → StopsShort W W calls
+pub breaks_none : {S T : Type 0} (W : Since S T) (calls : List Invocation) → StopsShort W W calls
 breaks_none W calls = record { mine = []; extends = extends_none W; front = (calls, refl) }
 
-extends_both : (before middle after : List Invoked → Type 0) (xs ys : List Invoked) → Extends before middle xs → Extends middle after ys
-    → Extends before after (xs ++ ys)
-extends_both before middle after xs ys h k earlier o = subst after (append_assoc earlier xs ys) (k (earlier ++ xs) (h earlier o))
+extends_both : {S T : Type 0} (before middle after : Since S T) (xs ys : List Invoked) → Extends before middle xs
+    → Extends middle after ys → Extends before after (xs ++ ys)
+extends_both before middle after xs ys h k caller desk earlier o =
+    subst (after caller desk) (append_assoc earlier xs ys) (k caller desk (earlier ++ xs) (h caller desk earlier o))
 
 -- as many outcomes as calls
 outcomes_len : (ts : List Invoked) (calls : List Invocation) → invocations_in ts ≡ calls → length (outcomes_in ts) ≡ length calls
 outcomes_len ts calls e = length-map ts _ ∙ (sym (length-map ts _) ∙ ap length e)
 
 -- one call
-pub walked_one : {E : Type 0} (r : Result Outcome E) (before after : List Invoked → Type 0) (call : Invocation)
-    → ((mine : List Invoked) → before mine → after (mine ++ (call, outcome_if_any r) ∷ []))
+pub walked_one : {S T E : Type 0} (r : Result Outcome E) (before after : Since S T) (call : Invocation)
+    → Extends before after ((call, outcome_if_any r) ∷ [])
     → IfOk r (λ outcome. IsPlain (outcome_view outcome))
     → Walked before after (call ∷ []) r (λ outcome ss. outcome_view outcome ≡ first_outcome ss)
 walked_one (Ok outcome) before after call took plain = record {
@@ -65,9 +66,9 @@ walked_one (Err error) before after call took plain = record {
   front = ([], refl);
 }
 
-module _ {A B : Type 0} (calls : A → List Invocation) (f : A → List (Option OutcomeData) → List B) where
+module _ {S T A B : Type 0} (calls : A → List Invocation) (f : A → List (Option OutcomeData) → List B) where
   -- what holds of the answers to those before, and of its own, makes what holds of all
-  pub walks_both : (before middle after : List Invoked → Type 0) (done : List A) (a : A) (P Q R : List B → Type 0)
+  pub walks_both : (before middle after : Since S T) (done : List A) (a : A) (P Q R : List B → Type 0)
       → ((xs ys : List B) → P xs → Q ys → R (xs ++ ys))
       → Walks before middle (flat_map calls done) (λ ss. P (shared_out calls f done ss))
       → Walks middle after (calls a) (λ ss. Q (f a ss))
@@ -90,7 +91,7 @@ module _ {A B : Type 0} (calls : A → List Invocation) (f : A → List (Option 
         holds = subst R (sym all) (both _ _ h.holds k.holds);
       }
 
-  pub walks_on : (before middle after : List Invoked → Type 0) (done : List A) (a : A) (out out' : List B)
+  pub walks_on : (before middle after : Since S T) (done : List A) (a : A) (out out' : List B)
       → Walks before middle (flat_map calls done) (λ ss. out ≡ shared_out calls f done ss)
       → Walks middle after (calls a) (λ ss. out' ≡ out ++ f a ss)
       → Walks before after (flat_map calls (done ++ a ∷ [])) (λ ss. out' ≡ shared_out calls f (done ++ a ∷ []) ss)
@@ -98,7 +99,7 @@ module _ {A B : Type 0} (calls : A → List Invocation) (f : A → List (Option 
       walks_both before middle after done a (λ xs. out ≡ xs) (λ ys. out' ≡ out ++ ys) (λ zs. out' ≡ zs)
       (λ xs ys e e'. e' ∙ ap (λ l. l ++ ys) e)
 
-  pub breaks_on : (before middle after : List Invoked → Type 0) (done : List A) (a : A) (rest all : List A) (P : List (Option OutcomeData) → Type 0)
+  pub breaks_on : (before middle after : Since S T) (done : List A) (a : A) (rest all : List A) (P : List (Option OutcomeData) → Type 0)
       → Walks before middle (flat_map calls done) P
       → StopsShort middle after (calls a)
       → all ≡ done ++ a ∷ rest
@@ -133,23 +134,23 @@ split_at_seen f xs i x h e =
     ∙ (ap (λ l. l ++ f (get_or xs i x) ∷ map f (drop (i + 1) xs)) (sym (take-map f i xs))
     ∙ ap (λ y. take i (map f xs) ++ f y ∷ map f (drop (i + 1) xs)) (sym e)))
 
-pub err_breaks : {V E : Type 0} (r : Result V E) (before after : List Invoked → Type 0) (calls : List Invocation)
+pub err_breaks : {S T V E : Type 0} (r : Result V E) (before after : Since S T) (calls : List Invocation)
     (P : V → List (Option OutcomeData) → Type 0) → IsErr r → StopsShort before after calls → Walked before after calls r P
 err_breaks (Ok v) before after calls P e h = cc
 err_breaks (Err x) before after calls P e h = h
 
-walks_as : (before after : List Invoked → Type 0) (calls : List Invocation) (P Q : List (Option OutcomeData) → Type 0)
+walks_as : {S T : Type 0} (before after : Since S T) (calls : List Invocation) (P Q : List (Option OutcomeData) → Type 0)
     → (w : Walks before after calls P) → Q (outcomes_in w.mine) → Walks before after calls Q
 walks_as before after calls P Q w q = record { mine = w.mine; extends = w.extends; asked = w.asked; came = w.came; holds = q }
 
-pub walked_as : {V E : Type 0} (r : Result V E) (before after : List Invoked → Type 0) (calls : List Invocation)
+pub walked_as : {S T V E : Type 0} (r : Result V E) (before after : Since S T) (calls : List Invocation)
     (P Q : V → List (Option OutcomeData) → Type 0) → ((v : V) (ss : List (Option OutcomeData)) → P v ss → Q v ss)
     → Walked before after calls r P → Walked before after calls r Q
 walked_as (Ok v) before after calls P Q f h = walks_as before after calls (P v) (Q v) h (f v (outcomes_in h.mine) h.holds)
 walked_as (Err x) before after calls P Q f h = h
 
 -- the text of an answer comes last, and calls nothing
-pub text_walked : {W V E : Type 0} (r : Result V E) (before after : List Invoked → Type 0) (calls : List Invocation) (o : W)
+pub text_walked : {S T W V E : Type 0} (r : Result V E) (before after : Since S T) (calls : List Invocation) (o : W)
     (P : W → List (Option OutcomeData) → Type 0) (R : W → V → Type 0) (Q : V → List (Option OutcomeData) → Type 0)
     → ((v : V) (ss : List (Option OutcomeData)) → R o v → P o ss → Q v ss) → IfOk r (R o) → Walks before after calls (P o)
     → Walked before after calls r Q

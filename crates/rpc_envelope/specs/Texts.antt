@@ -1,6 +1,7 @@
 -- The texts of answers, in passages, and as the items of a list.
-use Rattle.std.specs.Prelude.{◌≡◌, ℕ, zero, suc, Bool, false, if◌then◌else◌, List, [], ◌∷◌, ◌++◌}
+use Rattle.std.specs.Prelude.{◌≡◌, ℕ, zero, suc, Bool, false, if◌then◌else◌, List, [], ◌∷◌, ◌++◌, length}
 use Rattle.std.specs.List.{flat_map}
+use Rattle.std.specs.Str.{IsUtf8}
 use Rattle.serde_json.specs.Data.{Data}
 use Rattle.serde_json.specs.View.{items_of}
 use Rattle.serde_json.specs.Written.{compact_text, items_have_float}
@@ -16,6 +17,11 @@ passage_text passage = repeated passage.text.items passage.times
 
 abbrev pub passages_text : List Passage → List ℕ
 passages_text passages = flat_map passage_text passages
+
+-- the length is that of the whole, which is text
+pub record IsWhole (len : ℕ) (passages : List Passage) : Type 0 where
+  pub long : len ≡ length (passages_text passages)
+  pub utf8 : IsUtf8 (passages_text passages)
 
 -- ---- a list of answers
 

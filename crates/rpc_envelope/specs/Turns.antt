@@ -37,12 +37,18 @@ CamePlain (Some came) = IsPlain came
 abbrev pub BeginsWith : {A : Type 0} → List A → List A → Type 0
 BeginsWith {A} whole front = (rest : List A) × (whole ≡ front ++ rest)
 
--- what held before holds with these turns behind
-abbrev pub Extends : (List Invoked → Type 0) → (List Invoked → Type 0) → List Invoked → Type 0
-Extends before after mine = (earlier : List Invoked) → before earlier → after (earlier ++ mine)
+-- what holds since a caller and a desk were these, by the calls that were carried out since
+abbrev pub Since : Type 0 → Type 0 → Type 1
+Since S T = S → T → List Invoked → Type 0
+
+-- whatever held before, since any caller and desk, holds with these turns behind
+abbrev pub Extends : {S T : Type 0} → Since S T → Since S T → List Invoked → Type 0
+Extends {S} {T} before after mine =
+    (caller : S) (desk : T) (earlier : List Invoked) → before caller desk earlier → after caller desk (earlier ++ mine)
 
 -- just these calls were carried out, in order, memory sufficed for each, and P holds of what came of them
-pub record Walks (before after : List Invoked → Type 0) (calls : List Invocation) (P : List (Option OutcomeData) → Type 0) : Type 0 where
+pub record Walks {S T : Type 0} (before after : Since S T) (calls : List Invocation)
+    (P : List (Option OutcomeData) → Type 0) : Type 0 where
   pub mine : List Invoked
   pub extends : Extends before after mine
   pub asked : invocations_in mine ≡ calls
@@ -50,13 +56,13 @@ pub record Walks (before after : List Invoked → Type 0) (calls : List Invocati
   pub holds : P (outcomes_in mine)
 
 -- just the first ones of these calls were carried out, in order
-pub record StopsShort (before after : List Invoked → Type 0) (calls : List Invocation) : Type 0 where
+pub record StopsShort {S T : Type 0} (before after : Since S T) (calls : List Invocation) : Type 0 where
   pub mine : List Invoked
   pub extends : Extends before after mine
   pub front : BeginsWith calls (invocations_in mine)
 
 -- the one, or the other for want of memory
-abbrev pub Walked : {V E : Type 0} → (List Invoked → Type 0) → (List Invoked → Type 0) → List Invocation → Result V E
+abbrev pub Walked : {S T V E : Type 0} → Since S T → Since S T → List Invocation → Result V E
     → (V → List (Option OutcomeData) → Type 0) → Type 0
 Walked before after calls (Ok value) P = Walks before after calls (P value)
 Walked before after calls (Err error) P = StopsShort before after calls

@@ -1,5 +1,6 @@
 // Requests, and batches of them.
 ghost use Rattle.std.specs.Prelude.{◌≡◌, ◌∷◌, [], map, option_map, false, IfOk, List};
+ghost use Rattle.std.specs.Str.{IsUtf8};
 ghost use Rattle.serde_json.specs.Data.{Data, null};
 ghost use Rattle.serde_json.specs.View.{view, items_view};
 ghost use Rattle.serde_json.specs.Written.{compact_text, has_float};
@@ -55,7 +56,8 @@ fn member_answer<T, C: Caller<T>>(
 // The text of an item of a list, behind the bracket that opens the list, or a comma.
 fn item_text(alloc: Global, is_first: bool, answer: &Value) -> Result<Vec<u8>, NoMemory>
     requires { has_float (view answer.now) ≡ false }
-    ensures { IfOk result (λ text. text.items ≡ item_text is_first (view answer.now)) }
+    ensures text { IfOk result (λ text. text.items ≡ item_text is_first (view answer.now)) }
+    ensures utf8 { IfOk result (λ text. IsUtf8 text.items) }
 {
     let mut text = Vec::new(alloc);
     text.push(if is_first { b'[' } else { b',' })?;

@@ -1,10 +1,12 @@
 // The text of an answer, in which what repeats stands once.
-ghost use Rattle.std.specs.Prelude.{◌≡◌, ◌++◌, ◌<◌, ◌==◌, [], length, vec_len, vec_capacity, MatchResult};
-ghost use Rattle.rpc_envelope.specs.Texts.{passages_text};
+ghost use Rattle.std.specs.Prelude.{◌≡◌, ◌++◌, ◌<◌, ◌==◌, [], length, vec_len, vec_capacity, IfOk, MatchResult};
+ghost use Rattle.std.specs.Str.{IsUtf8};
+ghost use Rattle.rpc_envelope.specs.Texts.{passage_text, passages_text};
 
-use dl_kinds::NoMemory;
+use dl_kinds::{NoMemory, Text};
 use std::alloc::Global;
 use std::marker::Model;
+use std::str::from_utf8;
 
 /// A text, and how many times it stands there, one behind the other.
 #[derive(Debug, Drop)]
@@ -22,14 +24,14 @@ pub struct LongText {
 }
 
 impl Model for LongText {
-    ghost use Rattle.std.specs.Prelude.{◌≡◌, ℕ, List, length};
-    ghost use Rattle.rpc_envelope.specs.Texts.{passages_text};
+    ghost use Rattle.std.specs.Prelude.{ℕ, List};
+    ghost use Rattle.rpc_envelope.specs.Texts.{IsWhole, passages_text};
 
     ghost Value = { List ℕ };
 
     ghost view = { λ text. passages_text text.passages.items };
 
-    ghost invariant = { λ text. text.len ≡ length (passages_text text.passages.items) };
+    ghost invariant = { λ text. IsWhole text.len text.passages.items };
 }
 
 // Puts a text behind the passages.
@@ -50,6 +52,27 @@ fn put_behind(passages: &mut Vec<Passage>, text: Vec<u8>)
     }
 }
 
+// Puts a passage behind the bytes.
+fn put_passage(bytes: &mut Vec<u8>, passage: &Passage) -> Result<(), NoMemory>
+    ensures { IfOk result (λ _. bytes.new.items ≡ bytes.old.items ++ passage_text passage.now) }
+{
+    for _ in 0..passage.times {
+        bytes.extend_from_slice(&passage.text)?;
+    }
+    Ok(())
+}
+
+// The bytes of passages, in order.
+fn bytes_of(alloc: Global, len: usize, passages: &[Passage]) -> Result<Vec<u8>, NoMemory>
+    ensures { IfOk result (λ bytes. bytes.items ≡ passages_text passages.now) }
+{
+    let mut bytes = Vec::with_capacity(alloc, len)?;
+    for passage in passages {
+        put_passage(&mut bytes, passage)?;
+    }
+    Ok(bytes)
+}
+
 impl LongText {
     pub(crate) fn new(alloc: Global) -> Self
         ensures { result ≡ [] }
@@ -62,6 +85,7 @@ impl LongText {
 
     /// Puts a text behind. Want of memory is also answered where the whole would be longer than can be counted.
     pub(crate) fn push(&mut self, text: Vec<u8>) -> Result<(), NoMemory>
+        requires utf8 { IsUtf8 text.items }
         ensures { MatchResult result (λ _. self.new ≡ self.old ++ text.items)
             (λ _. self.new ≡ self.old) }
     {
@@ -79,6 +103,15 @@ impl LongText {
         ensures { passages_text result.now ≡ self.now }
     {
         &self.passages
+    }
+
+    /// The whole, in one piece.
+    pub fn text(&self, alloc: Global) -> Result<Text, NoMemory>
+        ensures { IfOk result (λ text. text ≡ self.now) }
+    {
+        let bytes = bytes_of(alloc, self.len, &self.passages)?;
+        let text = from_utf8(&bytes).unwrap();
+        Ok(Text::of(alloc, text)?)
     }
 
     pub fn len(&self) -> usize

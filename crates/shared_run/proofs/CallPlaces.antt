@@ -106,6 +106,7 @@ session_calls session (t ∷ ts) kinds =
         ap (λ (b : Bool). cond b (t ∷ turns_calling session ts) (turns_calling session ts)) (eq-eqb number session is)
         ∙ (λ i. t ∷ rest i)
     by operation.Pulse at is rest = rest
+    by (operation.Notices from) at is rest = rest
     by other at is rest = absurd is
 
 -- .. behind which it leaves

@@ -52,6 +52,7 @@ op_calls_not session op other is none calls = absurd (false≢true (sym none ∙
 session_by : (session number : ℕ) (op : Operation) → IsOfSession number op → calls_by session op ≡ true → session ≡ number
 session_by session number (operation.Call its call now) is calls = sym (eqb-true its session calls) ∙ is
 session_by session number operation.Pulse is calls = absurd (false≢true calls)
+session_by session number (operation.Notices from) is calls = absurd (false≢true calls)
 session_by session number other is calls = absurd is
 
 -- the line's own call is of session 0

@@ -1,11 +1,12 @@
 -- What was done at the doors of a run, and what its history shows of that.
 use Rattle.std.proofs.Common.{◌≡◌, ◌⊎◌, inl, inr, ⊎_elim, ℕ, Bool, true, false, List, [], ◌∷◌, ◌++◌, Some, length, map, refl, sym, ap, ◌∙◌, subst, slice_get}
-use Rattle.std.specs.Prelude.{◌||◌, ◌+◌, if◌then◌else◌, Contains}
+use Rattle.std.specs.Prelude.{◌||◌, ◌+◌, if◌then◌else◌, Contains, reverse}
 use Rattle.std.proofs.lemmas.List.Elements.{Contains-append_left, Contains-append_right}
 use Rattle.served_runs.proofs.TurnLists.{here}
 use Rattle.served_runs.proofs.Workers.{ends_so}
 use Rattle.console_http.specs.declared.ends.DoorEnd.{DoorEnd}
 use Rattle.console_http.specs.declared.ends.DoorEnd.TheVariants.{Finished}
+use Rattle.console_session.specs.DoorLaws.{DoorsTellNotices, SocketsTell}
 use Rattle.console_session.specs.DoorSessions.{IsCauseOf}
 use Rattle.console_session.specs.SessionLaws.{CallsStandWhereReplied, RepliesAreOfTheHistory, call_places}
 use Rattle.console_session.specs.declared.serving.Transcript.{Transcript}
@@ -42,13 +43,14 @@ use Rattle.shared_run.proofs.Framed.{cut, framed}
 use Rattle.shared_run.proofs.Over.{none_mapped, or_middle}
 use Rattle.shared_run.proofs.Passes.{of_pass}
 use Rattle.shared_run.proofs.Replied.{reply_at}
+use Rattle.shared_run.proofs.Sockets.{own_among}
 
 module _ {D L A K O : Type 0} {says : DiskSays D} {links : LinkSays L} {clocks : ClockSays K} {doors : DoorSays A}
     {sinks : SinkSays O}
     {words : List (List ℕ)} {gids : ℕ} {disk : D} {olds : Edges L A K} {out : O} {ended : Ended D} {news : Edges L A K}
     {transcripts : List Transcript} {out' : O} where
   module _ (append : TurnsAppend) (replies : RepliesAreOfTheHistory) (stand : CallsStandWhereReplied)
-      (ran : RanTogether says links clocks doors sinks words gids disk olds out ended news transcripts out') where
+      (tell : DoorsTellNotices) (ran : RanTogether says links clocks doors sinks words gids disk olds out ended news transcripts out') where
     abbrev on : Bool
     on = ran.begun.console.is_on
 
@@ -125,7 +127,8 @@ module _ {D L A K O : Type 0} {says : DiskSays D} {links : LinkSays L} {clocks :
     -- ---- doors were served
 
     abbrev Served : ℕ → Use A K Transcript → Type 0
-    Served door one = IsServedDoor doors clocks words gids olds ended news transcripts ran.begins.line turns door one
+    Served door one = IsServedDoor doors clocks words gids olds ended news transcripts ran.begins.line turns
+        ran.goes_on.goes.works.last door one
 
     served_by : (door : ℕ) (one : Use A K Transcript)
         → UsesDoor D doors clocks (console_of ran.begins.line.globals) turns (length olds.links + door) door one
@@ -149,6 +152,15 @@ module _ {D L A K O : Type 0} {says : DiskSays D} {links : LinkSays L} {clocks :
               place_of_call (framed ran) session at.call at.asked place at.reply
               (calls at.t at.call at.asked place at.reply at.starved at.there at.op_is at.said_is);
           all = whole;
+          sockets =
+              let key = (console_of ran.begins.line.globals).secret in
+              let visits = its.its.serves.visits in
+              let among = own_among (length olds.links + door) turns its.its.before (its.its.last ∷ []) all
+              (ran.goes_on.goes.works.last ∷ []) its.own all_are in
+              subst (λ (ts : List RunTurn). SocketsTell key session (ran_facts.start (framed ran)) (reverse ts) visits) all_are
+              (tell key session (ran_facts.start (framed ran)) (reverse all) doors.tells
+              (console_of ran.begins.line.globals).most visits its.its.before (ran_facts.ties (framed ran)) among
+              its.its.serves.served its.its.serves.sockets);
           finished = λ is.
               let found = subst
               (λ (end : DoorEnd). IsCauseOf doors end its.its.before its.its.serves.visits one.new.0)
@@ -193,14 +205,14 @@ module _ {D L A K O : Type 0} {says : DiskSays D} {links : LinkSays L} {clocks :
     by_work true is worked = inr (inr (by_on is worked))
     by_work false off worked = inr (inl (by_off off worked))
 
-  pub shows_doors : TurnsAppend → RepliesAreOfTheHistory → CallsStandWhereReplied
+  pub shows_doors : TurnsAppend → RepliesAreOfTheHistory → CallsStandWhereReplied → DoorsTellNotices
       → RunsTogether says links clocks doors sinks words gids disk olds out ended news transcripts out'
       → ShowsDoors doors clocks words gids olds ended news transcripts
-  shows_doors append replies stand (inl never) = inl (record {
+  shows_doors append replies stand tell (inl never) = inl (record {
     same = ap (λ (e : Edges L A K). e.doors) never.1;
     untold = never.2;
     none = never.0.journal;
   })
-  shows_doors append replies stand (inr ran) = ⊎_elim
-      (λ worked. by_work append replies stand ran ran.begun.console.is_on refl worked)
-      (λ nobody. inr (inl (by_nobody append replies stand ran ran.begun.console.is_on refl nobody))) ran.goes_on.goes.works.worked
+  shows_doors append replies stand tell (inr ran) = ⊎_elim
+      (λ worked. by_work append replies stand tell ran ran.begun.console.is_on refl worked)
+      (λ nobody. inr (inl (by_nobody append replies stand tell ran ran.begun.console.is_on refl nobody))) ran.goes_on.goes.works.worked

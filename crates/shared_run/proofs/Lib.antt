@@ -12,6 +12,7 @@ pub mod CallPlaces
 pub mod Replied
 pub mod FirstCall
 pub mod Calling
+pub mod Sockets
 pub mod Doors
 pub mod Untouched
 pub mod Unused

@@ -61,6 +61,7 @@ some_short (false ∷ bs) (suc n) is = some_short bs n is
 not_by_session : {P : Type 0} (session : ℕ) (op : Operation) → IsOfSession session op → IsWork op → P
 not_by_session session (operation.Call number call now) is works = absurd works
 not_by_session session operation.Pulse is works = absurd works
+not_by_session session (operation.Notices from) is works = absurd works
 not_by_session session other is works = absurd is
 
 -- none of its calls is such an operation, nor its leave

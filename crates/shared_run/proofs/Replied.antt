@@ -77,4 +77,5 @@ reply_at session (t ∷ ts) kinds place there =
         later_reply session t ts place (rest later))
         (Contains-append_cases (places_by t.answer.said) (reply_places (call_turns ts)) place within)
     by operation.Pulse op_is is within rest = later_reply session t ts place (rest within)
+    by (operation.Notices from) op_is is within rest = later_reply session t ts place (rest within)
     by other op_is is within rest = absurd is

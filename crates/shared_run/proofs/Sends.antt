@@ -23,6 +23,7 @@ use Rattle.machine_core.specs.contracts.events.Event as event
 use Rattle.machine_core.specs.contracts.handed.HandedPieces as handed
 use Rattle.machine_core.specs.contracts.journal.Journal as journal
 use Rattle.machine_core.specs.contracts.machine.Machine as machine
+use Rattle.machine_core.specs.contracts.notice_log.NoticeLog as notice_log
 use Rattle.metainfo.specs.contracts.meta.Meta as meta
 use Rattle.mirror_blame.specs.contracts.marks.Marks as marks
 use Rattle.number_list.specs.contracts.list.NumberList as numbers
@@ -131,13 +132,16 @@ queue_inside =
 queue_send : IsSend queue.the_row
 queue_send = search (queue_inside, view_send) depth 5
 
+log_send : IsSend (notice_log.the_field).row
+log_send = search (options_send, queue_send, Vec-send, crosses, sendable) depth 40 fits 100000
+
 -- ---- the engine
 
 machine_inside : IsSend machine.TheInside.the_row
 machine_inside =
     let d = machine.TheInside.the_type in
     let all : AllSend (shape d).fields =
-    search (options_send, queue_send, one_send, journal_send, Vec-send, sendable) depth 40 fits 100000 in
+    search (options_send, queue_send, one_send, journal_send, log_send, Vec-send, sendable) depth 40 fits 100000 in
     recorded_send (Struct (shape d)) d.D d.to d.to_one (struct_send (shape d) all)
 
 machine_send : IsSend machine.the_row

@@ -3,6 +3,7 @@ use Rattle.std.specs.Prelude.{◌≡◌, ◌⊎◌, ◌≤◌, ◌+◌, ◌++◌
 use Rattle.command_line.specs.Lines.{IsLine}
 use Rattle.command_line.specs.declared.line.CommandLine.{CommandLine}
 use Rattle.console_http.specs.declared.ends.DoorEnd.TheVariants.{Finished}
+use Rattle.console_session.specs.DoorLaws.{SocketsTell}
 use Rattle.console_session.specs.SessionLaws.{call_places}
 use Rattle.console_session.specs.declared.serving.Transcript.{Transcript}
 use Rattle.desk_participants.specs.Uses.{AreUsed, Use}
@@ -86,10 +87,11 @@ module _ {D L A K : Type 0} (doors : DoorSays A) (clocks : ClockSays K) (words :
     pub why : LacksConsole words ⊎ (ended.ending ≡ NoMemory)
     pub calls : (session place : ℕ) → IsPlaceOfCall ended.journal.events.items session place → IsOwnPlace session place
 
-  module _ (line : CommandLine) (turns : List RunTurn) where
+  module _ (line : CommandLine) (turns : List RunTurn) (last : RunTurn) where
     -- The session served the door by its own turns. Each of its calls that was replied to stands in the history where the
     -- reply says, and the reply is that of the history before it. In the transcript are the places of calls of the session,
-    -- and all of them, in order. Where it found the run finished a front of the history says so.
+    -- and all of them, in order. Each WebSocket at the door told the notices of the history, that of all turns, since it
+    -- joined. Where the session found the run finished a front of the history says so.
     pub record IsServedDoor (door : ℕ) (used : Use A K Transcript) : Type 0 where
       pub its : UsesDoor D doors clocks (console_of line.globals) turns (length olds.links + door) door used
       pub calls : (t : RunTurn) (call : Call) (asked : Moment) (place : ℕ) (reply : Reply) (starved : Bool)
@@ -100,6 +102,8 @@ module _ {D L A K : Type 0} (doors : DoorSays A) (clocks : ClockSays K) (words :
       pub places : (place : ℕ) → Contains used.came.places.items place
           → IsPlaceOfCall ended.journal.events.items (session_of door) place
       pub all : used.came.places.items ≡ call_places (session_of door) ended.journal.events.items
+      pub sockets : SocketsTell (console_of line.globals).secret (session_of door)
+          (start_of_line gids (length olds.doors) line.globals) (reverse (turns ++ last ∷ [])) its.its.serves.visits
       pub finished : used.came.end ≡ Finished
           → FindsFinished (start_of_line gids (length olds.doors) line.globals) ended.journal.events.items
 
@@ -116,7 +120,7 @@ module _ {D L A K : Type 0} (doors : DoorSays A) (clocks : ClockSays K) (words :
     pub uses : List (Use A K Transcript)
     pub used : AreUsed olds.doors news.doors transcripts uses
     pub each : (door : ℕ) (one : Use A K Transcript) → slice_get uses door ≡ Some one
-        → IsServedDoor line turns door one
+        → IsServedDoor line turns last door one
     pub calls : (session place : ℕ) → IsPlaceOfCall ended.journal.events.items session place
         → IsOwnPlace session place ⊎ IsNamedPlace uses session place
 

@@ -20,7 +20,9 @@ ghost use Rattle.shared_run.specs.Together.{ComesFirst};
 use crate::finished::FinishedRun;
 use crate::work::{Work, work_through};
 use conn_worker::turns_bring_what_came;
-use console_session::{Transcript, calls_stand_where_replied, replies_are_of_the_history};
+use console_session::{
+    Transcript, calls_stand_where_replied, doors_tell_notices, replies_are_of_the_history,
+};
 use dl_clock::Clock;
 use dl_disk::Disk;
 use dl_kinds::Sink;
@@ -276,6 +278,7 @@ pub fn run_shared<
     turns_tell_runs();
     replies_are_of_the_history();
     calls_stand_where_replied();
+    doors_tell_notices();
     let Left {
         ended,
         links,

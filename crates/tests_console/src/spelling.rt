@@ -1,6 +1,6 @@
 // Bytes that are written as text.
 use anyhow::{Context, Result};
-use percent_encoding::percent_decode;
+use percent_encoding::{CONTROLS, percent_decode, percent_encode};
 use std::alloc::Global;
 
 /// Letters that come so often one after another are counted where text is shown.
@@ -66,11 +66,21 @@ fn counted(alloc: Global, text: &str) -> Result<String> {
     Ok(shown)
 }
 
-/// Shows what was sent: `|` is the end of a line of HTTP, and `<200*a>` stands for 200 letters `a`.
+// Shows bytes that are no text: `%` and two digits for each one that isn't printed.
+fn encoded(alloc: Global, bytes: &[u8]) -> Result<String> {
+    let mut text = String::new(alloc);
+    percent_encode(bytes, CONTROLS).append_to(&mut text)?;
+    Ok(text.replace(alloc, "%0D%0A", "|")?)
+}
+
+/// Shows what was sent: `|` is the end of a line of HTTP, `<200*a>` stands for 200 letters `a`, and where it is no text, as the
+/// frames of a WebSocket, `%81` for the byte 129.
 pub fn shown(alloc: Global, bytes: &[u8]) -> Result<String> {
     if bytes.is_empty() {
         return Ok(String::from_str(alloc, "nothing")?);
     }
-    let text = str::from_utf8(bytes).ok().context("no text was sent")?;
+    let Ok(text) = str::from_utf8(bytes) else {
+        return encoded(alloc, bytes);
+    };
     counted(alloc, text.replace(alloc, "\r\n", "|")?.as_str())
 }

@@ -1,10 +1,11 @@
-// Links and doors that wait for each other, so that what comes of a run doesn't go by its threads.
+// Links, clocks and doors that wait for each other, so that what comes of a run doesn't go by its threads.
 ghost use Rattle.std.specs.Prelude.{false};
 ghost use Rattle.door_source.specs.Doors.{no_door};
 ghost use Rattle.link_source.specs.Link.{no_link};
 ghost use Rattle.link_source.specs.MemLinks.{link_faults};
 
-use dl_kinds::{Blob, IoErr};
+use dl_clock::{Clock, MemClock};
+use dl_kinds::{Blob, IoErr, Moment};
 use door_source::{Came, Doors};
 use link_source::{Links, MemLinks};
 use std::alloc::Global;
@@ -13,12 +14,12 @@ use std::sync::atomic::{AtomicU64, Ordering};
 /// How often it is looked whether what is waited for has come, before the run goes on without it.
 const MOST_LOOKS: u64 = 1_000_000_000;
 
-/// What the links and doors of a run have done so far.
+/// What the link, the worker and the clients of a run have done so far.
 #[derive(Drop)]
 pub struct Gates {
     /// How many requests were sent.
     pub asked: AtomicU64,
-    /// How often a link was hung up behind a request.
+    /// How often the worker rested behind a request.
     pub rested: AtomicU64,
     /// How many connections of clients have ended.
     pub answered: AtomicU64,
@@ -48,7 +49,6 @@ pub struct GatedLinks<'a> {
     mirrors: MemLinks,
     gates: &'a Gates,
     waits_for: u64,
-    has_asked: bool,
 }
 
 impl<'a> GatedLinks<'a> {
@@ -57,7 +57,6 @@ impl<'a> GatedLinks<'a> {
             mirrors,
             gates,
             waits_for,
-            has_asked: false,
         }
     }
 }
@@ -87,7 +86,6 @@ impl<'a> Links for GatedLinks<'a> {
             return Err(IoErr::NoMemory);
         }
         self.mirrors.send(bytes)?;
-        self.has_asked = true;
         self.gates.asked.fetch_add(1, Ordering::SeqCst);
         Ok(())
     }
@@ -102,28 +100,65 @@ impl<'a> Links for GatedLinks<'a> {
 
     fn hang_up(&mut self) {
         self.mirrors.hang_up();
-        if self.has_asked {
-            self.has_asked = false;
+    }
+}
+
+/// The clock of the worker, which pauses where nothing is left to do; or of a session, which pauses nowhere.
+#[derive(Drop)]
+pub struct GatedClock<'a> {
+    moments: MemClock,
+    gates: &'a Gates,
+    // How many requests had been sent when the worker rested last.
+    asked: u64,
+}
+
+impl<'a> GatedClock<'a> {
+    pub fn new(gates: &'a Gates) -> Self {
+        GatedClock {
+            moments: MemClock::new(0, 0),
+            gates,
+            asked: 0,
+        }
+    }
+}
+
+impl<'a> Clock for GatedClock<'a> {
+    ghost reads = { λ old told new. Unit {0} };
+
+    ghost pauses = { λ old ms new. Unit {0} };
+
+    fn now(&mut self) -> Moment {
+        self.moments.now()
+    }
+
+    fn pause(&mut self, ms: u64) {
+        self.moments.pause(ms);
+        let asked = self.gates.asked.load(Ordering::SeqCst);
+        if asked > self.asked {
+            self.asked = asked;
             self.gates.rested.fetch_add(1, Ordering::SeqCst);
         }
     }
 }
 
-/// When a client comes.
+/// When a client comes, and when one that stays ends its connection.
 #[derive(Clone, Copy, Debug)]
-pub enum Comes {
+pub enum When {
     /// At once.
     Now,
     /// Once so many requests were sent to mirrors.
     BehindAsking(u64),
-    /// Once a link was hung up so often behind a request.
+    /// Once the worker rested so often behind a request.
     BehindResting(u64),
+    /// Once the connections of so many clients have ended.
+    BehindEnding(u64),
 }
 
-/// A client that sends all of its bytes, and then ends its connection.
+/// A client that sends all of its bytes, and then ends its connection. A WebSocket is looked at once more before that.
 #[derive(Debug, Drop)]
 pub struct Client {
-    pub comes: Comes,
+    pub comes: When,
+    pub ends: When,
     pub bytes: Blob,
 }
 
@@ -135,6 +170,8 @@ pub struct GatedDoors<'a> {
     // The number of the newest client, counted from 1, and how many of its bytes were given.
     newest: usize,
     given: usize,
+    // Whether it was told that nothing of it is left.
+    told_idle: bool,
     /// What each client was sent.
     pub sent: Vec<Vec<u8>>,
 }
@@ -146,23 +183,36 @@ impl<'a> GatedDoors<'a> {
             clients,
             newest: 0,
             given: 0,
+            told_idle: false,
             sent: Vec::new(alloc),
         }
     }
 
-    fn wait(&self, comes: Comes) {
-        match comes {
-            Comes::Now => {}
-            Comes::BehindAsking(least) => wait_for(&self.gates.asked, least),
-            Comes::BehindResting(least) => wait_for(&self.gates.rested, least),
+    fn wait(&self, when: When) {
+        match when {
+            When::Now => {}
+            When::BehindAsking(least) => wait_for(&self.gates.asked, least),
+            When::BehindResting(least) => wait_for(&self.gates.rested, least),
+            When::BehindEnding(least) => wait_for(&self.gates.answered, least),
         }
+    }
+
+    fn newest_client(&self) -> Option<&Client> {
+        self.clients[..].get(self.newest.wrapping_sub(1))
     }
 
     // What the newest client hasn't given yet.
     fn left(&self) -> &[u8] {
-        match self.clients[..].get(self.newest.wrapping_sub(1)) {
+        match self.newest_client() {
             Some(client) => client.bytes.bytes().get(self.given..).unwrap_or(&[]),
             None => &[],
+        }
+    }
+
+    // Waits until the newest client is to end its connection.
+    fn wait_for_end(&self) {
+        if let Some(client) = self.newest_client() {
+            self.wait(client.ends);
         }
     }
 }
@@ -191,6 +241,7 @@ impl<'a> Doors for GatedDoors<'a> {
         self.sent.push(Vec::new(alloc))?;
         self.newest = self.newest.saturating_add(1);
         self.given = 0;
+        self.told_idle = false;
         Ok(Came::Somebody)
     }
 
@@ -200,6 +251,15 @@ impl<'a> Doors for GatedDoors<'a> {
         into[..count].copy_from_slice(&left[..count]);
         self.given = self.given.saturating_add(count);
         Ok(count)
+    }
+
+    fn ready(&mut self) -> Result<bool, IoErr> {
+        if self.told_idle || !self.left().is_empty() {
+            return Ok(true);
+        }
+        self.wait_for_end();
+        self.told_idle = true;
+        Ok(false)
     }
 
     fn send(&mut self, bytes: &[u8]) -> Result<(), IoErr> {

@@ -1,5 +1,5 @@
 // What a case gives to its run, line by line.
-use crate::gates::{Client, Comes};
+use crate::gates::{Client, When};
 use dl_kinds::{Blob, Text};
 use link_source::{Manner, MemFile, MemMirror};
 use std::alloc::{AllocError, Global};
@@ -14,9 +14,14 @@ pub struct Rig {
     pub mirrors: Vec<MemMirror>,
     /// So many clients have to be answered before the link receives anything.
     pub waits_for: u64,
-    /// When the next clients come.
-    comes: Comes,
+    /// When the next clients come, and when they end their connections.
+    comes: When,
+    ends: When,
+    /// Whether the next clients come at the other door.
+    is_beside: bool,
     pub clients: Vec<Client>,
+    /// The clients of the other door.
+    pub others: Vec<Client>,
     /// The files whose bytes are told at the end.
     pub shown: Vec<Text>,
     /// A growth was refused, so that something isn't given.
@@ -61,11 +66,12 @@ fn mirror(alloc: Global, line: &str) -> Result<MemMirror, AllocError> {
     })
 }
 
-fn comes(line: &str) -> Comes {
+fn when(line: &str) -> When {
     match word(line, 0) {
-        "asked" => Comes::BehindAsking(u64_at(line, 1)),
-        "rested" => Comes::BehindResting(u64_at(line, 1)),
-        _ => Comes::Now,
+        "asked" => When::BehindAsking(u64_at(line, 1)),
+        "rested" => When::BehindResting(u64_at(line, 1)),
+        "ended" => When::BehindEnding(u64_at(line, 1)),
+        _ => When::Now,
     }
 }
 
@@ -88,8 +94,11 @@ impl Rig {
             files: Vec::new(alloc),
             mirrors: Vec::new(alloc),
             waits_for: 0,
-            comes: Comes::Now,
+            comes: When::Now,
+            ends: When::Now,
+            is_beside: false,
             clients: Vec::new(alloc),
+            others: Vec::new(alloc),
             shown: Vec::new(alloc),
             lost: false,
         }
@@ -110,8 +119,16 @@ impl Rig {
     }
 
     fn add_client(&mut self, bytes: Blob) -> Result<(), AllocError> {
-        let comes = self.comes;
-        self.clients.push(Client { comes, bytes })?;
+        let client = Client {
+            comes: self.comes,
+            ends: self.ends,
+            bytes,
+        };
+        if self.is_beside {
+            self.others.push(client)?;
+        } else {
+            self.clients.push(client)?;
+        }
         Ok(())
     }
 
@@ -132,7 +149,9 @@ impl Rig {
     pub fn take(&mut self, key: &str, line: &str) {
         match key {
             "waits" => self.waits_for = u64_at(line, 0),
-            "come" => self.comes = comes(line),
+            "come" => self.comes = when(line),
+            "stay" => self.ends = when(line),
+            "beside" => self.is_beside = true,
             _ => {
                 if self.add(key, line).is_err() {
                     self.lost = true;

@@ -4,10 +4,9 @@ use aria_top::needs_of;
 use std::alloc::Global;
 use test_lines::Output;
 
-/// Prints a text in a line: `|` is CR and LF, and `%0a` LF alone.
-pub fn tell_bytes(bytes: &[u8], output: &mut Output) {
+fn tell_text(text: &str, output: &mut Output) {
     let mut is_behind_return = false;
-    for letter in str::from_utf8(bytes).unwrap_or("no text").chars() {
+    for letter in text.chars() {
         match letter {
             '\r' => {}
             '\n' if is_behind_return => output.letter('|'),
@@ -15,6 +14,41 @@ pub fn tell_bytes(bytes: &[u8], output: &mut Output) {
             _ => output.letter(letter),
         }
         is_behind_return = letter == '\r';
+    }
+}
+
+// Prints a byte as `%` and two digits.
+fn tell_digits(byte: u8, output: &mut Output) {
+    output.text(if byte < 16 { "%0" } else { "%" });
+    output.hex(u64::from(byte));
+}
+
+fn tell_frames(bytes: &[u8], output: &mut Output) {
+    let mut is_behind_return = false;
+    for byte in bytes {
+        let is_end = is_behind_return && *byte == b'\n';
+        if is_behind_return && !is_end {
+            tell_digits(b'\r', output);
+        }
+        match *byte {
+            b'\r' => {}
+            b'\n' if is_end => output.letter('|'),
+            b' '..=b'~' => output.letter(char::from(*byte)),
+            byte => tell_digits(byte, output),
+        }
+        is_behind_return = *byte == b'\r';
+    }
+    if is_behind_return {
+        tell_digits(b'\r', output);
+    }
+}
+
+/// Prints bytes in a line: `|` is CR and LF, and `%0a` LF alone. Where they are no text, as the frames of a WebSocket, each byte
+/// that isn't printed stands as `%81` for the byte 129.
+pub fn tell_bytes(bytes: &[u8], output: &mut Output) {
+    match str::from_utf8(bytes) {
+        Ok(text) => tell_text(text, output),
+        Err(_) => tell_frames(bytes, output),
     }
     output.text(if bytes.is_empty() { "nothing\n" } else { "\n" });
 }

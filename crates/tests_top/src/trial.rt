@@ -1,11 +1,10 @@
 // Cases, each carried out at its end.
 ghost use Rattle.std.specs.Prelude.{◌≡◌, length, IfOk};
 
-use crate::gates::{GatedDoors, GatedLinks, Gates};
+use crate::gates::{GatedClock, GatedDoors, GatedLinks, Gates};
 use crate::rig::Rig;
 use crate::telling::{tell_bytes, tell_needs};
 use aria_top::{FinishedRun, run};
-use dl_clock::MemClock;
 use dl_disk::MemDisk;
 use dl_kinds::{MemSink, NoMemory};
 use link_source::MemLinks;
@@ -17,12 +16,15 @@ use std::sync::atomic::AtomicBool;
 use std::thread::Threads;
 use test_lines::{Output, after, before};
 
-type Ran<'a> = FinishedRun<MemDisk, GatedLinks<'a>, MemClock, GatedDoors<'a>>;
+type Ran<'a> = FinishedRun<MemDisk, GatedLinks<'a>, GatedClock<'a>, GatedDoors<'a>>;
 
 // As much as the link gives at once.
 const CUT: u32 = 65_536;
 
-fn link_of<'a>(rig: &mut Rig, gates: &'a Gates) -> Result<Vec<(GatedLinks<'a>, MemClock)>, NoMemory>
+fn link_of<'a>(
+    rig: &mut Rig,
+    gates: &'a Gates,
+) -> Result<Vec<(GatedLinks<'a>, GatedClock<'a>)>, NoMemory>
     ensures { IfOk result (λ links. length links.items ≡ 1) }
 {
     let alloc = rig.alloc;
@@ -31,18 +33,30 @@ fn link_of<'a>(rig: &mut Rig, gates: &'a Gates) -> Result<Vec<(GatedLinks<'a>, M
     let mut links = Vec::with_capacity(alloc, 1)?;
     links.push((
         GatedLinks::new(memory, gates, rig.waits_for),
-        MemClock::new(0, 0),
+        GatedClock::new(gates),
     ))?;
     Ok(links)
 }
 
-fn door_of<'a>(rig: &mut Rig, gates: &'a Gates) -> Result<Vec<(GatedDoors<'a>, MemClock)>, NoMemory>
-    ensures { IfOk result (λ doors. length doors.items ≡ 1) }
+// Two doors, at the second of which maybe nobody comes.
+fn doors_of<'a>(
+    rig: &mut Rig,
+    gates: &'a Gates,
+) -> Result<Vec<(GatedDoors<'a>, GatedClock<'a>)>, NoMemory>
+    ensures { IfOk result (λ doors. length doors.items ≡ 2) }
 {
     let alloc = rig.alloc;
     let clients = std::mem::replace(&mut rig.clients, Vec::new(alloc));
-    let mut doors = Vec::with_capacity(alloc, 1)?;
-    doors.push((GatedDoors::new(alloc, gates, clients), MemClock::new(0, 0)))?;
+    let others = std::mem::replace(&mut rig.others, Vec::new(alloc));
+    let mut doors = Vec::with_capacity(alloc, 2)?;
+    doors.push((
+        GatedDoors::new(alloc, gates, clients),
+        GatedClock::new(gates),
+    ))?;
+    doors.push((
+        GatedDoors::new(alloc, gates, others),
+        GatedClock::new(gates),
+    ))?;
     Ok(doors)
 }
 
@@ -57,7 +71,7 @@ fn ran<'a, R: Threads + Wait + Sync>(
     let files = std::mem::replace(&mut rig.files, Vec::new(alloc));
     let disk = MemDisk::new(alloc, files, Vec::new(alloc))?;
     let links = link_of(rig, gates)?;
-    let doors = door_of(rig, gates)?;
+    let doors = doors_of(rig, gates)?;
     let over = AtomicBool::new(false);
     Ok(run(
         threads,
@@ -84,7 +98,7 @@ fn calls(journal: &Journal) -> u64 {
     count
 }
 
-fn tell_clients(doors: &[(GatedDoors<'_>, MemClock)], output: &mut Output) {
+fn tell_clients(doors: &[(GatedDoors<'_>, GatedClock<'_>)], output: &mut Output) {
     let mut number: u64 = 0;
     for (door, _) in doors {
         for sent in &door.sent {

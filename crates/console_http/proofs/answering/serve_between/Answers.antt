@@ -9,8 +9,8 @@ returns-then-last-clause-advances g c =
     let b = console_at c.respond.new.session c.respond.new.desk c.respond.new.door c.take_off.new.self in
     let responded = c.in-Ok.ensures.responded in
     let body = c.between.result.now in
-    last_answer g.S.Caller.at g.S.Session.asks g.A.Doors (served body c.args.last) responded.0 a b
-    (is_answered g.S.Caller.at g.S.Session.asks g.A.Doors c.args.from c.args.used c.args.last body responded.0 a b c.requires.between
+    last_answer g.S.Caller.at g.S.Session.asks g.S.Session.steps g.A.Doors (served body c.args.last) responded.0 a b
+    (is_answered g.S.Caller.at g.S.Session.asks g.S.Session.steps g.A.Doors c.args.from c.args.used c.args.last body responded.0 a b c.requires.between c.requires.plain
     c.between.ensures responded.1 c.take_off.ensures)
     c.if-last.true
 
@@ -20,8 +20,8 @@ returns-else-last-clause-advances g c =
     let b = console_at c.respond.new.session c.respond.new.desk c.respond.new.door c.take_off.new.self in
     let responded = c.in-Ok.ensures.responded in
     let body = c.between.result.now in
-    answers_on g.S.Caller.at g.S.Session.asks g.A.Doors (served body c.args.last) responded.0 a b
-    (is_answered g.S.Caller.at g.S.Session.asks g.A.Doors c.args.from c.args.used c.args.last body responded.0 a b c.requires.between
+    answers_on g.S.Caller.at g.S.Session.asks g.S.Session.steps g.A.Doors (served body c.args.last) responded.0 a b
+    (is_answered g.S.Caller.at g.S.Session.asks g.S.Session.steps g.A.Doors c.args.from c.args.used c.args.last body responded.0 a b c.requires.between c.requires.plain
     c.between.ensures responded.1 c.take_off.ensures)
     c.if-last.false
 
@@ -32,6 +32,6 @@ returns-in-Err-clause-advances g c =
     let begun = c.in-Err.ensures.responded in
     let body = c.between.result.now in
     rw c.end_by_error.ensures
-    (begins g.S.Caller.at g.S.Session.asks g.A.Doors (served body c.args.last) begun.0 begun.1 _ a b
-    (is_begun g.S.Caller.at g.S.Session.asks g.A.Doors c.args.from c.args.used c.args.last body begun.0 begun.1 _ a b
-    c.requires.between c.between.ensures begun.2))
+    (begins g.S.Caller.at g.S.Session.asks g.S.Session.steps g.A.Doors (served body c.args.last) begun.0 begun.1 _ a b
+    (is_begun g.S.Caller.at g.S.Session.asks g.S.Session.steps g.A.Doors c.args.from c.args.used c.args.last body begun.0 begun.1 _ a b
+    c.requires.between c.requires.plain c.between.ensures begun.2))

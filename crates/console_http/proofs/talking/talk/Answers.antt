@@ -9,7 +9,7 @@ returns-in-Some-go_on-clause-ends g c =
 
 pub loop-preserved : goal.loop-preserved
 loop-preserved g c =
-    going_on g.S.Caller.at g.S.Session.asks g.A.Doors
+    going_on g.S.Caller.at g.S.Session.asks g.S.Session.steps g.A.Doors
     (console_at c.args.session.now c.args.desk.now c.args.door.now c.args.intake.now)
     (console_at c.loop.session c.loop.desk c.loop.door c.loop.intake)
     (console_at c.go_on.new.session c.go_on.new.desk c.go_on.new.door c.go_on.new.intake) c.go_on.result

@@ -35,7 +35,7 @@ returns-clause-untouched g c =
 pub returns-clause-doors : goal.returns-clause-doors
 returns-clause-doors g c =
     shows_doors c.turns_tell_runs.ensures.appended c.replies_are_of_the_history.ensures c.calls_stand_where_replied.ensures
-    c.run_through-ended.ensures
+    c.doors_tell_notices.ensures c.run_through-ended.ensures
 
 pub returns-clause-marks : goal.returns-clause-marks
 returns-clause-marks g c =

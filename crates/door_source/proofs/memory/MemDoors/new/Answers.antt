@@ -15,6 +15,7 @@ returns c = record {
   unclosed = refl;
   coming_are = ap (map (λ connection. connection.whole)) c.in_ok-sessions_of.ensures ∙ wholes_are c.args.sessions.items;
   faults = c.new.ensures.faults;
+  untold = refl;
   cut_is = refl;
   failing_are = ap (λ failing. failing.items) c.new.ensures.failing;
   none_made = c.new.ensures.made;

@@ -1,0 +1,10 @@
+pub mod Beginning
+pub mod Further
+pub mod Held
+pub mod Frames
+pub mod Serving
+pub mod Judging
+pub mod Sending
+pub mod Rounds
+pub mod Closing
+pub mod Whole

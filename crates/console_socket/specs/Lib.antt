@@ -1,0 +1,10 @@
+pub mod Places
+pub mod Sessions
+pub mod Upgrades
+pub mod Streams
+pub mod Frames
+pub mod Sending
+pub mod Hearing
+pub mod Sockets
+pub mod Talking
+pub mod Keeping
