@@ -30,6 +30,7 @@ from cases import (  # each lists its cases
     rests,
     resumes,
     several,
+    sockets,
     standing,
     stores,
     uris,
@@ -37,6 +38,7 @@ from cases import (  # each lists its cases
 )
 from lib.mirrors import free_port
 from lib.rooms import CASES, PROGRAM, Room
+from lib.sockets import browser, has_websockets
 from lib.version2 import has_libtorrent
 from lib.wants import Late, Skipped, Wrong
 
@@ -69,6 +71,10 @@ def lacking():
         gone.add("unshare")
     if not has_libtorrent():
         gone.add("libtorrent")
+    if not has_websockets():
+        gone.add("websockets")
+    if not browser():
+        gone.add("chromium")
     return gone
 
 
