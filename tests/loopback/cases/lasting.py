@@ -194,15 +194,15 @@ def _(room):
     want_within(longest, MOST_SYNCS * SLOW_SYNC + OTHERWISE, "the longest call")
 
 
-# So many downloads are active at once by default. A call may wait for a turn of each, and for one that began before them.
-ACTIVE = 5
+# A call waits for the turn that is under way, and for those of workers who waited long and came before it: no more than so many.
+TURNS_BEFORE = 3
 
 for _sync in (SLOW_SYNC, 4 * SLOW_SYNC):
 
     @case(f"a console is answered while a slow disk writes out what five downloads bring, by syncs of {_sync} seconds", "cc", slow=True)
     def _(room, sync=_sync):
         longest = longest_call(room, sync, "--split=5")
-        want_within(longest, (ACTIVE + 1) * MOST_SYNCS * sync + OTHERWISE, "the longest call")
+        want_within(longest, TURNS_BEFORE * MOST_SYNCS * sync + OTHERWISE, "the longest call")
 
 
 def folders_above(room):
