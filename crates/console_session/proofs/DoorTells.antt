@@ -1,6 +1,6 @@
 -- The WebSockets of a door tell all notices since each joined.
-use Rattle.std.proofs.Common.{◌≡◌, ℕ, Bool, List, [], ◌∷◌, ◌++◌, Option, Some, None, refl, sym, ap, ◌∙◌, subst, append_assoc}
-use Rattle.std.specs.Prelude.{IsSome, reverse}
+use Rattle.std.proofs.Common.{ℕ, Bool, List, [], ◌∷◌, ◌++◌, Option, sym, ap, ◌∙◌, subst, append_assoc}
+use Rattle.std.specs.Prelude.{reverse}
 use Rattle.console_http.specs.Conversations.{IsServedBy, conversation_of}
 use Rattle.console_http.specs.Talks.{TalkStep}
 use Rattle.console_http.specs.Visits.{Visit, Waits, Welcomes}

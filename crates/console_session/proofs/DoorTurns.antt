@@ -1,7 +1,7 @@
 -- The turns of a door's WebSockets, among all that its session took.
-use Rattle.std.proofs.Common.{◌≡◌, ℕ, Bool, true, false, List, [], ◌∷◌, ◌++◌, Option, Some, None, refl, sym, ap, ◌∙◌, subst, append-nil, append_assoc}
+use Rattle.std.proofs.Common.{◌≡◌, ℕ, Bool, true, false, List, [], ◌∷◌, ◌++◌, Option, None, refl, sym, ap, ◌∙◌, subst, append-nil, append_assoc}
 use Rattle.std.specs.Bool.{MatchBool}
-use Rattle.console_http.specs.Conversations.{ClosesConnection, conversation_of}
+use Rattle.console_http.specs.Conversations.{conversation_of}
 use Rattle.console_http.specs.Readings.{ConsoleAt, DoorAt}
 use Rattle.console_http.specs.Sessions.{AskingAt, CallsAt, SteppingAt}
 use Rattle.console_http.specs.Talks.{TalkStep, Answers, AsksRun, Begins, EndsHere, Hears, Upgrades, StaysAtDesk, Talks}
@@ -20,7 +20,7 @@ use Rattle.turn_desk.specs.Sights.{DeskId}
 use Rattle.console_session.proofs.Carrying.{carried_none, takes_both, takes_none}
 use Rattle.console_session.specs.CallTurns.{SessionSight}
 use Rattle.console_session.specs.DoorSessions.{MakeSockets, MakesSocket}
-use Rattle.console_session.specs.SocketSteps.{AsksRun as AsksRunOnce, MakeEvents, MakesEvent, MakesStep}
+use Rattle.console_session.specs.SocketSteps.{MakeEvents, MakesEvent, MakesStep}
 use Rattle.console_session.specs.Sessions.{AsksForFinish, HasCarriedOut, SessionAt, TakesStep, TakesTurns, secret_of, session_at}
 use Rattle.console_session.specs.declared.session.ConsoleSession.{ConsoleSession}
 

@@ -1,12 +1,12 @@
 -- What a session did for its door, by the keeping of the door.
-use Rattle.std.proofs.Common.{◌≡◌, inl, inr, ℕ, Bool, true, false, List, [], ◌∷◌, ◌++◌, Option, Some, refl, sym, ap, ◌∙◌, subst, append-nil, append_assoc}
-use Rattle.std.specs.Prelude.{IsTrue, unwrap_or}
+use Rattle.std.proofs.Common.{◌≡◌, inl, inr, ℕ, Bool, true, false, List, [], ◌∷◌, ◌++◌, refl, sym, ap, ◌∙◌, subst, append-nil, append_assoc}
+use Rattle.std.specs.Prelude.{IsTrue}
 use Rattle.std.specs.Bool.{MatchBool}
 use Rattle.std.proofs.lemmas.Bool.{false≢true}
 use Rattle.std.proofs.lemmas.List.{append_cancel_left}
 use Rattle.console_http.specs.Readings.{DoorAt, door_at}
 use Rattle.console_http.specs.Sessions.{AskingAt, CallsAt, SteppingAt}
-use Rattle.console_http.specs.Visits.{Visit, Waits, Welcomes, AsksDoor, Keeps, KeepsDoor, KeepsToEnd, ends_run, turns_in}
+use Rattle.console_http.specs.Visits.{Visit, Waits, Welcomes, AsksDoor, Keeps, KeepsDoor, KeepsToEnd, ends_run}
 use Rattle.console_http.specs.declared.ends.DoorEnd.{DoorEnd}
 use Rattle.console_http.specs.declared.ends.DoorEnd.TheVariants.{Closed, Finished, Fault, NoBuffers}
 use Rattle.console_http.specs.declared.keeping.DoorKept.{DoorKept}
@@ -16,7 +16,6 @@ use Rattle.engine_core.specs.Beginnings.{ties_run}
 use Rattle.engine_turns.specs.Told.{RunTurn}
 use Rattle.engine_turns.specs.declared.operations.Said.{Said}
 use Rattle.engine_turns.specs.declared.operations.Said.TheVariants as said
-use Rattle.rpc_envelope.specs.Turns.{Invoked}
 use Rattle.turn_desk.specs.Laws.{NoTurnsChangeNothing, TurnsAddUp}
 use Rattle.turn_desk.specs.Sights.{DeskId}
 use Rattle.console_session.proofs.Carrying.{carried_none}

@@ -2,7 +2,7 @@
 use Rattle.std.proofs.Common.{◌≡◌, ℕ, List, [], ◌∷◌, ◌++◌, Option, Some, None, Result, Ok, Err, refl, sym, ap, ◌∙◌, subst, append-nil, true≢false}
 use Rattle.std.specs.Prelude.{IsErr, map}
 use Rattle.std.specs.Option.{option_to_list}
-use Rattle.console_socket.specs.Sessions.{HasStepped, InwardData, SocketStep, TakesSocketStep, says, seen_inward, texts_if_any}
+use Rattle.console_socket.specs.Sessions.{HasStepped, InwardData, SocketStep, says, seen_inward, texts_if_any}
 use Rattle.console_socket.specs.declared.session.Inward.{Inward}
 use Rattle.engine_core.specs.Beginnings.{ties_run}
 use Rattle.engine_turns.specs.declared.operations.Operation.TheVariants as operation
@@ -11,7 +11,7 @@ use Rattle.machine_core.specs.declared.notices.Cursor.{Cursor}
 use Rattle.machine_core.specs.declared.notices.Notice.{Notice}
 use Rattle.rpc_envelope.specs.Answers.{answer_text, read_bytes}
 use Rattle.rpc_envelope.specs.Asks.{found_calls}
-use Rattle.rpc_envelope.specs.Turns.{Invoked, OutcomeData, Walked, invocations_in, outcomes_in}
+use Rattle.rpc_envelope.specs.Turns.{Invoked, Walked, invocations_in}
 use Rattle.turn_desk.specs.Laws.{NoTurnsChangeNothing, TurnsAddUp}
 use Rattle.turn_desk.specs.Sights.{DeskId}
 use Rattle.console_session.specs.CallTurns.{CameInOrder, SessionSight, call_turns}

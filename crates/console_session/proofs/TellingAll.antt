@@ -1,6 +1,6 @@
 -- The steps of a session over a WebSocket tell all notices since it joined, and carry its calls out.
-use Rattle.std.proofs.Common.{◌≡◌, ◌≢◌, ⊎_elim, ℕ, List, [], ◌∷◌, ◌++◌, Option, Some, None, drop, length, map, reverse, take, refl, sym, ap, ◌∙◌, subst, append-nil, append_assoc, arith}
-use Rattle.std.specs.Prelude.{All, Contains, IsSome, true}
+use Rattle.std.proofs.Common.{◌≡◌, ◌≢◌, ⊎_elim, ℕ, List, [], ◌∷◌, ◌++◌, Option, Some, None, drop, map, reverse, take, refl, sym, ap, ◌∙◌, subst, append_assoc, arith}
+use Rattle.std.specs.Prelude.{All, Contains, IsSome}
 use Rattle.std.specs.List.{flat_map}
 use Rattle.std.proofs.Math.Seq.{drop-nil}
 use Rattle.std.proofs.lemmas.List.{map-append, reverse-append, reverse-reverse}
@@ -23,8 +23,8 @@ use Rattle.machine_core.specs.declared.notices.Notice.{Notice}
 use Rattle.machine_core.specs.declared.notices.TheConstants.{MOST_NOTICES}
 use Rattle.rpc_envelope.specs.Turns.{BeginsWith, invocations_in}
 use Rattle.console_session.specs.CallTurns.{CameInOrder, call_turns}
-use Rattle.console_session.specs.SocketLaws.{AreTextsOf, CarriesOut, CarriesOutEvent, JoinsAt, SocketStepsTellAll, StandAmong, TellInOrder, TellsAll, TextsOfEvent, notices_since}
-use Rattle.console_session.specs.SocketSteps.{AsksRun, GivesAll, GivesTexts, MakeEvents, MakesEvent, MakesStep, asked_from, calls_in}
+use Rattle.console_session.specs.SocketLaws.{AreTextsOf, CarriesOut, CarriesOutEvent, JoinsAt, SocketStepsTellAll, StandAmong, TellInOrder, TextsOfEvent, notices_since}
+use Rattle.console_session.specs.SocketSteps.{GivesTexts, MakeEvents, MakesEvent, asked_from, calls_in}
 use Rattle.console_session.proofs.CallTurnLists.{call_turns_on, came_on}
 use Rattle.console_session.proofs.Carrying.{pulse_none}
 use Rattle.console_session.proofs.Stepping.{step_came}

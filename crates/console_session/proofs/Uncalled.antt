@@ -1,5 +1,5 @@
 -- A turn that is no call brings no call.
-use Rattle.std.proofs.Common.{◌≡◌, ⊎_elim, Bool, Option, Some, None, false, List}
+use Rattle.std.proofs.Common.{◌≡◌, ⊎_elim, Option, Some, None, false, List}
 use Rattle.engine_turns.specs.ClaimRows.{DeliverRow, LoseRow, SizedRow}
 use Rattle.engine_turns.specs.NextRows.{IsHolding, IsIdling, IsOfferGiven, IsOpeningNext, NextRow}
 use Rattle.engine_turns.specs.Phases.{TurnStart}

@@ -1,5 +1,5 @@
 -- What follows of all that a session did for the clients of its door.
-use Rattle.std.specs.Prelude.{ℕ, Bool, IsSome, List, [], ◌∷◌, ◌++◌, reverse, Option, Some, None}
+use Rattle.std.specs.Prelude.{ℕ, Bool, IsSome, List, [], ◌∷◌, reverse, Option, Some, None}
 use Rattle.console_http.specs.Conversations.{conversation_of}
 use Rattle.console_http.specs.Visits.{Visit, Waits, Welcomes}
 use Rattle.console_http.specs.declared.ends.ConnectionEnd.TheVariants.{Socket}

@@ -1,5 +1,5 @@
 -- What the turns of a session make of it and its desk.
-use Rattle.std.specs.Prelude.{◌≡◌, ◌⊎◌, ◌+◌, ℕ, Bool, IsTrue, List, [], ◌∷◌, ◌++◌, All, IfOk, OnOk, Option, Some, None, Result}
+use Rattle.std.specs.Prelude.{◌≡◌, ◌⊎◌, ◌+◌, ℕ, Bool, IsTrue, List, [], ◌∷◌, ◌++◌, All, IfOk, OnOk, Option, None, Result}
 use Rattle.std.specs.Option.{option_to_list}
 use Rattle.console_http.specs.Readings.{DoorAt}
 use Rattle.console_http.specs.Visits.{GainsTalks, RoseBy, Visit, capped, failed_in, faults_of_end, starved_in, starved_of_end, turns_in}

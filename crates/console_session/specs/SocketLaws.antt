@@ -11,7 +11,7 @@ use Rattle.machine_core.specs.Starts.{RunStart}
 use Rattle.machine_core.specs.declared.events.Event.{Event}
 use Rattle.machine_core.specs.declared.notices.Cursor.{Cursor}
 use Rattle.machine_core.specs.declared.notices.Notice.{Notice}
-use Rattle.rpc_envelope.specs.Turns.{BeginsWith, Invocation, invocations_in, outcomes_in}
+use Rattle.rpc_envelope.specs.Turns.{BeginsWith, invocations_in, outcomes_in}
 use Rattle.console_session.specs.CallTurns.{CameInOrder, call_turns}
 use Rattle.console_session.specs.NoticeTexts.{notice_text}
 use Rattle.console_session.specs.SocketSteps.{MakeEvents, answers_to, calls_in}

@@ -1,4 +1,3 @@
-use Rattle.std.proofs.Common.{◌≡◌}
 use Rattle.console_session.proofs.Stepping.{text_answered}
 use Rattle.console_session.proofs.attendant.Attendant.answer_text.Goals as goal
 
