@@ -1,9 +1,12 @@
--- The laws of the reply at the front of a stream.
+-- The laws of the reply at the front of a stream, and of what a line tells.
 use Rattle.std.proofs.Common.{◌≡◌, ℕ, List, ◌∷◌, ◌++◌, length, take, drop, arith, ap, sym, ◌∙◌, subst, append_assoc, length-append, length-take-le}
-use Rattle.std.proofs.lemmas.List.{take-append-drop, take-append-le, take-take}
+use Rattle.std.specs.Prelude.{codes}
+use Rattle.std.specs.Str.Parse.{digits_value}
+use Rattle.std.proofs.lemmas.List.{append_cancel_left, append_cancel_right, take-append-drop, take-append-le, take-take}
 use Rattle.ftp_replies.specs.Closings.{ClosesBehind}
 use Rattle.ftp_replies.specs.Replies.{code_text, closing, IsReply}
-use Rattle.ftp_replies.specs.ReplyLaws.{HasOneReply, ReplyStays, NoReplyStays, FrontOfReplyIsDue, ReplyComesWhole, ReplyIsShort}
+use Rattle.ftp_replies.specs.ReplyLaws.{HasOneReply, ReplyStays, NoReplyStays, FrontOfReplyIsDue, ReplyComesWhole, ReplyIsShort, HasOneSize, HasOnePort}
+use Rattle.ftp_replies.proofs.AddressLemmas.{one_port}
 use Rattle.ftp_replies.proofs.ClosingLemmas.{same_closed, closes_short}
 use Rattle.ftp_replies.proofs.ReplyLemmas.{marked, same_code, reply_closes, no_reply, fits_no_reply}
 
@@ -68,3 +71,14 @@ reply_comes_whole bytes code used is n before =
 
 pub reply_is_short : ReplyIsShort
 reply_is_short bytes code is = closes_short (closing code) bytes (reply_closes code bytes is)
+
+pub one_size : HasOneSize
+one_size line size other a b =
+    let text : codes "213 " ++ a.digits ≡ codes "213 " ++ b.digits =
+    append_cancel_right (codes "213 " ++ a.digits) (codes "213 " ++ b.digits) (codes "\r\n") (sym a.is ∙ b.is) in
+    let digits : a.digits ≡ b.digits = append_cancel_left (codes "213 ") a.digits b.digits text in
+    a.value ∙ (ap (digits_value 10) digits ∙ sym b.value)
+
+pub one_told_port : HasOnePort
+one_told_port line port other a b =
+    one_port line b.at b.high b.low b.none_before b.found port a ∙ sym b.is

@@ -1,5 +1,7 @@
--- Laws of the reply at the front of a stream, as far as the stream has come.
+-- Laws of the reply at the front of a stream, as far as the stream has come, and of what a line tells.
 use Rattle.std.specs.Prelude.{◌≡◌, ℕ, ◌*◌, ◌<◌, ◌≤◌, List, ◌++◌, length, take}
+use Rattle.ftp_replies.specs.Addresses.{TellsPort}
+use Rattle.ftp_replies.specs.Sizes.{TellsSize}
 use Rattle.ftp_replies.specs.Replies.{IsReply, BeginsWithReply, IsReplyDue, HasNoReply}
 use Rattle.ftp_replies.specs.declared.limits.TheConstants.{MAX_LINE_BYTES, MAX_REPLY_LINES}
 
@@ -30,3 +32,11 @@ ReplyComesWhole = (bytes : List ℕ) (code used : ℕ)
 abbrev pub ReplyIsShort : Type 0
 ReplyIsShort = (bytes : List ℕ) (code : ℕ)
     → IsReply code bytes → length bytes ≤ MAX_REPLY_LINES * MAX_LINE_BYTES
+
+-- a line tells one size
+abbrev pub HasOneSize : Type 0
+HasOneSize = (line : List ℕ) (size other : ℕ) → TellsSize line size → TellsSize line other → size ≡ other
+
+-- a line tells one port
+abbrev pub HasOnePort : Type 0
+HasOnePort = (line : List ℕ) (port other : ℕ) → TellsPort line port → TellsPort line other → port ≡ other

@@ -1,6 +1,6 @@
 // Laws of the reply at the front of a stream.
 ghost use Rattle.std.specs.Prelude.{◌≡◌, ◌^◌};
-ghost use Rattle.ftp_replies.specs.ReplyLaws.{HasOneReply, ReplyStays, NoReplyStays, FrontOfReplyIsDue, ReplyComesWhole, ReplyIsShort};
+ghost use Rattle.ftp_replies.specs.ReplyLaws.{HasOneReply, ReplyStays, NoReplyStays, FrontOfReplyIsDue, ReplyComesWhole, ReplyIsShort, HasOneSize, HasOnePort};
 ghost use Rattle.ftp_replies.specs.declared.limits.TheConstants.{MAX_LINE_BYTES, MAX_REPLY_LINES, SIZE_LIMIT};
 
 /// Laws of the reply at the front of a stream, as far as the stream has come: it is one reply, it stands once its last
@@ -12,6 +12,12 @@ pub fn replies_are_one_and_stay()
     ensures front { FrontOfReplyIsDue }
     ensures whole { ReplyComesWhole }
     ensures short { ReplyIsShort }
+{}
+
+/// A line tells one size and one port at most. It does nothing when it runs.
+pub fn lines_tell_one_thing()
+    ensures size { HasOneSize }
+    ensures port { HasOnePort }
 {}
 
 /// How much a reply may have, and which sizes it may tell. It does nothing when it runs.
