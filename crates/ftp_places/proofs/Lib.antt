@@ -1,0 +1,2 @@
+pub mod PathnameLemmas
+pub mod PlaceLemmas

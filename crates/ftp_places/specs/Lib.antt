@@ -1,0 +1,2 @@
+pub mod Pathnames
+pub mod Places
