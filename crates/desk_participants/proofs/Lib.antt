@@ -1,3 +1,4 @@
 pub mod Seating
 pub mod Uses
 pub mod Crosses
+pub mod Parts
