@@ -40,8 +40,8 @@ module _ {D L K A O : Type 0} {says : DiskSays D} {links : LinkSays L} {clocks :
 
     pub pieces_so : IsLine run.given.words line → is_alone run.given.links line ≡ true → IsTrue says.tells
         → IsTrue links.tells
-        → CompletesPieces says links sinks run.given.words run.given.disk run.given.links run.given.out run.came.ended
-        run.came.links run.came.out
+        → CompletesPieces says links sinks run.given.words run.given.gids 0 run.given.disk run.given.links run.given.out
+        run.came.ended run.came.links run.came.out
     pieces_so means alone told linked = ⊎_elim
         (λ was. λ other meta uris served. inr (inl (starved_ending was.0 was.1)))
         (λ downloads. ⊎_elim (λ its. its.pieces told linked) (λ its. not_both alone its.shared) downloads)

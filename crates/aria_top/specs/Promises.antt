@@ -143,20 +143,20 @@ module _ {D L K A O : Type 0} (says : DiskSays D) (links : LinkSays L) (sinks : 
 
   abbrev pub Completes : Type 0
   Completes = OverTelling (λ line.
-      CompletesServed (is_alone run.given.links line) says links sinks run.given.words run.given.disk run.given.links
-      run.given.out run.came.ended run.came.links run.came.out)
+      CompletesServed (is_alone run.given.links line) says links sinks run.given.words run.given.gids
+      (length run.given.doors) run.given.disk run.given.links run.given.out run.came.ended run.came.links run.came.out)
 
   abbrev pub CompletesMirrors : Type 0
   CompletesMirrors = OverTelling (λ line.
-      CompletesUris (is_alone run.given.links line) says links sinks run.given.words run.given.disk run.given.links
-      run.given.out run.came.ended run.came.links run.came.out)
+      CompletesUris (is_alone run.given.links line) says links sinks run.given.words run.given.gids
+      (length run.given.doors) run.given.disk run.given.links run.given.out run.came.ended run.came.links run.came.out)
 
   -- ---- over one link without a console
 
   abbrev pub CompletesByPieces : Type 0
   CompletesByPieces = OverTelling (λ line. is_alone run.given.links line ≡ true
-      → CompletesPieces says links sinks run.given.words run.given.disk run.given.links run.given.out run.came.ended
-      run.came.links run.came.out)
+      → CompletesPieces says links sinks run.given.words run.given.gids 0 run.given.disk run.given.links run.given.out
+      run.came.ended run.came.links run.came.out)
 
   abbrev pub BoundsAlone : Type 0
   BoundsAlone = OfLine run (λ line. is_alone run.given.links line ≡ true

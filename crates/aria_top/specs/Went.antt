@@ -59,8 +59,8 @@ module _ {D L K A O : Type 0} (says : DiskSays D) (links : LinkSays L) (clocks :
     pub ran : RanAlone says links clocks sinks run
     pub over : WentOver line
     pub pieces : IsTrue says.tells → IsTrue links.tells
-        → CompletesPieces says links sinks run.given.words run.given.disk run.given.links run.given.out run.came.ended
-        run.came.links run.came.out
+        → CompletesPieces says links sinks run.given.words run.given.gids 0 run.given.disk run.given.links run.given.out
+        run.came.ended run.came.links run.came.out
     pub bounds : BoundsFirst says sinks links run.given.words run.given.gids run.given.disk run.given.links run.given.out
         run.came.ended run.came.links run.came.out
     pub untouched : LeavesLinks says links run.given.disk run.given.links run.came.ended run.came.links

@@ -23,12 +23,12 @@ use load_setup::{SoundDisk, SoundLinks, UnseenSink};
 use option_set::Options;
 use payload_repair::RepairWatch;
 use run_lifecycle::{
-    begun_runs_are_stopped, is_console_on, runs_end_as_shown, runs_have_whole_histories,
-    runs_leave_other_files, runs_print_one_text, runs_show_their_disk, runs_survive_crashes,
-    unbegun_runs_only_read,
+    begun_runs_are_stopped, is_console_on, runs_end_as_shown, runs_print_one_text,
+    runs_show_their_disk, unbegun_runs_only_read,
 };
 use run_report::RunEnding;
 use served_runs::{
+    linked_runs_have_histories, linked_runs_leave_other_files, linked_runs_survive_crashes,
     runs_complete_uris, runs_complete_what_is_served, runs_show_their_links,
     runs_show_why_unfinished, runs_spare_serving_mirrors,
 };
@@ -232,15 +232,15 @@ pub fn run<
     begun_runs_are_stopped::<D, O>();
     runs_end_as_shown::<D, O>();
     runs_print_one_text::<D, O>();
-    runs_have_whole_histories::<D, O>();
+    linked_runs_have_histories::<D, L, K, O>();
     runs_show_their_disk::<D, O>();
-    runs_leave_other_files::<D, O>();
+    linked_runs_leave_other_files::<D, L, K, O>();
     runs_show_their_links::<D, L, K, O>();
     runs_show_why_unfinished::<D, L, K, O>();
     runs_spare_serving_mirrors::<D, L, K, O>();
     runs_complete_what_is_served::<D, L, K, O>();
     runs_complete_uris::<D, L, K, O>();
-    runs_survive_crashes::<D, O>();
+    linked_runs_survive_crashes::<D, L, K, O>();
     unbegun_runs_only_read::<D, O>();
     by_meaning(rt, alloc, words, disk, over, links, doors, gids, out, watch)
 }

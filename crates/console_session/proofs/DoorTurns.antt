@@ -57,7 +57,7 @@ module _ {D T K : Type 0} (sight : T → SessionSight D) (desk_id : T → DeskId
     abbrev pub attending : DoorAt S T A → SessionAt K T
     attending place = session_at (of place.session) place.desk
 
-    abbrev Takes : List RunTurn → SessionAt K T → SessionAt K T → Type 0
+    abbrev pub Takes : List RunTurn → SessionAt K T → SessionAt K T → Type 0
     Takes turns a b = TakesTurns sight desk_id reads turns a b
 
     -- the session has this number and this secret
@@ -65,13 +65,13 @@ module _ {D T K : Type 0} (sight : T → SessionSight D) (desk_id : T → DeskId
       pub number : a.session.number ≡ session
       pub secret_is : secret_of a.session ≡ secret
 
-    still_this : (turns : List RunTurn) (a b : SessionAt K T) → IsThis a → Takes turns a b → IsThis b
+    pub still_this : (turns : List RunTurn) (a b : SessionAt K T) → IsThis a → Takes turns a b → IsThis b
     still_this turns a b this takes = record {
       number = takes.goes_on.number ∙ this.number;
       secret_is = takes.goes_on.secret ∙ this.secret_is;
     }
 
-    both : (a m b : SessionAt K T) (first more : List RunTurn) → Takes first a m → Takes more m b → Takes (first ++ more) a b
+    pub both : (a m b : SessionAt K T) (first more : List RunTurn) → Takes first a m → Takes more m b → Takes (first ++ more) a b
     both a m b first more one other = takes_both sight desk_id reads add_up a m b first more one other
 
     -- ---- a socket
@@ -81,10 +81,10 @@ module _ {D T K : Type 0} (sight : T → SessionSight D) (desk_id : T → DeskId
       takes : Takes turns a b
       makes : MakesEvent secret session event turns a.session.cursor b.session.cursor
 
-    record HasMadeAll (events : List SocketEvent) (a b : SessionAt K T) : Type 0 where
-      turns : List RunTurn
-      takes : Takes turns a b
-      makes : MakeEvents secret session events turns a.session.cursor b.session.cursor
+    pub record HasMadeAll (events : List SocketEvent) (a b : SessionAt K T) : Type 0 where
+      pub turns : List RunTurn
+      pub takes : Takes turns a b
+      pub makes : MakeEvents secret session events turns a.session.cursor b.session.cursor
 
     event_made : (event : SocketEvent) (s : S) (d : T) (s' : S) (d' : T) → IsThis (session_at (of s) d)
         → IsSocketEvent at_attending asks_attending moves_attending event s d s' d'
@@ -104,7 +104,7 @@ module _ {D T K : Type 0} (sight : T → SessionSight D) (desk_id : T → DeskId
       makes = record { turn = asks.turn; only = refl; op = asks.op; answer = asks.answer; kept = asks.cursor };
     }
 
-    events_made : (events : List SocketEvent) (s : S) (d : T) (s' : S) (d' : T) → IsThis (session_at (of s) d)
+    pub events_made : (events : List SocketEvent) (s : S) (d : T) (s' : S) (d' : T) → IsThis (session_at (of s) d)
         → AreSocketEvents at_attending asks_attending moves_attending events s d s' d'
         → HasMadeAll events (session_at (of s) d) (session_at (of s') d')
     events_made [] s d s' d' this (same, desk_same) =
@@ -150,22 +150,22 @@ module _ {D T K : Type 0} (sight : T → SessionSight D) (desk_id : T → DeskId
       makes = then.makes;
     }
 
-    at_same : (a b : DoorAt S T A) → b.session ≡ a.session → b.desk ≡ a.desk → Takes [] (attending a) (attending b)
+    pub at_same : (a b : DoorAt S T A) → b.session ≡ a.session → b.desk ≡ a.desk → Takes [] (attending a) (attending b)
     at_same a b same desk_same =
         subst (λ (x : S). Takes [] (attending a) (session_at (of x) b.desk)) (sym same)
         (subst (λ (y : T). Takes [] (attending a) (session_at (of a.session) y)) (sym desk_same)
         (takes_none sight desk_id reads none (attending a)))
 
-    stayed : (a b : DoorAt S T A) → StaysAtDesk at_attending asks_attending moves_attending says a b
+    pub stayed : (a b : DoorAt S T A) → StaysAtDesk at_attending asks_attending moves_attending says a b
         → Takes [] (attending a) (attending b)
     stayed a b stays = at_same a b stays.session stays.desk
 
-    called : (a b : DoorAt S T A) (turns : List Invoked)
+    pub called : (a b : DoorAt S T A) (turns : List Invoked)
         → Extends (at_attending a.session a.desk) (at_attending b.session b.desk) turns
         → HasCarriedOut sight desk_id reads (attending a) turns (attending b)
     called a b turns extends = extends a.session a.desk [] (carried_none sight desk_id reads none (attending a))
 
-    quiet : (end : ConnectionEnd) (a : ConsoleAt S T A) (b : DoorAt S T A)
+    pub quiet : (end : ConnectionEnd) (a : ConsoleAt S T A) (b : DoorAt S T A)
         → EndsHere at_attending asks_attending moves_attending says end a b → Takes [] (attending a.place) (attending b)
     quiet AtItsEnd a b here = stayed a.place b here.1
     quiet Failed a b here = stayed a.place b here.1
@@ -174,7 +174,7 @@ module _ {D T K : Type 0} (sight : T → SessionSight D) (desk_id : T → DeskId
     quiet RunEnded a b here = absurd here
     quiet (Socket how) a b here = absurd here
 
-    abbrev TalksOn : List TalkStep → ConnectionEnd → ConsoleAt S T A → DoorAt S T A → Type 0
+    abbrev pub TalksOn : List TalkStep → ConnectionEnd → ConsoleAt S T A → DoorAt S T A → Type 0
     TalksOn steps end a b = Talks at_attending asks_attending moves_attending says steps end a b
 
     abbrev Talked : List TalkStep → DoorAt S T A → DoorAt S T A → Type 0
@@ -228,7 +228,7 @@ module _ {D T K : Type 0} (sight : T → SessionSight D) (desk_id : T → DeskId
         takes : Takes turns a b
         makes : MakeSockets secret session visits turns
 
-      abbrev KeepsFrom : List Visit → DoorEnd → DoorAt S T A → DoorAt S T A → Type 0
+      abbrev pub KeepsFrom : List Visit → DoorEnd → DoorAt S T A → DoorAt S T A → Type 0
       KeepsFrom visits end a b = Keeps at_attending asks_attending moves_attending says most visits end a b
 
       abbrev Kept : List Visit → DoorAt S T A → DoorAt S T A → Type 0
@@ -253,7 +253,7 @@ module _ {D T K : Type 0} (sight : T → SessionSight D) (desk_id : T → DeskId
       ended Finished a b never = absurd never
       ended NoBuffers a b never = absurd never
 
-      abbrev Stops : List Visit → DoorEnd → DoorAt S T A → DoorAt S T A → Type 0
+      abbrev pub Stops : List Visit → DoorEnd → DoorAt S T A → DoorAt S T A → Type 0
       Stops visits end m b = (visits ≡ []) × (end ≡ Finished) × (b ≡ m)
 
       stopped : (visits : List Visit) (end : DoorEnd) (m b : DoorAt S T A) → Stops visits end m b → Kept visits m b

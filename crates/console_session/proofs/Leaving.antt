@@ -49,6 +49,7 @@ module _ {D T K A : Type 0} (sight : T → SessionSight D) (desk_id : T → Desk
       last = did.last;
       came = did.came;
       sockets = did.sockets;
+      found = did.found;
       told = did.told;
       faults = did.faults;
       cause = did.cause;

@@ -3,6 +3,7 @@ pub mod Carrying
 pub mod Stepping
 pub mod DoorEnds
 pub mod DoorTurns
+pub mod DoorAskings
 pub mod DoorTells
 pub mod Leaving
 pub mod Replying

@@ -20,9 +20,10 @@ use Rattle.turn_desk.specs.Laws.{NoTurnsChangeNothing, TurnsAddUp}
 use Rattle.turn_desk.specs.Sights.{DeskId}
 use Rattle.console_session.proofs.Carrying.{carried_none}
 use Rattle.console_session.proofs.DoorEnds.{ComesToEnd, ended_by, found_last}
+use Rattle.console_session.proofs.DoorAskings.{visited_to_end}
 use Rattle.console_session.proofs.DoorTurns.{asks_attending, at_attending, kept_to_end, moves_attending}
 use Rattle.console_session.specs.CallTurns.{FindsFinish, SessionSight, is_finish}
-use Rattle.console_session.specs.DoorSessions.{AreServed, EndsLast, IsCauseOf, MakeSockets}
+use Rattle.console_session.specs.DoorSessions.{AreServed, EndsLast, IsCauseOf, MakeSockets, MakeVisits}
 use Rattle.console_session.specs.Sessions.{AsksForFinish, Attends, HasCarriedOut, SessionAt, TakesTurns, secret_of, session_at}
 use Rattle.console_session.specs.declared.session.ConsoleSession.{ConsoleSession}
 
@@ -194,6 +195,8 @@ module _ {D T K : Type 0} (sight : T → SessionSight D) (desk_id : T → DeskId
         let number = (of a.session).number in
         let made = kept_to_end sight desk_id reads of none add_up says secret number most visits kept.end a b
         (record { number = refl; secret_is = refl }) keeps.keeps in
+        let found = visited_to_end sight desk_id reads of none add_up says secret number most visits kept.end a b
+        (record { number = refl; secret_is = refl }) keeps.keeps in
         record {
           turns = all.turns;
           takes = all.takes;
@@ -203,6 +206,8 @@ module _ {D T K : Type 0} (sight : T → SessionSight D) (desk_id : T → DeskId
           came = all.came;
           sockets = subst (MakeSockets secret number visits)
               (same_turns (attending a) (attending b) made.0 all.turns made.1 all.takes.went.own) made.2;
+          found = subst (MakeVisits secret number kept.end visits)
+              (same_turns (attending a) (attending b) found.turns all.turns found.takes all.takes.went.own) found.makes;
           told = keeps.told;
           faults = keeps.faults;
           cause = cause_of a b all.turns all.takes visits begun kept.end keeps.keeps;

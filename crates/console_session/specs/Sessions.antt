@@ -18,7 +18,7 @@ use Rattle.rpc_console.specs.declared.asking.Keys.{Keys}
 use Rattle.rpc_envelope.specs.Turns.{BeginsWith, Invoked, OutcomeData, invocations_in, outcomes_in}
 use Rattle.turn_desk.specs.Sights.{DeskId, Went}
 use Rattle.console_session.specs.CallTurns.{AreReadFrom, CameBy, CameInOrder, IsOfSession, IsToldOrLost, SessionSight, call_turns, is_finish, outcome_by, places_by, reply_places, starved_in_reply}
-use Rattle.console_session.specs.DoorSessions.{AreServed, EndsLast, IsCauseOf, MakeSockets}
+use Rattle.console_session.specs.DoorSessions.{AreServed, EndsLast, IsCauseOf, MakeSockets, MakeVisits}
 pub use Rattle.console_session.specs.SessionPlaces.{SessionAt, secret_of, session_at}
 use Rattle.console_session.specs.SocketSteps.{MakesStep, answers_to, calls_in}
 use Rattle.console_session.specs.declared.session.ConsoleSession.{ConsoleSession}
@@ -119,6 +119,7 @@ module _ {D T K : Type 0} (sight : T → SessionSight D) (desk_id : T → DeskId
       pub last : EndsLast visits kept.end
       pub came : CameInOrder (secret_of a.session) a.session.number (call_turns turns) (turns_in visits)
       pub sockets : MakeSockets (secret_of a.session) a.session.number visits turns
+      pub found : MakeVisits (secret_of a.session) a.session.number kept.end visits turns
       pub told : IsTrue says.tells → GainsTalks visits (says.state a.door) (says.state b.door)
       pub faults : RoseBy (failed_in visits + faults_of_end kept.end) (says.faults a.door) (says.faults b.door)
       pub cause : IsCauseOf says kept.end turns visits b.door

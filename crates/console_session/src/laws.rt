@@ -1,7 +1,9 @@
 // What follows of the turns of a session. Laws do nothing when they run.
+ghost use Rattle.std.specs.Prelude.{◌≡◌};
 ghost use Rattle.console_session.specs.DoorLaws.{DoorsTellNotices};
 ghost use Rattle.console_session.specs.SessionLaws.{CallsStandWhereReplied, RepliesAreOfTheHistory};
 ghost use Rattle.console_session.specs.SocketLaws.{SocketStepsTellAll};
+ghost use Rattle.machine_core.specs.declared.notices.TheConstants.{MOST_NOTICES};
 
 use machine_core::notices_go_on;
 
@@ -32,3 +34,8 @@ pub fn doors_tell_notices()
 {
     socket_steps_tell_all();
 }
+
+/// How many notices a turn tells. It does nothing when it runs.
+pub fn limits_are_told()
+    ensures { MOST_NOTICES ≡ 64 }
+{}

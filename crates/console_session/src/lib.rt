@@ -9,7 +9,7 @@ mod serving;
 mod session;
 
 pub use laws::{
-    calls_stand_where_replied, doors_tell_notices, replies_are_of_the_history,
+    calls_stand_where_replied, doors_tell_notices, limits_are_told, replies_are_of_the_history,
     socket_steps_tell_all,
 };
 pub use serving::{Transcript, serve_door};

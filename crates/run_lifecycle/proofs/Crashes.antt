@@ -1,29 +1,27 @@
 -- What is kept since the first mark of a run is kept from the disk on that it was given.
-use Rattle.std.proofs.Common.{◌≡◌, ◌⊎◌, ⊎_elim, inl, inr, ℕ, ◌&&◌, Bool, true, false, List, [], ◌∷◌, ◌++◌, length, refl, sym, ap, ◌∙◌, subst, arith}
+use Rattle.std.proofs.Common.{◌≡◌, ◌⊎◌, ⊎_elim, inl, inr, ℕ, ◌&&◌, true, false, List, [], ◌∷◌, ◌++◌, length, refl, sym, ap, ◌∙◌, subst, arith}
 use Rattle.std.specs.Prelude.{IsSome, Option, Some, slice_index_or}
 use Rattle.control_file.specs.Wants.{IsListedWant}
 use Rattle.control_file.specs.declared.want.Want.{Want}
 use Rattle.dl_disk.specs.Files.{Files}
-use Rattle.dl_disk.specs.State.{DiskState, LeftSince}
-use Rattle.dl_history.specs.OwnEvents.{OwnEvent}
+use Rattle.dl_disk.specs.State.{DiskState}
 use Rattle.dl_history.specs.PayloadParts.{is_verified_in}
 use Rattle.dl_history.proofs.Bools.{or_right}
 use Rattle.dl_kinds.specs.declared.gid.Gid.{Gid}
 use Rattle.durable_progress.specs.Promises.{is_piece_promised, is_piece_saved}
 use Rattle.durable_progress.proofs.Promised.{both_true}
-use Rattle.engine_core.specs.Askings.{IsDoneSince, IsOpenedWant, is_completed_in}
+use Rattle.engine_core.specs.Askings.{IsOpenedWant, is_completed_in}
 use Rattle.engine_core.specs.Durable.{AllHold, GivesSaves, Holds, IsKeptSince, KeepsSince}
 use Rattle.engine_turns.specs.Told.{RunTurn, history_of}
 use Rattle.machine_core.specs.OwnParts.{PayloadLengths, own_of}
-use Rattle.machine_core.specs.RunLegal.{download_in, info_hash_by, known_lengths}
+use Rattle.machine_core.specs.RunLegal.{info_hash_by, known_lengths}
 use Rattle.machine_core.specs.Starts.{Download, Listed, RunStart, Subject, Unlisted}
 use Rattle.machine_core.specs.Wanted.{wanted_pieces}
 use Rattle.metainfo.specs.declared.meta.Meta.{Meta}
 use Rattle.resume_core.specs.Resume.{Agrees, AreSound, ReachesPiece, Sound}
-use Rattle.resume_core.specs.Wants.{files_in}
 use Rattle.resume_core.proofs.Reaching.{reach_piece}
 use Rattle.stored_run.specs.RunFollows.{RunFollows}
-use Rattle.run_lifecycle.specs.Promises.{HaveDigests, IsRun, IsRightPiece, IsToldComplete, IsWantedPiece, SurvivesCrash, WasSound}
+use Rattle.run_lifecycle.specs.Promises.{HaveDigests, IsRun, IsRightPiece, SurvivesCrash, WasSound}
 use Rattle.run_lifecycle.proofs.Completed.{completed_done, completion_found, known_listed, lengths_told}
 
 -- the oldest of some turns

@@ -1,5 +1,5 @@
 -- A run leaves the files of other wants as they are.
-use Rattle.std.proofs.Common.{◌≡◌, inl, inr, ℕ, Bool, true, false, IsTrue, List, [], ◌∷◌, ◌++◌, None, refl, sym, ap, ◌∙◌, subst, arith, append_assoc}
+use Rattle.std.proofs.Common.{◌≡◌, ◌≢◌, inr, ℕ, Bool, true, false, IsTrue, List, [], ◌∷◌, ◌++◌, None, refl, sym, ap, ◌∙◌, subst, arith, append_assoc}
 use Rattle.std.specs.Prelude.{◌||◌, All, Contains, codes, reverse}
 use Rattle.std.specs.List.{list_any}
 use Rattle.std.specs.Str.{bytes_eq}
@@ -25,9 +25,11 @@ use Rattle.resume_core.specs.Sharing.{names_of_want, share_names}
 use Rattle.resume_core.specs.Steps.{SameFor}
 use Rattle.turn_desk.specs.Turns.{last_mark}
 use Rattle.turn_desk.specs.declared.turn.Stamp.{Stamp}
-use Rattle.run_lifecycle.specs.DiskCauses.{IsNameOfNone, LeavesOtherFiles, names_beside}
-use Rattle.run_lifecycle.specs.Finishes.{Ran, IsWholeRun}
+use Rattle.run_lifecycle.specs.DiskCauses.{IsNameOfNone, OthersStay, names_beside}
+use Rattle.run_lifecycle.specs.Finishes.{Ran}
+use Rattle.run_lifecycle.specs.TurnsOf.{AreFed}
 use Rattle.run_lifecycle.specs.declared.ended.Ended.{Ended}
+use Rattle.run_report.specs.declared.endings.RunEnding.TheVariants.{NoMemory}
 use Rattle.run_lifecycle.proofs.Kept.{seen_same}
 use Rattle.run_lifecycle.proofs.Ran as ran_facts
 use Rattle.run_lifecycle.proofs.Turns.{mark_on, reversed_cut}
@@ -213,16 +215,13 @@ module _ {D O : Type 0} {says : DiskSays D} {sinks : SinkSays O} {words : List (
       (λ gid want asked has. unshared want name (none gid want asked has)) in
       ap (first_or None) same.files
 
-  pub leaves_other_files : WantsStay → IsWholeRun says sinks words gids doors disk out ended out'
-      → IsTrue says.tells
-      → LeavesOtherFiles says words gids doors disk ended
-  leaves_other_files stay (inl never) tells = inl never.journal
-  leaves_other_files stay (inr ran) tells = inr (record {
+  pub leaves_other_files : WantsStay → (ran : Ran says sinks words gids doors disk out ended out') → IsTrue says.tells
+      → (ended.ending ≢ NoMemory → AreFed (ran_facts.told ran)) → OthersStay says words gids doors disk ended
+  leaves_other_files stay ran tells fed = record {
     line = ran.begins.line;
     means = ran.begins.means;
     told = ran_facts.told ran;
-    history = ran_facts.history_is ran;
-    ties = ran_facts.ties ran;
+    turns = ran_facts.are_turns ran fed;
     wants = same_for ran tells stay;
     names = name_same ran tells stay;
-  })
+  }

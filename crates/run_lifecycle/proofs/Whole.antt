@@ -11,7 +11,7 @@ use Rattle.engine_core.specs.EngineViews.{EngineView}
 use Rattle.engine_turns.specs.CallRows.{CallRow, StopRow, stop_events}
 use Rattle.engine_turns.specs.Phases.{TurnStart}
 use Rattle.engine_turns.specs.RunLaws.{GoneStay}
-use Rattle.engine_turns.specs.RunTurns.{IsAnswered, MayComeAfter, answer_before}
+use Rattle.engine_turns.specs.RunTurns.{IsAnswered, MayComeAfter, answer_before, is_nearly_full}
 use Rattle.engine_turns.specs.Standings.{RunStanding, standing_after}
 use Rattle.engine_turns.specs.Told.{RunTurn, history_after, history_of, moment_in}
 use Rattle.engine_turns.specs.TurnLaws.{TurnsAppend}
@@ -28,8 +28,8 @@ use Rattle.run_report.specs.declared.endings.RunEnding.{RunEnding}
 use Rattle.run_report.specs.declared.endings.RunEnding.TheVariants.{NoMemory}
 use Rattle.turn_desk.specs.Turns.{events_of}
 use Rattle.run_lifecycle.specs.Begins.{IsOwnCall, is_no_memory}
-use Rattle.run_lifecycle.specs.Finishes.{EndsBy, Ran, IsWholeRun}
-use Rattle.run_lifecycle.specs.Histories.{IsHistory, LeavesNoneUnsaved, StandsFirst}
+use Rattle.run_lifecycle.specs.Finishes.{EndsBy, Ran}
+use Rattle.run_lifecycle.specs.Histories.{IsHistoryOf, LeavesNoneUnsaved, StandsFirst, StopsLast}
 use Rattle.run_lifecycle.specs.declared.ended.Ended.{Ended}
 use Rattle.run_lifecycle.proofs.Ran as ran_facts
 use Rattle.run_lifecycle.proofs.Saved.{stop_leaves_none}
@@ -200,11 +200,10 @@ module _ {D O : Type 0} {says : DiskSays D} {sinks : SinkSays O} {words : List (
 module _ {D O : Type 0} {says : DiskSays D} {sinks : SinkSays O} {words : List (List ℕ)}
     {gids doors : ℕ}
     {disk : D} {out : O} {ended : Ended D} {out' : O} where
-  pub has_history : TurnsAppend → DownloadsStay → GoneStay
-      → IsWholeRun says sinks words gids doors disk out ended out'
-      → IsHistory says words gids doors disk ended
-  has_history append stay gone (inl never) = inl never.journal
-  has_history append stay gone (inr ran) = inr (record {
+  pub has_history : TurnsAppend → DownloadsStay → GoneStay → (ran : Ran says sinks words gids doors disk out ended out')
+      → (ended.ending ≢ NoMemory → is_nearly_full ended.journal.events.items ≡ false
+      → StopsLast (ran_facts.start ran) ended.journal.events.items) → IsHistoryOf says words gids doors disk ended
+  has_history append stay gone ran last = record {
     line = ran.begins.line;
     means = ran.begins.means;
     legal = ran_facts.legal ran;
@@ -213,5 +212,6 @@ module _ {D O : Type 0} {says : DiskSays D} {sinks : SinkSays O} {words : List (
     call_is = ran.begins.call_is;
     first = first ran;
     stopped = stopped ran append;
+    stops_last = last;
     saved = saved ran stay gone;
-  })
+  }

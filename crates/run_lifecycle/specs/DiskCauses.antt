@@ -12,8 +12,7 @@ use Rattle.dl_kinds.specs.declared.runs.Moment.{Moment}
 use Rattle.dl_kinds.specs.Counts.{Rose}
 use Rattle.engine_core.specs.Askings.{IsAsked}
 use Rattle.engine_core.specs.TurnReads.{ChecksAsRead, IsFoundRight, IsUntouched, OfItsWant, OpensAsRead}
-use Rattle.engine_turns.specs.RunTurns.{MayComeAfter}
-use Rattle.engine_turns.specs.Told.{AllTurns, RunTurn, history_of}
+use Rattle.engine_turns.specs.Told.{RunTurn, history_of}
 use Rattle.machine_core.specs.DownloadWants.{HasWant}
 use Rattle.machine_core.specs.Starts.{RunStart}
 use Rattle.machine_core.specs.declared.ends.End.{End}
@@ -26,6 +25,7 @@ use Rattle.resume_core.specs.Sharing.{names_of_want}
 use Rattle.resume_core.specs.Steps.{SameFor}
 use Rattle.stored_run.specs.Refused.{IsRefusalEnd, RefusesAsRead}
 use Rattle.run_lifecycle.specs.Begins.{start_of_line}
+use Rattle.run_lifecycle.specs.TurnsOf.{AreTurnsOf}
 use Rattle.run_lifecycle.specs.declared.ended.Ended.{Ended}
 
 -- The event stands in the journal, behind this history, whose newest event is the first.
@@ -86,14 +86,13 @@ module _ {D : Type 0} (says : DiskSays D) (words : List (List ℕ)) (gids doors 
 
   -- ---- all other files
 
-  -- Turns came, each of which may come after those before it, and the journal is their history. What a want has that shares no name with one whose store was asked,
-  -- and what has a name of none, reads as it did.
+  -- Turns came, which are the run's. What a want has that shares no name with one whose store was asked, and what has a name of none,
+  -- reads as it did.
   pub record OthersStay : Type 0 where
     pub line : CommandLine
     pub means : IsLine words line
     pub told : List RunTurn
-    pub history : reverse ended.journal.events.items ≡ history_of told
-    pub ties : AllTurns (MayComeAfter (start_of_line gids doors line.globals)) told
+    pub turns : AreTurnsOf ended (start_of_line gids doors line.globals) told
     pub wants : (want : Want) → IsUntouched (start_of_line gids doors line.globals) told want
         → SameFor want (says.state disk).seen (says.state ended.disk).seen
     pub names : (name : List ℕ) → IsNameOfNone (start_of_line gids doors line.globals) told name

@@ -2,6 +2,7 @@ pub mod Ends
 pub mod Consoles
 pub mod Begins
 pub mod Stops
+pub mod TurnsOf
 pub mod Finishes
 pub mod Results
 pub mod Endings

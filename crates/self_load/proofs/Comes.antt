@@ -20,6 +20,7 @@ use Rattle.link_source.specs.declared.Links.{Ghosts as LinkSays}
 use Rattle.machine_core.specs.Starts.{Listed}
 use Rattle.machine_core.specs.declared.events.Event.{Event}
 use Rattle.metainfo.specs.Info.{info_of}
+use Rattle.run_lifecycle.specs.Begins.{start_of_line}
 use Rattle.run_lifecycle.specs.declared.ended.Ended.{Ended}
 use Rattle.run_report.specs.declared.endings.RunEnding.TheVariants.{NoMemory}
 use Rattle.served_runs.specs.Serving.{ServesRightly}
@@ -67,11 +68,14 @@ pub record IsLoadGiven {D L K : Type 0} (says : DiskSays D) (links : LinkSays L)
       → (links.state old.0).content ≡ load_content n place
 
 pub comes_well : {D L K O : Type 0} {limited : Bool} {says : DiskSays D} {links : LinkSays L} {sinks : SinkSays O}
-    {words : List (List ℕ)} {disk : D} {olds : List (L × K)} {out : O} {ended : Ended D} {news : List (L × K)} {out' : O} (n : ℕ)
-    → CompletesServed limited says links sinks words disk olds out ended news out' → IsLoadGiven says links words disk olds n
+    {words : List (List ℕ)} {gids : ℕ} {disk : D} {olds : List (L × K)} {out : O} {ended : Ended D} {news : List (L × K)}
+    {out' : O} (doors n : ℕ)
+    → CompletesServed limited says links sinks words gids doors disk olds out ended news out'
+    → (is : IsLoadGiven says links words disk olds n)
     → HadNoFaults says links sinks words disk olds out ended news out'
-    → IsDone ended ⊎ (ended.ending ≡ NoMemory) ⊎ EndsCutShort limited links olds ended news
-comes_well {D} {L} {K} {O} {limited} {says} {links} {sinks} {words} {disk} {olds} {out} {ended} n completes is well =
+    → IsDone ended ⊎ (ended.ending ≡ NoMemory)
+    ⊎ EndsCutShort limited links (start_of_line gids doors is.words_name.some.0.globals) olds ended news
+comes_well {D} {L} {K} {O} {limited} {says} {links} {sinks} {words} {gids} {disk} {olds} {out} {ended} doors n completes is well =
     let line = is.words_name.some.0 in
     let names = is.words_name.line line is.words_name.some.1 in
     let meta = (is.files_read n).0 in

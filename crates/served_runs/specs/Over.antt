@@ -1,14 +1,16 @@
 -- Runs over links: who took the turns between the line's own call and the last stop.
-use Rattle.std.specs.Prelude.{◌≡◌, ◌⊎◌, ◌<◌, ◌||◌, ◌++◌, ℕ, Bool, true, false, IsTrue, Contains, List, Some, Ok, length, slice_get}
+use Rattle.std.specs.Prelude.{◌≡◌, ◌⊎◌, ◌<◌, ◌||◌, ◌++◌, ℕ, Bool, true, false, IsTrue, Contains, List, Some, Ok, length, reverse, slice_get}
 pub use Rattle.blameless_mirrors.specs.Lone.{IsWork}
 use Rattle.conn_worker.specs.Works.{IsWithinTurns}
 use Rattle.conn_worker.specs.declared.ends.WorkEnd.{WorkEnd}
 use Rattle.dl_disk.specs.declared.disk.Disk.{Ghosts as DiskSays}
 use Rattle.dl_kinds.specs.declared.outside.Sink.{Ghosts as SinkSays}
 use Rattle.dl_kinds.specs.declared.runs.Moment.{Moment}
-use Rattle.engine_turns.specs.Told.{RunTurn}
+use Rattle.engine_turns.specs.Told.{RunTurn, history_of}
 use Rattle.engine_turns.specs.declared.operations.Operation.TheVariants.{Stop}
 use Rattle.link_source.specs.declared.Links.{Ghosts as LinkSays}
+use Rattle.machine_core.specs.RunLegal.{doors_left}
+use Rattle.run_lifecycle.specs.Begins.{start_of_line}
 use Rattle.run_lifecycle.specs.Finishes.{NeverBegan, Ran}
 use Rattle.run_lifecycle.specs.LinkCauses.{WorkedAmong}
 use Rattle.run_lifecycle.specs.Stops.{ends_short}
@@ -36,12 +38,17 @@ module _ {D O L K : Type 0} {says : DiskSays D} {sinks : SinkSays O} (limited : 
     pub there : Contains (at.own.its.worked ++ at.own.its.stop) t
 
   -- Each turn of work is of a worker, and so is each that stops the run before the last one, and each turn at all where the
-  -- console is off. Unless memory was wanting, each link was worked over.
+  -- console is off. Unless memory was wanting, each link was worked over, and all doors left before the last turn. Where the
+  -- number of turns is limited there are none.
   pub record IsWorkedOver : Type 0 where
     pub works : (t : RunTurn) → Contains ran.stops.middle t → IsWork t.op → IsOfWorker t
     pub stops : (t : RunTurn) → Contains ran.stops.middle t → (now : Moment) → t.op ≡ Stop now → IsOfWorker t
     pub alone : ran.begun.console.is_on ≡ false → (t : RunTurn) → Contains ran.stops.middle t → IsOfWorker t
     pub each : (ran.begun.is_short || ran.short) ≡ false → (place : ℕ) → place < length olds → WorkedOver place
+    pub left : (ran.begun.is_short || ran.short) ≡ false
+        → doors_left (start_of_line gids doors ran.begins.line.globals)
+        (history_of (reverse (ran.begun.desk.own ++ ran.stops.middle))) ≡ 0
+    pub doorless : IsTrue limited → (start_of_line gids doors ran.begins.line.globals).doors ≡ 0
 
 module _ {D O L K : Type 0} (says : DiskSays D) (sinks : SinkSays O) (limited : Bool) (links : LinkSays L) where
   -- a run whose work was done over these links

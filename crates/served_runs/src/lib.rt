@@ -8,6 +8,7 @@ mod serving;
 
 pub use laws::{brought_runs_end_well, finished_runs_are_done};
 pub use over::{
+    linked_runs_have_histories, linked_runs_leave_other_files, linked_runs_survive_crashes,
     runs_complete_uris, runs_complete_what_is_served, runs_show_their_links,
     runs_show_why_unfinished, runs_spare_serving_mirrors,
 };

@@ -1,5 +1,5 @@
 // What follows of runs over links. Laws do nothing when they run.
-ghost use Rattle.served_runs.specs.OverLaws.{RunsCompleteServed, RunsCompleteUris, RunsShowLinks, RunsShowUnfinished, RunsSpareServing};
+ghost use Rattle.served_runs.specs.OverLaws.{LinkedHaveHistories, LinkedLeaveOtherFiles, LinkedSurvive, RunsCompleteServed, RunsCompleteUris, RunsShowLinks, RunsShowUnfinished, RunsSpareServing};
 
 use crate::laws::{brought_runs_end_well, finished_runs_are_done};
 use crate::serving::{runs_are_faithful, runs_tell_right_lengths};
@@ -14,8 +14,8 @@ use engine_turns::turns_tell_runs;
 use link_source::Links;
 use machine_core::downloads_stay;
 use run_lifecycle::{
-    disks_keep_runs, losses_come_of_workers, runs_end_as_shown, runs_show_their_disk,
-    workers_show_their_link,
+    disks_keep_runs, losses_come_of_workers, runs_end_as_shown, runs_have_whole_histories,
+    runs_leave_other_files, runs_show_their_disk, runs_survive_crashes, workers_show_their_link,
 };
 use stored_run::runs_follow;
 
@@ -77,4 +77,27 @@ pub fn runs_show_why_unfinished<D: Disk, L: Links, K, O: Sink>()
     ensures { RunsShowUnfinished K D.Disk O.Sink L.Links }
 {
     turns_tell_runs();
+}
+
+/// The history of a run over links begins with the call of its line, leaves nothing unsaved, and has its stop behind all doors'
+/// leaves.
+pub fn linked_runs_have_histories<D: Disk, L: Links, K, O: Sink>()
+    ensures { LinkedHaveHistories K D.Disk O.Sink L.Links }
+{
+    runs_have_whole_histories::<D, O>();
+    turns_tell_runs();
+}
+
+/// What a run over links told complete has its digests, and nothing that it promised is lost by a crash.
+pub fn linked_runs_survive_crashes<D: Disk, L: Links, K, O: Sink>()
+    ensures { LinkedSurvive K D.Disk O.Sink L.Links }
+{
+    runs_survive_crashes::<D, O>();
+}
+
+/// A run over links leaves the files of all wants as they are but those that it opened.
+pub fn linked_runs_leave_other_files<D: Disk, L: Links, K, O: Sink>()
+    ensures { LinkedLeaveOtherFiles K D.Disk O.Sink L.Links }
+{
+    runs_leave_other_files::<D, O>();
 }

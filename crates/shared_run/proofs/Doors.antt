@@ -5,7 +5,6 @@ use Rattle.std.proofs.lemmas.List.Elements.{Contains-append_left, Contains-appen
 use Rattle.served_runs.proofs.TurnLists.{here}
 use Rattle.served_runs.proofs.Workers.{ends_so}
 use Rattle.console_http.specs.declared.ends.DoorEnd.{DoorEnd}
-use Rattle.console_http.specs.declared.ends.DoorEnd.TheVariants.{Finished}
 use Rattle.console_session.specs.DoorLaws.{DoorsTellNotices, SocketsTell}
 use Rattle.console_session.specs.DoorSessions.{IsCauseOf}
 use Rattle.console_session.specs.SessionLaws.{CallsStandWhereReplied, RepliesAreOfTheHistory, call_places}
@@ -23,7 +22,6 @@ use Rattle.engine_turns.specs.declared.operations.Operation.TheVariants as opera
 use Rattle.engine_turns.specs.declared.operations.Said.TheVariants as said
 use Rattle.link_source.specs.declared.Links.{Ghosts as LinkSays}
 use Rattle.machine_core.specs.declared.calls.Call.{Call}
-use Rattle.machine_core.specs.declared.events.Event.{Event}
 use Rattle.run_report.specs.declared.kinds.Reply.{Reply}
 use Rattle.run_report.specs.declared.endings.RunEnding.TheVariants.{NoMemory}
 use Rattle.turn_desk.specs.Turns.{events_of}

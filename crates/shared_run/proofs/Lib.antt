@@ -6,6 +6,7 @@ pub mod Sharing
 pub mod Closing
 pub mod Framed
 pub mod Passes
+pub mod Leaves
 pub mod Over
 pub mod Called
 pub mod CallPlaces

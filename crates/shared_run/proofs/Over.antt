@@ -1,12 +1,12 @@
 -- The work of a run was done over its links, each by the worker of its place.
 use Rattle.std.proofs.Common.{◌≡◌, ◌≤◌, inl, inr, ⊎_elim, ℕ, zero, suc, Bool, true, false, List, [], ◌∷◌, ◌++◌, Some, Ok, length, map, refl, sym, ap, ◌∙◌, subst, arith, slice_get}
-use Rattle.std.specs.Prelude.{◌+◌, ◌-◌, ◌<◌, ◌||◌, All, Contains}
+use Rattle.std.specs.Prelude.{◌+◌, ◌-◌, ◌<◌, ◌||◌, All, Contains, if◌then◌else◌, reverse}
 use Rattle.std.specs.List.{list_any}
 use Rattle.std.proofs.Math.Dec.{ltb}
 use Rattle.std.proofs.lemmas.Bool.{false≢true, ltb-false, ltb-true}
-use Rattle.std.proofs.lemmas.List.{length-append}
+use Rattle.std.proofs.lemmas.List.{length-append, reverse-append}
 use Rattle.std.proofs.lemmas.List.Elements.{All-contains, Contains-append_left, Contains-append_right, Contains-push_cases}
-use Rattle.served_runs.proofs.TurnLists.{none_there}
+use Rattle.served_runs.proofs.TurnLists.{here, none_there}
 use Rattle.served_runs.specs.Over.{IsOfWorker, IsRunOver, IsWork, RanOverLinks, WorkedOver}
 use Rattle.console_session.specs.CallTurns.{IsOfSession}
 use Rattle.console_session.specs.declared.serving.Transcript.{Transcript}
@@ -18,19 +18,26 @@ use Rattle.dl_disk.specs.declared.disk.Disk.{Ghosts as DiskSays}
 use Rattle.dl_kinds.specs.declared.outside.Sink.{Ghosts as SinkSays}
 use Rattle.dl_kinds.specs.declared.runs.Moment.{Moment}
 use Rattle.door_source.specs.declared.Doors.{Ghosts as DoorSays}
-use Rattle.engine_turns.specs.Told.{RunTurn}
+use Rattle.engine_turns.specs.RunTurns.{MayComeAfter}
+use Rattle.engine_turns.specs.Told.{AllTurns, RunTurn, history_of}
 use Rattle.engine_turns.specs.declared.operations.Operation.{Operation}
 use Rattle.engine_turns.specs.declared.operations.Operation.TheVariants as operation
 use Rattle.link_source.specs.declared.Links.{Ghosts as LinkSays}
+use Rattle.machine_core.specs.RunLegal.{doors_left}
+use Rattle.machine_core.specs.Starts.{RunStart}
 use Rattle.turn_desk.specs.Turns.{turns_by}
 use Rattle.run_lifecycle.specs.Begins.{is_no_memory}
+use Rattle.run_lifecycle.specs.Consoles.{is_console_on}
+use Rattle.run_lifecycle.specs.declared.console.ConsoleTerms.{ConsoleTerms}
 use Rattle.run_lifecycle.specs.declared.ended.Ended.{Ended}
+use Rattle.run_lifecycle.proofs.Ran as ran_facts
 use Rattle.run_lifecycle.proofs.Turns.{cut_at}
 use Rattle.shared_run.specs.Participants.{session_of}
 use Rattle.shared_run.specs.RunsTogether.{RanTogether, RunsTogether, used_edges}
 use Rattle.shared_run.specs.Together.{Edges, NobodyWorked, UsesLink, WorkedTogether}
 use Rattle.shared_run.proofs.Framed.{cut, framed}
-use Rattle.shared_run.proofs.Passes.{behind_own, by_pass, of_pass}
+use Rattle.shared_run.proofs.Leaves.{LeavesAt, all_leave, is_leave, leaves, leaves_reversed, none_stands}
+use Rattle.shared_run.proofs.Passes.{behind_own, by_pass, of_pass, pass_of}
 
 -- ---- lists
 
@@ -111,6 +118,29 @@ module _ {D L A K O : Type 0} {says : DiskSays D} {links : LinkSays L} {clocks :
     to_turns : (t : RunTurn) → Contains middle t → Contains turns t
     to_turns t there = subst (λ (ts : List RunTurn). Contains ts t) (sym turns_are)
         (Contains-append_right ran.begun.desk.own middle t there)
+
+    -- all turns but the last one
+    abbrev front : List RunTurn
+    front = ran.begun.desk.own ++ middle
+
+    abbrev start : RunStart
+    start = ran_facts.start (framed ran)
+
+    ties_front : AllTurns (MayComeAfter start) (reverse front)
+    ties_front =
+        let last = (framed ran).stops.last in
+        (subst (λ (ts : List RunTurn). AllTurns (MayComeAfter start) ts) (reverse-append front (last ∷ []))
+        (ran_facts.ties (framed ran))).1
+
+    -- there are as many doors as those that are used
+    doors_are : start.doors ≡ length (used_edges on olds).doors
+    doors_are = by on (is_console_on ran.begins.line.globals) (ap (λ (c : ConsoleTerms). c.is_on) ran.begins.console_is)
+      where
+        by : (b c : Bool) → b ≡ c → (if c then length olds.doors else 0) ≡ length (if b then olds.doors else [])
+        by true true is = refl
+        by false false is = refl
+        by true false is = absurd (false≢true (sym is))
+        by false true is = absurd (false≢true is)
 
     links_same : news.links ≡ ran.goes_on.used.links
     links_same = ap (λ (e : Edges L A K). e.links) ran.goes_on.news_are
@@ -215,6 +245,34 @@ module _ {D L A K O : Type 0} {says : DiskSays D} {links : LinkSays L} {clocks :
           by true is = by_worker t there (ltb-true t.pass (length worked.uses) is)
           by false is = by_door t there foreign (ltb-false t.pass (length worked.uses) is)
 
+      -- ---- its doors
+
+      many_doors : length worked.door_uses ≡ length (used_edges on olds).doors
+      many_doors = sym (ap length worked.doors_used.olds_are ∙ map_length (λ (u : Use A K Transcript). u.old) worked.door_uses)
+
+      -- each left
+      door_leaves : (door : ℕ) → door < length worked.door_uses → LeavesAt (length worked.uses + door) turns
+      door_leaves door low =
+          let its = get_at worked.door_uses door low in
+          let used = worked.each_door door its.0 its.1 in
+          let there : Contains (turns_by (length worked.uses + door) turns) used.its.last =
+          subst (λ (ts : List RunTurn). Contains ts used.its.last) (sym used.own)
+          (Contains-append_right used.its.before (used.its.last ∷ []) used.its.last (here used.its.last [])) in record {
+            turn = used.its.last;
+            there = of_pass (length worked.uses + door) turns used.its.last there;
+            pass_is = pass_of (length worked.uses + door) turns used.its.last there;
+            leaves_is = ap is_leave used.its.leaves;
+          }
+
+      left_of : doors_left start (history_of (reverse front)) ≡ 0
+      left_of =
+          let all = all_leave (length worked.uses) (length worked.door_uses) turns door_leaves in
+          let used = doors_are in
+          let doors = many_doors in
+          let cut = ap leaves turns_are in
+          let newest = leaves_reversed front in
+          none_stands start (reverse front) ties_front (omega (arith, all, used, doors, cut, newest))
+
       -- without a console no door is served
       alone_of : on ≡ false → (t : RunTurn) → Contains middle t → OfWorker t
       alone_of off t there =
@@ -251,6 +309,9 @@ module _ {D L A K O : Type 0} {says : DiskSays D} {links : LinkSays L} {clocks :
         each = λ unshort place low. ⊎_elim
             (λ (worked : Together). worked_over worked place (let all_links = many worked in omega (arith, all_links, low)))
             (λ (nobody : Nobody). absurd (false≢true (sym unshort ∙ told_short nobody))) ran.goes_on.goes.works.worked;
+        left = λ unshort. ⊎_elim (λ (worked : Together). left_of worked)
+            (λ (nobody : Nobody). absurd (false≢true (sym unshort ∙ told_short nobody))) ran.goes_on.goes.works.worked;
+        doorless = λ limited. absurd (false≢true limited);
       };
     }
 

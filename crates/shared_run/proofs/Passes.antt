@@ -36,7 +36,7 @@ of_pass k (u ∷ ts) t there = by (eqb u.pass k) there (of_pass k ts t)
     by false there rest = behind u ts t (rest there)
 
 -- .. each of it
-pass_of : (k : ℕ) (ts : List RunTurn) (t : RunTurn) → Contains (turns_by k ts) t → t.pass ≡ k
+pub pass_of : (k : ℕ) (ts : List RunTurn) (t : RunTurn) → Contains (turns_by k ts) t → t.pass ≡ k
 pass_of k [] t there = none_there t there
 pass_of k (u ∷ ts) t there = by (eqb u.pass k) refl there (pass_of k ts t)
   where

@@ -1,6 +1,6 @@
 -- Calls of a session that were replied to.
-use Rattle.std.proofs.Common.{◌≡◌, ⊎_elim, ℕ, Bool, List, [], ◌∷◌, ◌++◌, refl, ap, ◌∙◌, subst, arith}
-use Rattle.std.specs.Prelude.{◌+◌, if◌then◌else◌, All, Contains}
+use Rattle.std.proofs.Common.{◌≡◌, ⊎_elim, ℕ, Bool, List, [], ◌∷◌, refl, ap, ◌∙◌, subst, arith}
+use Rattle.std.specs.Prelude.{if◌then◌else◌, All, Contains}
 use Rattle.std.proofs.lemmas.List.Elements.{All-head, All-tail, Contains-append_cases, Contains-push_cases}
 use Rattle.served_runs.proofs.TurnLists.{behind, here}
 use Rattle.console_session.specs.CallTurns.{IsOfSession, call_turns, is_call, places_by, reply_places}

@@ -32,10 +32,10 @@ use link_source::Links;
 use machine_core::Journal;
 use run_lifecycle::{
     Begun, Ended, Unbegun, begin, begun_runs_are_stopped, finish, refuse, runs_end_as_shown,
-    runs_have_whole_histories, runs_leave_other_files, runs_print_one_text, runs_show_their_disk,
-    runs_survive_crashes, unbegun_runs_only_read,
+    runs_print_one_text, runs_show_their_disk, unbegun_runs_only_read,
 };
 use served_runs::{
+    linked_runs_have_histories, linked_runs_leave_other_files, linked_runs_survive_crashes,
     runs_complete_uris, runs_complete_what_is_served, runs_show_their_links,
     runs_show_why_unfinished, runs_spare_serving_mirrors,
 };
@@ -238,13 +238,13 @@ pub fn run_shared<
     ensures marks { IsTrue L.tells → SparesServing D.Disk L.Links (map string_bytes words.now)
         gids (length doors.items) links.items result.links.items (ended_run result) }
     // What is served comes: a run whose links lead to all of a metainfo file's payload is done, unless it was cut short.
-    ensures completes { IsTrue D.tells → IsTrue L.tells → CompletesServed false D.Disk
-        L.Links O.Sink (map string_bytes words.now) disk links.items out.old (ended_run result)
+    ensures completes { IsTrue D.tells → IsTrue L.tells → CompletesServed false D.Disk L.Links
+        O.Sink (map string_bytes words.now) gids (length doors.items) disk links.items out.old (ended_run result)
         result.links.items out.new }
     // So it does without a metainfo file, where all mirrors lead alike to one resource and no file stands in its folder; and
     // then its file has just the resource's bytes.
-    ensures completes_uris { IsTrue D.tells → IsTrue L.tells → CompletesUris false D.Disk
-        L.Links O.Sink (map string_bytes words.now) disk links.items out.old (ended_run result)
+    ensures completes_uris { IsTrue D.tells → IsTrue L.tells → CompletesUris false D.Disk L.Links
+        O.Sink (map string_bytes words.now) gids (length doors.items) disk links.items out.old (ended_run result)
         result.links.items out.new }
     // What is complete has its digests, and nothing that was promised is lost by a crash.
     ensures survives { IsTrue D.tells → SurvivesRun D.Disk (map string_bytes words.now) gids
@@ -264,15 +264,15 @@ pub fn run_shared<
     begun_runs_are_stopped::<D, O>();
     runs_end_as_shown::<D, O>();
     runs_print_one_text::<D, O>();
-    runs_have_whole_histories::<D, O>();
+    linked_runs_have_histories::<D, L, K, O>();
     runs_show_their_disk::<D, O>();
-    runs_leave_other_files::<D, O>();
+    linked_runs_leave_other_files::<D, L, K, O>();
     runs_show_their_links::<D, L, K, O>();
     runs_show_why_unfinished::<D, L, K, O>();
     runs_spare_serving_mirrors::<D, L, K, O>();
     runs_complete_what_is_served::<D, L, K, O>();
     runs_complete_uris::<D, L, K, O>();
-    runs_survive_crashes::<D, O>();
+    linked_runs_survive_crashes::<D, L, K, O>();
     unbegun_runs_only_read::<D, O>();
     turns_bring_what_came();
     turns_tell_runs();

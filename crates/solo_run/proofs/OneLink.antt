@@ -33,6 +33,14 @@ none_used : (on : Bool) (doors : ℕ) → on ≡ false → (if on then 0 else 0)
 none_used true doors off = absurd (false≢true (sym off))
 none_used false doors off = refl
 
+no_door : (on : Bool) (none : ℕ) → (if on then none else none) ≡ none
+no_door true none = refl
+no_door false none = refl
+
+no_door_off : (on : Bool) (doors : ℕ) → on ≡ false → (if on then doors else 0) ≡ 0
+no_door_off true doors off = absurd (false≢true (sym off))
+no_door_off false doors off = refl
+
 -- without a console it is one how many doors stand
 begins_with : {D : Type 0} {says : DiskSays D} {words : List (List ℕ)} {gids : ℕ} {disk : D} {begun : Begun D}
     → TurnNoConsoleOn words → (doors : ℕ) → HasBegun says words gids 0 disk begun → HasBegun says words gids doors disk begun
@@ -118,28 +126,33 @@ module _ {D L K O : Type 0} {says : DiskSays D} {links : LinkSays L} {clocks : C
     only_place zero low = worked_over
     only_place (suc n) low = absurd (omega (arith, low))
 
-    over_one : RanOverLinks says sinks true links words gids doors disk (pair ∷ []) out ended (pair' ∷ []) out'
-    over_one = record {
+    over_one : (start_of_line gids doors begins.line.globals).doors ≡ 0
+        → RanOverLinks says sinks true links words gids doors disk (pair ∷ []) out ended (pair' ∷ []) out'
+    over_one none = record {
       ran = framed_at doors ran begins;
       over = record {
         works = λ t there works. of_worker t there;
         stops = λ t there now is. of_worker t there;
         alone = λ off t there. of_worker t there;
         each = λ unshort place low. only_place place low;
+        left = λ unshort. omega (arith, none);
+        doorless = λ limited. none;
       };
     }
 
   pub over : RunsOver says links clocks sinks words gids disk pair out ended pair' out'
       → IsRunOver says sinks true links words gids 0 disk (pair ∷ []) out ended (pair' ∷ []) out'
   over (inl never) = inl never.0
-  over (inr ran) = inr (over_one ran 0 ran.begins)
+  over (inr ran) = inr (over_one ran 0 ran.begins (no_door (is_console_on ran.begins.line.globals) 0))
 
   -- .. with any number of doors, where the words turn no console on
   pub over_doors : TurnNoConsoleOn words → (doors : ℕ)
       → RunsOver says links clocks sinks words gids disk pair out ended pair' out'
       → IsRunOver says sinks true links words gids doors disk (pair ∷ []) out ended (pair' ∷ []) out'
+  unfolding begins_with
   over_doors off doors (inl never) = inl never.0
-  over_doors off doors (inr ran) = inr (over_one ran doors (begins_with off doors ran.begins))
+  over_doors off doors (inr ran) = inr (over_one ran doors (begins_with off doors ran.begins)
+      (no_door_off (is_console_on ran.begins.line.globals) doors (off ran.begins.line ran.begins.means)))
 
   -- .. by the turns of its worker, in order
   pub over_its_one : RunsOver says links clocks sinks words gids disk pair out ended pair' out'
@@ -147,7 +160,7 @@ module _ {D L K O : Type 0} {says : DiskSays D} {links : LinkSays L} {clocks : C
   unfolding over_one
   over_its_one (inl never) = inl never.0
   over_its_one (inr ran) = inr (record {
-    over = over_one ran 0 ran.begins;
+    over = over_one ran 0 ran.begins (no_door (is_console_on ran.begins.line.globals) 0);
     from = ran.begun.desk;
     to = ran.goes.works.mid;
     came = ran.goes.works.came;

@@ -38,6 +38,7 @@ use Rattle.option_set.specs.declared.kinds.Num.TheVariants.{MaxTries}
 use Rattle.mark_costs.specs.Paid.{IsListedRun, lengths_of_meta}
 use Rattle.mark_costs.specs.Served.{IsServedPiece, ServedOnlyComplete}
 use Rattle.resume_core.specs.Wants.{control_name, payload_name}
+use Rattle.run_lifecycle.specs.Begins.{start_of_line}
 use Rattle.run_lifecycle.specs.Finishes.{Ran}
 use Rattle.run_lifecycle.specs.FrameLaws.{RunsEndAsShown, RunsShowDisk}
 use Rattle.run_lifecycle.specs.Promises.{CompletedAreRight}
@@ -105,7 +106,7 @@ module _ {D O L K : Type 0} {says : DiskSays D} {sinks : SinkSays O} {links : Li
 
     abbrev Comes : Type 0
     Comes = IsDoneWhole says disk ended (own_options named) meta ⊎ (ended.ending ≡ NoMemory)
-        ⊎ EndsCutShort true links (old ∷ []) ended (new ∷ [])
+        ⊎ EndsCutShort true links (start_of_line gids doors named.globals) (old ∷ []) ended (new ∷ [])
 
     -- ---- its download
 
@@ -183,7 +184,10 @@ module _ {D O L K : Type 0} {says : DiskSays D} {sinks : SinkSays O} {links : Li
       comes_whole = ⊎_elim
           (λ (done : IsDone ended). inl (done_whole laws.right laws.follows ran tells one.download meta uris one.there
           one.subject_is listed.alone (is.fresh (payload_name want)) (own_options named) own_are ends.0 done))
-          (λ other. inr other) (comes it laws.shown is.well (Listed meta uris) laws.done one ends.0 ends.1)
+          (λ other. inr other) (subst (λ (s : RunStart). IsDone ended ⊎ (ended.ending ≡ NoMemory)
+          ⊎ EndsCutShort true links s (old ∷ []) ended (new ∷ []))
+          (ap (λ (l : CommandLine). start_of_line gids doors l.globals) (sym line_is))
+          (comes it laws.shown is.well (Listed meta uris) laws.done one ends.0 ends.1))
 
     completes_here : Comes
     completes_here = ⊎_elim (λ (one : RanOne it (Listed meta uris)). comes_whole one)
@@ -194,7 +198,7 @@ module _ {D O L K : Type 0} {says : DiskSays D} {sinks : SinkSays O} {links : Li
   pub completes_pieces : Laws K says sinks links
       → IsRunOverOne says sinks links words gids doors disk old out ended new out'
       → IsTrue says.tells → IsTrue links.tells
-      → CompletesPieces says links sinks words disk (old ∷ []) out ended (new ∷ []) out'
+      → CompletesPieces says links sinks words gids doors disk (old ∷ []) out ended (new ∷ []) out'
   completes_pieces laws (inl never) tells link_tells named meta uris is =
       inr (inl (never_began laws.lines tells never named meta uris is.names is.some is.well.of_disk))
   completes_pieces laws (inr run) tells link_tells named meta uris is =

@@ -15,6 +15,7 @@ use Rattle.metainfo.specs.declared.meta.Meta.{Meta}
 use Rattle.option_set.specs.Values.{OptionValues, number_value}
 use Rattle.option_set.specs.declared.kinds.Num.TheVariants.{MaxTries}
 use Rattle.mark_costs.specs.Served.{IsServedPiece}
+use Rattle.run_lifecycle.specs.Begins.{start_of_line}
 use Rattle.run_lifecycle.specs.Finishes.{NeverBegan}
 use Rattle.run_lifecycle.specs.Stops.{ends_short}
 use Rattle.run_lifecycle.specs.declared.ended.Ended.{Ended}
@@ -45,15 +46,19 @@ module _ {D L K O : Type 0} (says : DiskSays D) (links : LinkSays L) (sinks : Si
       pub fresh : (name : List ℕ) → (says.state disk).seen (name ++ codes ".aria2") ≡ None
       pub well : HadNoFaults says links sinks words disk olds out ended news out'
 
-  -- ---- what comes
+-- ---- what comes
 
+module _ {D L K O : Type 0} (says : DiskSays D) (links : LinkSays L) (sinks : SinkSays O)
+    (words : List (List ℕ)) (gids doors : ℕ) (disk : D) (olds : List (L × K)) (out : O)
+    (ended : Ended D) (news : List (L × K)) (out' : O) where
   -- the run is done, its download complete, and what its options choose of it stands on the disk,
   -- unless memory was wanting, or it is unfinished since its worker was cut short
   abbrev pub CompletesPieces : Type 0
   CompletesPieces =
-      (line : CommandLine) (meta : Meta) (uris : List (List ℕ)) → IsServedByPieces line meta uris
+      (line : CommandLine) (meta : Meta) (uris : List (List ℕ))
+      → IsServedByPieces says links sinks words disk olds out ended news out' line meta uris
       → IsDoneWhole says disk ended (own_options line) meta ⊎ (ended.ending ≡ NoMemory)
-      ⊎ EndsCutShort true links olds ended news
+      ⊎ EndsCutShort true links (start_of_line gids doors line.globals) olds ended news
 
 -- ---- runs over one link
 
@@ -89,4 +94,4 @@ module _ {D O L : Type 0} (K : Type 0) (says : DiskSays D) (sinks : SinkSays O)
       (new : L × K) (out' : O)
       → IsRunOverOne says sinks links words gids doors disk old out ended new out'
       → IsTrue says.tells → IsTrue links.tells
-      → CompletesPieces says links sinks words disk (old ∷ []) out ended (new ∷ []) out'
+      → CompletesPieces says links sinks words gids doors disk (old ∷ []) out ended (new ∷ []) out'

@@ -25,11 +25,11 @@ use dl_disk::Disk;
 use dl_kinds::Sink;
 use link_source::Links;
 use run_lifecycle::{
-    Ended, Finished, begun_runs_are_stopped, runs_end_as_shown, runs_have_whole_histories,
-    runs_leave_other_files, runs_print_one_text, runs_show_their_disk, runs_survive_crashes,
-    unbegun_runs_only_read,
+    Ended, Finished, begun_runs_are_stopped, runs_end_as_shown, runs_print_one_text,
+    runs_show_their_disk, unbegun_runs_only_read,
 };
 use served_runs::{
+    linked_runs_have_histories, linked_runs_leave_other_files, linked_runs_survive_crashes,
     runs_complete_uris, runs_complete_what_is_served, runs_show_their_links,
     runs_show_why_unfinished, runs_spare_serving_mirrors,
 };
@@ -74,16 +74,16 @@ pub fn run_alone<D: Disk, L: Links, K: Clock, A, O: Sink>(
     // What is served comes: a run whose link leads to all of a metainfo file's payload is done, and its pieces stand on the
     // disk, unless it was cut short.
     ensures completes { IsTrue D.tells → IsTrue L.tells → CompletesServed true D.Disk L.Links
-        O.Sink (map string_bytes words.now) disk (take 1 links.items) out.old (ended_of result)
+        O.Sink (map string_bytes words.now) gids 0 disk (take 1 links.items) out.old (ended_of result)
         (take 1 result.links.items) out.new }
     // So it is where each piece has a mirror that holds it, with fewer bad answers left than tries.
     ensures completes_pieces { IsTrue D.tells → IsTrue L.tells → CompletesPieces D.Disk L.Links
-        O.Sink (map string_bytes words.now) disk (take 1 links.items) out.old (ended_of result)
+        O.Sink (map string_bytes words.now) gids 0 disk (take 1 links.items) out.old (ended_of result)
         (take 1 result.links.items) out.new }
     // So it is without a metainfo file, where all mirrors lead alike to one resource and no file stands in its folder; and
     // then its file has just the resource's bytes.
     ensures completes_uris { IsTrue D.tells → IsTrue L.tells → CompletesUris true D.Disk L.Links
-        O.Sink (map string_bytes words.now) disk (take 1 links.items) out.old (ended_of result)
+        O.Sink (map string_bytes words.now) gids 0 disk (take 1 links.items) out.old (ended_of result)
         (take 1 result.links.items) out.new }
     // It has few claims and events, by its download's blocks, pieces, mirrors and tries; and without a
     // console its worker takes few turns, by the events and the bytes that come over the link.
@@ -103,9 +103,9 @@ pub fn run_alone<D: Disk, L: Links, K: Clock, A, O: Sink>(
     begun_runs_are_stopped::<D, O>();
     runs_end_as_shown::<D, O>();
     runs_print_one_text::<D, O>();
-    runs_have_whole_histories::<D, O>();
+    linked_runs_have_histories::<D, L, K, O>();
     runs_show_their_disk::<D, O>();
-    runs_leave_other_files::<D, O>();
+    linked_runs_leave_other_files::<D, L, K, O>();
     runs_show_their_links::<D, L, K, O>();
     runs_show_why_unfinished::<D, L, K, O>();
     runs_spare_serving_mirrors::<D, L, K, O>();
@@ -113,7 +113,7 @@ pub fn run_alone<D: Disk, L: Links, K: Clock, A, O: Sink>(
     runs_complete_served_pieces::<D, L, K, O>();
     runs_complete_uris::<D, L, K, O>();
     runs_over_one_are_bounded::<D, L, K, O>();
-    runs_survive_crashes::<D, O>();
+    linked_runs_survive_crashes::<D, L, K, O>();
     unbegun_runs_only_read::<D, O>();
     let mut links = links;
     let (link, clock) = &mut links[0];

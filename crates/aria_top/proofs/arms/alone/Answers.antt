@@ -42,7 +42,7 @@ returns g c line means alone =
           olds c.args.out.now ended news ran.new.out) (sym alone) over;
       pieces = of_takes
           (λ before behind. IsTrue g.D.Disk.tells → IsTrue g.L.Links.tells → CompletesPieces g.D.Disk g.L.Links g.O.Sink words
-          c.args.disk before c.args.out.now ended behind ran.new.out) olds news one other ran.ensures.completes_pieces;
+          c.args.gids 0 c.args.disk before c.args.out.now ended behind ran.new.out) olds news one other ran.ensures.completes_pieces;
       bounds = of_takes
           (λ before behind. BoundsFirst g.D.Disk g.O.Sink g.L.Links words c.args.gids c.args.disk before c.args.out.now ended
           behind ran.new.out) olds news one other ran.ensures.bounds;

@@ -30,8 +30,8 @@ returns-clause-output g c line begun =
 
 pub returns-clause-history : goal.returns-clause-history
 returns-clause-history g c line begun =
-    of_events line begun (c.runs_have_whole_histories.ensures _ _ _ _ _ _ _
-    (whole c.lines_are_one.ensures c.load_words_are_no_line.ensures c.by_meaning.ensures line begun.means))
+    of_events line begun (c.linked_runs_have_histories.ensures _ _ _ _ _ _ _ _ _ _
+    (over c.lines_are_one.ensures c.load_words_are_no_line.ensures c.by_meaning.ensures line begun.means))
 
 pub returns-clause-disk : goal.returns-clause-disk
 returns-clause-disk g c line begun =
@@ -40,13 +40,13 @@ returns-clause-disk g c line begun =
 
 pub returns-clause-others : goal.returns-clause-others
 returns-clause-others g c told line begun =
-    of_events line begun (c.runs_leave_other_files.ensures _ _ _ _ _ _ _
-    (whole c.lines_are_one.ensures c.load_words_are_no_line.ensures c.by_meaning.ensures line begun.means) told)
+    of_events line begun (c.linked_runs_leave_other_files.ensures _ _ _ _ _ _ _ _ _ _
+    (over c.lines_are_one.ensures c.load_words_are_no_line.ensures c.by_meaning.ensures line begun.means) told)
 
 pub returns-clause-survives : goal.returns-clause-survives
 returns-clause-survives g c told line begun =
-    of_events line begun (c.runs_survive_crashes.ensures _ _ _ _ _ _ _
-    (whole c.lines_are_one.ensures c.load_words_are_no_line.ensures c.by_meaning.ensures line begun.means) told)
+    of_events line begun (c.linked_runs_survive_crashes.ensures _ _ _ _ _ _ _ _ _ _
+    (over c.lines_are_one.ensures c.load_words_are_no_line.ensures c.by_meaning.ensures line begun.means) told)
 
 pub returns-clause-links : goal.returns-clause-links
 returns-clause-links g c line begun =

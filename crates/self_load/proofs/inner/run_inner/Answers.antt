@@ -43,7 +43,7 @@ returns-clause-ends g c =
       file = stands.seen (codes "load.torrent");
       sound = starts_sound (digests_of c.args.n) (inner_disk c.in_ok-disk.disk) stands;
     }) in
-    let comes = comes_well c.args.n (c.run_shared.ensures.completes refl refl) (record {
+    let comes = comes_well _ c.args.n (c.run_shared.ensures.completes refl refl) (record {
       words_name = c.words_name_load.ensures;
       files_say = c.metainfo_files_say_payloads.ensures.said;
       files_read = c.metainfo_files_say_payloads.ensures.read;

@@ -12,16 +12,19 @@ pub returns-clause-output : goal.returns-clause-output
 returns-clause-output g c = c.runs_print_one_text.ensures _ _ _ _ _ _ _ (whole c.run_through-ended.ensures)
 
 pub returns-clause-history : goal.returns-clause-history
-returns-clause-history g c = c.runs_have_whole_histories.ensures _ _ _ _ _ _ _ (whole c.run_through-ended.ensures)
+returns-clause-history g c =
+    c.linked_runs_have_histories.ensures false _ _ _ _ _ _ _ _ _ (over c.requires.links.0 c.run_through-ended.ensures)
 
 pub returns-clause-disk : goal.returns-clause-disk
 returns-clause-disk g c = c.runs_show_their_disk.ensures _ _ _ _ _ _ _ (whole c.run_through-ended.ensures)
 
 pub returns-clause-others : goal.returns-clause-others
-returns-clause-others g c = c.runs_leave_other_files.ensures _ _ _ _ _ _ _ (whole c.run_through-ended.ensures)
+returns-clause-others g c =
+    c.linked_runs_leave_other_files.ensures false _ _ _ _ _ _ _ _ _ (over c.requires.links.0 c.run_through-ended.ensures)
 
 pub returns-clause-survives : goal.returns-clause-survives
-returns-clause-survives g c = c.runs_survive_crashes.ensures _ _ _ _ _ _ _ (whole c.run_through-ended.ensures)
+returns-clause-survives g c =
+    c.linked_runs_survive_crashes.ensures false _ _ _ _ _ _ _ _ _ (over c.requires.links.0 c.run_through-ended.ensures)
 
 pub returns-clause-links : goal.returns-clause-links
 returns-clause-links g c =

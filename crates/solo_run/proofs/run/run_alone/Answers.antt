@@ -40,16 +40,22 @@ pub returns-clause-output : goal.returns-clause-output
 returns-clause-output g c = c.runs_print_one_text.ensures _ _ _ _ _ _ _ (whole c.run_over-ending.ensures)
 
 pub returns-clause-history : goal.returns-clause-history
-returns-clause-history g c = c.runs_have_whole_histories.ensures _ _ _ _ _ _ _ (whole c.run_over-ending.ensures)
+returns-clause-history g c =
+    c.linked_runs_have_histories.ensures true _ _ _ _ _ _ _ _ _
+    (over c.index_mut.result.now (c.run_over-ending.new.link, c.run_over-ending.new.clock) c.run_over-ending.ensures)
 
 pub returns-clause-disk : goal.returns-clause-disk
 returns-clause-disk g c = c.runs_show_their_disk.ensures _ _ _ _ _ _ _ (whole c.run_over-ending.ensures)
 
 pub returns-clause-others : goal.returns-clause-others
-returns-clause-others g c = c.runs_leave_other_files.ensures _ _ _ _ _ _ _ (whole c.run_over-ending.ensures)
+returns-clause-others g c =
+    c.linked_runs_leave_other_files.ensures true _ _ _ _ _ _ _ _ _
+    (over c.index_mut.result.now (c.run_over-ending.new.link, c.run_over-ending.new.clock) c.run_over-ending.ensures)
 
 pub returns-clause-survives : goal.returns-clause-survives
-returns-clause-survives g c = c.runs_survive_crashes.ensures _ _ _ _ _ _ _ (whole c.run_over-ending.ensures)
+returns-clause-survives g c =
+    c.linked_runs_survive_crashes.ensures true _ _ _ _ _ _ _ _ _
+    (over c.index_mut.result.now (c.run_over-ending.new.link, c.run_over-ending.new.clock) c.run_over-ending.ensures)
 
 pub returns-clause-link : goal.returns-clause-link
 returns-clause-link g c =
@@ -85,7 +91,7 @@ returns-clause-completes g c =
     let pair = c.index_mut.result.now in
     of_first_alone
     (λ olds news. IsTrue g.D.Disk.tells → IsTrue g.L.Links.tells → CompletesServed true g.D.Disk g.L.Links g.O.Sink
-    (map string_bytes c.args.words.now) c.args.disk olds c.args.out.now c.run_over-ending.result news
+    (map string_bytes c.args.words.now) c.args.gids 0 c.args.disk olds c.args.out.now c.run_over-ending.result news
     c.run_over-ending.new.out)
     _ pair (c.run_over-ending.new.link, c.run_over-ending.new.clock) c.requires c.index_mut.ensures.value
     (c.runs_complete_what_is_served.ensures true _ _ _ _ _ _ _ _ _
@@ -97,7 +103,7 @@ returns-clause-completes_pieces g c =
     let pair = c.index_mut.result.now in
     of_first_alone
     (λ olds news. IsTrue g.D.Disk.tells → IsTrue g.L.Links.tells → CompletesPieces g.D.Disk g.L.Links g.O.Sink
-    (map string_bytes c.args.words.now) c.args.disk olds c.args.out.now c.run_over-ending.result news
+    (map string_bytes c.args.words.now) c.args.gids 0 c.args.disk olds c.args.out.now c.run_over-ending.result news
     c.run_over-ending.new.out)
     _ pair (c.run_over-ending.new.link, c.run_over-ending.new.clock) c.requires c.index_mut.ensures.value
     (c.runs_complete_served_pieces.ensures _ _ _ _ _ _ _ _ _
@@ -108,7 +114,7 @@ returns-clause-completes_uris g c =
     let pair = c.index_mut.result.now in
     of_first_alone
     (λ olds news. IsTrue g.D.Disk.tells → IsTrue g.L.Links.tells → CompletesUris true g.D.Disk g.L.Links g.O.Sink
-    (map string_bytes c.args.words.now) c.args.disk olds c.args.out.now c.run_over-ending.result news
+    (map string_bytes c.args.words.now) c.args.gids 0 c.args.disk olds c.args.out.now c.run_over-ending.result news
     c.run_over-ending.new.out)
     _ pair (c.run_over-ending.new.link, c.run_over-ending.new.clock) c.requires c.index_mut.ensures.value
     (c.runs_complete_uris.ensures true _ _ _ _ _ _ _ _ _
