@@ -4,6 +4,8 @@
 
 mod gates;
 mod rig;
+mod server;
+mod serving;
 mod telling;
 mod trial;
 

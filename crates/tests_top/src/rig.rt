@@ -1,5 +1,6 @@
 // What a case gives to its run, line by line.
 use crate::gates::{Client, When};
+use crate::server::Server;
 use dl_kinds::{Blob, Text};
 use link_source::{Manner, MemFile, MemMirror};
 use std::alloc::{AllocError, Global};
@@ -12,6 +13,8 @@ pub struct Rig {
     pub words: Vec<String>,
     pub files: Vec<(Text, Blob)>,
     pub mirrors: Vec<MemMirror>,
+    /// What answers in the place of mirrors, in the runs of a case that is served.
+    pub server: Server,
     /// So many clients have to be answered before the link receives anything.
     pub waits_for: u64,
     /// When the next clients come, and when they end their connections.
@@ -93,6 +96,7 @@ impl Rig {
             words: Vec::new(alloc),
             files: Vec::new(alloc),
             mirrors: Vec::new(alloc),
+            server: Server::new(alloc),
             waits_for: 0,
             comes: When::Now,
             ends: When::Now,
@@ -140,7 +144,7 @@ impl Rig {
             "client" => self.add_client(Blob::wrap(spelled(self.alloc, line)))?,
             "post" => self.add_client(posted(self.alloc, line)?)?,
             "show" => self.shown.push(Text::of(self.alloc, line)?)?,
-            _ => {}
+            _ => self.server.take(key, line)?,
         }
         Ok(())
     }

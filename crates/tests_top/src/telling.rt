@@ -1,6 +1,7 @@
-// What is printed of bytes and needs.
-use crate::rig::words_of;
+// What is printed of bytes, files and needs.
+use crate::rig::{Rig, words_of};
 use aria_top::needs_of;
+use dl_disk::MemDisk;
 use std::alloc::Global;
 use test_lines::Output;
 
@@ -51,6 +52,21 @@ pub fn tell_bytes(bytes: &[u8], output: &mut Output) {
         Err(_) => tell_frames(bytes, output),
     }
     output.text(if bytes.is_empty() { "nothing\n" } else { "\n" });
+}
+
+/// Prints what the files of the case hold that are to be shown.
+pub fn tell_files(rig: &Rig, disk: &MemDisk, output: &mut Output) {
+    for name in &rig.shown {
+        output.text("  ");
+        output.text(name.as_str());
+        match disk.file(name.as_str()) {
+            Some(bytes) => {
+                output.text(" has ");
+                tell_bytes(bytes, output);
+            }
+            None => output.text(" isn't there\n"),
+        }
+    }
 }
 
 /// Prints what a run of these words needs.

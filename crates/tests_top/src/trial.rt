@@ -1,22 +1,24 @@
 // Cases, each carried out at its end.
-ghost use Rattle.std.specs.Prelude.{◌≡◌, length, IfOk};
+ghost use Rattle.std.specs.Prelude.{◌≡◌, ◌≤◌, length, IfOk};
 
 use crate::gates::{GatedClock, GatedDoors, GatedLinks, Gates};
 use crate::rig::Rig;
-use crate::telling::{tell_bytes, tell_needs};
+use crate::server::Server;
+use crate::serving::{cut, serve};
+use crate::telling::{tell_bytes, tell_files, tell_needs};
 use aria_top::{FinishedRun, run};
 use dl_disk::MemDisk;
 use dl_kinds::{MemSink, NoMemory};
-use link_source::MemLinks;
+use link_source::{Links, MemLinks};
 use machine_core::{Event, Journal};
 use payload_repair::Unwatched;
 use std::alloc::Global;
 use std::sync::Wait;
 use std::sync::atomic::AtomicBool;
 use std::thread::Threads;
-use test_lines::{Output, after, before};
+use test_lines::{Output, after, before, set};
 
-type Ran<'a> = FinishedRun<MemDisk, GatedLinks<'a>, GatedClock<'a>, GatedDoors<'a>>;
+pub type Ran<'a, L> = FinishedRun<MemDisk, L, GatedClock<'a>, GatedDoors<'a>>;
 
 // As much as the link gives at once.
 const CUT: u32 = 65_536;
@@ -60,22 +62,30 @@ fn doors_of<'a>(
     Ok(doors)
 }
 
-// What is left of the run of a case.
-fn ran<'a, R: Threads + Wait + Sync>(
+fn disk_of(rig: &Rig) -> Result<MemDisk, NoMemory> {
+    let mut files = Vec::new(rig.alloc);
+    for (name, bytes) in &rig.files {
+        files.push((name.copy(rig.alloc)?, bytes.copy(rig.alloc)?))?;
+    }
+    MemDisk::new(rig.alloc, files, Vec::new(rig.alloc))
+}
+
+/// What is left of the run of a case over this link and these doors.
+pub fn ran<'a, R: Threads + Wait + Sync, L: Links + Send + Drop>(
     threads: &R,
-    rig: &mut Rig,
-    gates: &'a Gates,
+    rig: &Rig,
+    links: Vec<(L, GatedClock<'a>)>,
+    doors: Vec<(GatedDoors<'a>, GatedClock<'a>)>,
     out: &mut MemSink,
-) -> Result<Ran<'a>, NoMemory> {
-    let alloc = rig.alloc;
-    let files = std::mem::replace(&mut rig.files, Vec::new(alloc));
-    let disk = MemDisk::new(alloc, files, Vec::new(alloc))?;
-    let links = link_of(rig, gates)?;
-    let doors = doors_of(rig, gates)?;
+) -> Result<Ran<'a, L>, NoMemory>
+    requires link { length links.items ≡ 1 }
+    requires doors { length doors.items ≤ 2 }
+{
+    let disk = disk_of(rig)?;
     let over = AtomicBool::new(false);
     Ok(run(
         threads,
-        alloc,
+        rig.alloc,
         &rig.words,
         disk,
         &over,
@@ -110,22 +120,8 @@ fn tell_clients(doors: &[(GatedDoors<'_>, GatedClock<'_>)], output: &mut Output)
     }
 }
 
-fn tell_files(rig: &Rig, disk: &MemDisk, output: &mut Output) {
-    for name in &rig.shown {
-        output.text("  ");
-        output.text(name.as_str());
-        match disk.file(name.as_str()) {
-            Some(bytes) => {
-                output.text(" has ");
-                tell_bytes(bytes, output);
-            }
-            None => output.text(" isn't there\n"),
-        }
-    }
-}
-
 // How the run ended, what it printed, what its clients were sent, and what stands on its disk.
-fn tell(rig: &Rig, left: Ran<'_>, out: &MemSink, output: &mut Output) {
+fn tell(rig: &Rig, left: Ran<'_, GatedLinks<'_>>, out: &MemSink, output: &mut Output) {
     let FinishedRun {
         ending,
         disk,
@@ -146,10 +142,22 @@ fn tell(rig: &Rig, left: Ran<'_>, out: &MemSink, output: &mut Output) {
     output.text("\n");
 }
 
+// What is left of the run of a case over its mirrors.
+fn fetched<'a, R: Threads + Wait + Sync>(
+    threads: &R,
+    rig: &mut Rig,
+    gates: &'a Gates,
+    out: &mut MemSink,
+) -> Result<Ran<'a, GatedLinks<'a>>, NoMemory> {
+    let links = link_of(rig, gates)?;
+    let doors = doors_of(rig, gates)?;
+    ran(threads, rig, links, doors, out)
+}
+
 fn end<R: Threads + Wait + Sync>(threads: &R, rig: &mut Rig, output: &mut Output) {
     let gates = Gates::new();
     let mut out = MemSink::new(rig.alloc, Vec::new(rig.alloc));
-    match ran(threads, rig, &gates, &mut out) {
+    match fetched(threads, rig, &gates, &mut out) {
         Ok(left) => tell(rig, left, &out, output),
         Err(_) => output.text("  out of memory\n"),
     }
@@ -160,6 +168,14 @@ pub fn step<R: Threads + Wait + Sync>(threads: &R, rig: &mut Rig, line: &str, ou
     let (key, rest) = (before(line, ' '), after(line, ' '));
     match key {
         "end" => end(threads, rig, output),
+        "serve" => {
+            serve(threads, rig, output);
+            set(&mut rig.server, Server::new(rig.alloc));
+        }
+        "cut" => {
+            cut(threads, rig, output);
+            set(&mut rig.server, Server::new(rig.alloc));
+        }
         "needs" => tell_needs(rig.alloc, rest, output),
         _ => rig.take(key, rest),
     }
