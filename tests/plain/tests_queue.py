@@ -213,8 +213,13 @@ def url_scheme(word):
     return scheme
 
 
+def is_usable(word):
+    """Over FTP a file has to be named."""
+    return url_scheme(word) == "http" or url_scheme(word) == "ftp" and word.split(b"/", 3)[3:] not in ([], [b""])
+
+
 def uris_of(words):
-    if len(words) > 256 or any(url_scheme(word) != "http" for word in words):
+    if len(words) > 256 or not all(is_usable(word) for word in words):
         raise Refused("no URIs")
     return f"{len(words)} URIs" + "".join(f" {word.decode()}" for word in words)
 

@@ -1,10 +1,9 @@
 // What is to be downloaded.
 ghost use Rattle.std.specs.Prelude.{◌≡◌, ◌↔◌, Bool, map, IsTrue, IfOk, MatchOption};
-ghost use Rattle.link_source.specs.Endpoint.{IsUsable};
 ghost use Rattle.command_line.specs.Sources.{AreUris, IsFirst, IsMetainfoName, IsNoUrl, IsSource, words_of};
 
 use dl_kinds::{MAX_MIRRORS, NoMemory, Text, Texts};
-use link_source::{EndErr, Endpoint};
+use link_source::{EndErr, Endpoint, is_usable};
 use std::alloc::Global;
 
 /// What is to be downloaded.
@@ -16,16 +15,6 @@ pub enum Source {
     Mirrors { uris: Texts },
     /// Nothing: the console is to add downloads.
     Console,
-}
-
-fn is_usable(alloc: Global, word: &str) -> Result<bool, NoMemory>
-    ensures { IfOk result (λ is. IsTrue is ↔ IsUsable word.now) }
-{
-    match Endpoint::of(alloc, word) {
-        Ok(_) => Ok(true),
-        Err(EndErr::Scheme | EndErr::NotUrl) => Ok(false),
-        Err(EndErr::NoMemory) => Err(NoMemory),
-    }
 }
 
 fn is_no_url(alloc: Global, word: &str) -> Result<bool, NoMemory>

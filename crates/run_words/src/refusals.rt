@@ -10,9 +10,9 @@ use std::fmt::Write;
 
 // What is said of URIs of a scheme.
 const SCHEMES: [(&str, &str); 5] = [
-    ("https:", "https isn't spoken, only http"),
-    ("ftp:", "FTP isn't spoken, only http"),
-    ("sftp:", "SFTP isn't spoken, only http"),
+    ("https:", "https isn't spoken, only http and ftp"),
+    ("ftp:", "an ftp URL needs the name of a file, and no user"),
+    ("sftp:", "SFTP isn't spoken, only http and ftp"),
     (
         "magnet:",
         "magnet links aren't followed: name the metainfo file, FILE.torrent",
@@ -27,7 +27,7 @@ fn scheme_words(word: &str) -> &'static str {
             return words;
         }
     }
-    "its scheme isn't spoken, only http"
+    "its scheme isn't spoken, only http and ftp"
 }
 
 // What is wrong with a word.
@@ -35,7 +35,8 @@ fn word_words(fault: WordFault<'_>) -> &'static str {
     match fault {
         WordFault::Unknown(_) => "there is no such option here",
         WordFault::Scheme(word) => scheme_words(word),
-        WordFault::NotUrl(_) => "it is no http URL, and no name of a metainfo file, FILE.torrent",
+        WordFault::NotUrl(_) =>
+            "it is no http or ftp URL, and no name of a metainfo file, FILE.torrent",
         WordFault::SecondMetainfo(_) => "only the first word may name a metainfo file",
         WordFault::Unexpected(_) => "this command takes no such word",
         WordFault::TooManyUris => "there are more than 256 URIs",

@@ -26,7 +26,7 @@ def tells(room, status, lines, *words, **how):
 @case("which word is wrong, and what it may be")
 def _(room):
     room.torrent(b"http://127.0.0.1:1/a.bin")
-    uri, unlisted = "http://127.0.0.1:1/a", "it is no http URL, and no name of a metainfo file, FILE.torrent"
+    uri, unlisted = "http://127.0.0.1:1/a", "it is no http or ftp URL, and no name of a metainfo file, FILE.torrent"
     for words, line in (
         ([], "the command line: it names neither a metainfo file nor a URI, or it isn't UTF-8"),
         (["--split=65", "t.torrent"], "--split=65: wanted: a number from 1 to 64"),
@@ -39,8 +39,9 @@ def _(room):
         (["--pause=true", "t.torrent"], "--pause takes no value"),
         (["--quiet", "t.torrent"], "--quiet: there is no such option here"),
         (["--help"], "--help: there is no such option here"),
-        (["https://127.0.0.1:1/a"], "https://127.0.0.1:1/a: https isn't spoken, only http"),
-        (["t.torrent", "ftp://127.0.0.1:1/a"], "ftp://127.0.0.1:1/a: FTP isn't spoken, only http"),
+        (["https://127.0.0.1:1/a"], "https://127.0.0.1:1/a: https isn't spoken, only http and ftp"),
+        (["t.torrent", "ftp://127.0.0.1:1/"], "ftp://127.0.0.1:1/: an ftp URL needs the name of a file, and no user"),
+        (["ftp://u:p@127.0.0.1:1/a"], "ftp://[^ ]*a: an ftp URL needs the name of a file, and no user"),
         (["magnet:?xt=urn:btih:0"], r"magnet:\?xt=urn:btih:0: magnet links aren't followed: name the metainfo file, FILE.torrent"),
         (["t.torrent", "a"], f"a: {unlisted}"),
         ([uri, "t.torrent"], "t.torrent: only the first word may name a metainfo file"),
