@@ -13,6 +13,7 @@ from cases import (  # each lists its cases
     connections,
     console,
     faults,
+    ftp,
     lasting,
     layouts,
     loads,
@@ -36,6 +37,7 @@ from cases import (  # each lists its cases
     uris,
     words,
 )
+from lib.ftp import has_pyftpdlib
 from lib.mirrors import free_port
 from lib.rooms import CASES, PROGRAM, Room
 from lib.sockets import browser, has_websockets
@@ -63,7 +65,7 @@ def can_unshare():
 def lacking():
     """What cases need, and isn't here."""
     makers = ("mktorrent", "transmission-create", "transmission-show")
-    commands = ("nginx", *makers, "aria2c", "curl", "wget", "unshare", "setpriv", "cc")
+    commands = ("nginx", *makers, "aria2c", "curl", "wget", "unshare", "setpriv", "cc", "vsftpd")
     gone = {it for it in commands if shutil.which(it) is None}
     if not has_ipv6():
         gone.add("ipv6")
@@ -73,6 +75,8 @@ def lacking():
         gone.add("libtorrent")
     if not has_websockets():
         gone.add("websockets")
+    if not has_pyftpdlib():
+        gone.add("pyftpdlib")
     if not browser():
         gone.add("chromium")
     return gone

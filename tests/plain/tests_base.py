@@ -478,10 +478,11 @@ def files_of(name, info):
 
 
 def is_seed(url):
-    """An http URL; of hosts this judges plain names alone."""
-    if re.match(rb"(?i)http:", url):
-        assert re.fullmatch(rb"(?i)http://[a-z][a-z0-9.]*(:[0-9]{1,4})?(/[!-~]*)?", url), url
-        return True
+    """An http URL, or the ftp URL of a file; of hosts this judges plain names alone."""
+    if re.match(rb"(?i)(http|ftp):", url):
+        parts = re.fullmatch(rb"(?i)(http|ftp)://[a-z][a-z0-9.]*(:[0-9]{1,4})?(/[!-~]*)?", url)
+        assert parts, url
+        return parts[1].lower() == b"http" or parts[3] not in (None, b"/")
     return False
 
 

@@ -8,7 +8,8 @@ use Rattle.reply_reader.specs.declared.loss.Loss.{Loss}
 use Rattle.request_chain.specs.Answered.{KeepsAnswers}
 use Rattle.request_chain.specs.Chains.{Gains}
 use Rattle.request_chain.specs.Links.{CountsLinkLoss}
-use Rattle.request_chain.specs.Probes.{Probed, TellsProbeLoss, Told as TellsTotal}
+use Rattle.request_chain.specs.Probes.{Told as TellsTotal}
+use Rattle.part_fetches.specs.Probes.{Probed, TellsProbeLoss}
 use Rattle.std.proofs.Common.{inl, []}
 use Rattle.conn_worker.specs.Facts.{IsProbingAt, IsProbeEnd}
 use Rattle.conn_worker.specs.Hands.{LinkAt, Probing}

@@ -14,10 +14,10 @@ use Rattle.link_source.specs.Exchanges.{Exchange}
 use Rattle.link_source.specs.Link.{LinkState}
 use Rattle.reply_reader.specs.declared.loss.Loss.{Loss}
 use Rattle.request_chain.specs.Chains.{received_by}
-use Rattle.request_chain.specs.Fetched.{Fetched}
+use Rattle.part_fetches.specs.Fetched.{Fetched}
 use Rattle.request_chain.specs.Links.{CountsLinkLoss}
 use Rattle.request_chain.specs.Plans.{Done}
-use Rattle.request_chain.specs.declared.chain.Chain.{Chain}
+use Rattle.fetch_session.specs.declared.source.Source.{Source}
 use Rattle.span_map.specs.Jobs.{IsJob, run_start}
 use Rattle.span_map.specs.declared.jobs.Job.{Job}
 use Rattle.span_map.specs.declared.jobs.JobPart.{JobPart}
@@ -44,21 +44,21 @@ pub stepped_comes : (tells : Bool) (f : Fetching) (h : FetchInHand) (link' : Lin
 stepped_comes tells f h link' s = (Fetches s.0, (s.0, s.1, refl), s.2)
 
 -- the exchanges tell what was handed out of a fetch that isn't lost
-front_by : (parts : List JobPart) (used : List Exchange) (handed held : List ℕ) (lost : Option Loss) (chain : Chain)
-    → lost ≡ None → HasCome parts used (handed ++ held) lost chain → IsFrontOfFetched parts used handed
-front_by parts used handed held None chain none came = ⊎_elim
+front_by : (parts : List JobPart) (used : List Exchange) (handed held : List ℕ) (lost : Option Loss) (source : Source)
+    → lost ≡ None → HasCome parts used (handed ++ held) lost source → IsFrontOfFetched parts used handed
+front_by parts used handed held None source none came = ⊎_elim
     (λ (all : Fetched parts used (handed ++ held) Done []). record { behind = held; ending = Done; fetched = all })
-    (λ (more : BringsMore parts used (handed ++ held) chain). record {
+    (λ (more : BringsMore parts used (handed ++ held) source). record {
       behind = held ++ more.waiting;
       ending = more.brought.ending;
       fetched = subst (λ l. Fetched parts used l more.brought.ending []) (append_assoc handed held more.waiting)
           more.brought.fetched;
     }) came
-front_by parts used handed held (Some loss) chain none came = absurd (let no : Some loss ≡ None = none in cc)
+front_by parts used handed held (Some loss) source none came = absurd (let no : Some loss ≡ None = none in cc)
 
 front_unlost : (job : Job) (used : List Exchange) (handed : List ℕ) (fetch : Fetch) → IsFetch job used handed fetch
     → lost_of fetch ≡ None → IsFrontOfFetched job.parts used handed
-front_unlost job used handed fetch is none = front_by job.parts used handed fetch.held.items fetch.lost fetch.chain none is.came
+front_unlost job used handed fetch is none = front_by job.parts used handed fetch.held.items fetch.lost fetch.source none is.came
 
 -- a fetch that begins may be carried on
 pub begun_may : (tells : Bool) (granted : FetchGrant) (room : FetchRoom) (fetch : Fetch) (link : LinkAt) → IsJob granted.job

@@ -12,7 +12,8 @@ use Rattle.reply_reader.specs.Losses.{mark_of}
 use Rattle.reply_reader.specs.declared.loss.Loss.{Loss}
 use Rattle.reply_reader.specs.declared.loss.Loss.TheVariants.{NoMemory}
 use Rattle.request_chain.specs.Answered.{KeepsAnswers}
-use Rattle.request_chain.specs.Chains.{Gains, TellsLoss, received_by}
+use Rattle.request_chain.specs.Chains.{Gains, received_by}
+use Rattle.part_fetches.specs.Losses.{TellsLoss}
 use Rattle.request_chain.specs.Links.{CountsLinkLoss}
 use Rattle.span_map.specs.Jobs.{run_end, run_start}
 use Rattle.span_map.specs.declared.jobs.Job.{Job}

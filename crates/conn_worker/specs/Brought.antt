@@ -18,7 +18,8 @@ use Rattle.link_source.specs.Exchanges.{Exchange}
 use Rattle.reply_reader.specs.Losses.{mark_of}
 use Rattle.reply_reader.specs.declared.loss.Loss.{Loss}
 use Rattle.request_chain.specs.Chains.{Gains}
-use Rattle.request_chain.specs.Probes.{Probed, TellsProbeLoss, Told as TellsTotal}
+use Rattle.request_chain.specs.Probes.{Told as TellsTotal}
+use Rattle.part_fetches.specs.Probes.{Probed, TellsProbeLoss}
 use Rattle.span_map.specs.Jobs.{run_end, run_start}
 use Rattle.conn_worker.specs.Facts.{HasUsed, TellsRest}
 use Rattle.conn_worker.specs.Hands.{LinkAt, WorkerAt, fresh}

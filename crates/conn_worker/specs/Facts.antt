@@ -8,9 +8,11 @@ use Rattle.link_source.specs.Exchanges.{Exchange}
 use Rattle.reply_reader.specs.Losses.{mark_of}
 use Rattle.reply_reader.specs.declared.loss.Loss.{Loss}
 use Rattle.request_chain.specs.Answered.{IsAnswered}
-use Rattle.request_chain.specs.Chains.{Gains, TellsLoss, received_by}
+use Rattle.request_chain.specs.Chains.{Gains, received_by}
 use Rattle.request_chain.specs.Links.{CountsLinkLoss}
-use Rattle.request_chain.specs.Probes.{Probed, TellsProbeLoss, Told as TellsTotal}
+use Rattle.request_chain.specs.Probes.{Told as TellsTotal}
+use Rattle.part_fetches.specs.Losses.{TellsLoss}
+use Rattle.part_fetches.specs.Probes.{Probed, TellsProbeLoss}
 use Rattle.span_map.specs.Jobs.{IsJob, run_end, run_start}
 use Rattle.span_map.specs.declared.jobs.Job.{Job}
 use Rattle.conn_worker.specs.Hands.{Fetching, LinkAt, Probing}

@@ -1,6 +1,6 @@
 mod Counting
 mod Cuts
-mod Lengths
+mod PartSteps
 mod Ready
 mod Stepping
 mod Taking

@@ -13,17 +13,19 @@ use Rattle.span_map.specs.declared.jobs.Job.{Job}
 use Rattle.span_map.specs.declared.jobs.JobPart.{JobPart}
 use Rattle.reply_reader.specs.declared.loss.Loss.{Loss}
 use Rattle.reply_reader.specs.declared.loss.Loss.TheVariants.{Link, NotFound, Refused, BadReply, Length, Short, Redirects, NoMemory}
-use Rattle.request_chain.specs.Chains.{IsChain, Gains, ReadsChain, Loses, TellsLoss, received_by}
+use Rattle.request_chain.specs.Chains.{Gains, received_by}
 use Rattle.span_map.specs.Jobs.{IsJob, IsJobPart, parts_len, run_start}
-use Rattle.request_chain.specs.Fetched.{Fetched}
 use Rattle.request_chain.specs.Plans.{FetchEnding, Done, Open, Lost}
-use Rattle.request_chain.specs.declared.chain.Chain.{Chain}
 use Rattle.request_chain.specs.declared.chain.ChainRead.{ChainRead}
+use Rattle.part_fetches.specs.Fetched.{Fetched}
+use Rattle.part_fetches.specs.Laws.{Fits, FetchedFits}
+use Rattle.part_fetches.specs.Losses.{TellsLoss}
 use Rattle.fetch_session.specs.Blocks.{cut, ready_blocks, AreReady}
 use Rattle.fetch_session.specs.Fetches.{rest_of, IsShort, HasCome, IsFetch, SameButSpare, IsFrontOfFetched, IsStopped, FetchSteps, Fails}
-use Rattle.fetch_session.specs.Lengths.{Fits, FetchedFits}
+use Rattle.fetch_session.specs.Sources.{IsSource, LosesParts, ReadsParts}
 use Rattle.fetch_session.specs.declared.fetch.Fetch.{Fetch}
 use Rattle.fetch_session.specs.declared.fetch.Got.{Got}
+use Rattle.fetch_session.specs.declared.source.Source.{Source}
 use Rattle.fetch_session.proofs.Counting.{ready_is}
 use Rattle.fetch_session.proofs.Cuts.{cut_next, cuts_ordered}
 
@@ -55,7 +57,7 @@ module _ (fits : FetchedFits) (parts : List JobPart) (are : All IsJobPart parts)
   -- where as many bytes came as the parts have, all came, and none waits
   whole_done : parts_len parts ≤ length bytes → (ending ≡ Done) × Fetched parts later bytes Done []
   whole_done whole =
-      let f : Fits parts (bytes ++ waiting) ending = fits parts later (bytes ++ waiting) ending are fetched in
+      let f : Fits parts (bytes ++ waiting) ending = fits parts later [] (bytes ++ waiting) ending are fetched in
       let few : length (bytes ++ waiting) ≤ parts_len parts = f.few in
       let none : waiting ≡ [] = nil_from_length waiting (omega (arith, length-append bytes waiting, few, whole)) in
       let done : ending ≡ Done = f.full (omega (arith, length-append bytes waiting, few, whole)) in
@@ -64,28 +66,28 @@ module _ (fits : FetchedFits) (parts : List JobPart) (are : All IsJobPart parts)
       let Q : FetchEnding → Type 0 = λ e. Fetched parts later bytes e [] in
       (done, subst Q done (subst P same fetched))
 
-  -- all came, or the chain brings more
-  decide_come : (chain : Chain) → (IsShort parts bytes → IsChain parts later bytes chain) → HasCome parts later bytes None chain
-  decide_come chain more =
+  -- all came, or the source brings more
+  decide_come : (source : Source) → (IsShort parts bytes → IsSource parts later bytes source) → HasCome parts later bytes None source
+  decide_come source more =
       ⊎_elim (λ (short : length bytes < parts_len parts). inr (record {
         short = short;
-        chain_is = more short;
+        source_is = more short;
         waiting = waiting;
         brought = record { ending = ending; fetched = fetched };
       })) (λ (whole : parts_len parts ≤ length bytes). inl (whole_done whole).1) (cases_lt (length bytes) (parts_len parts))
 
 -- bytes that came are at the front of what the streams tell
-come_front : (parts : List JobPart) (used : List Exchange) (handed held : List ℕ) (lost : Option Loss) (chain : Chain)
-    → HasCome parts used (handed ++ held) lost chain → lost ≢ Some NoMemory → IsFrontOfFetched parts used handed
-come_front parts used handed held None chain (inl all) kept = record { behind = held; ending = Done; fetched = all }
-come_front parts used handed held None chain (inr more) kept = record {
+come_front : (parts : List JobPart) (used : List Exchange) (handed held : List ℕ) (lost : Option Loss) (source : Source)
+    → HasCome parts used (handed ++ held) lost source → lost ≢ Some NoMemory → IsFrontOfFetched parts used handed
+come_front parts used handed held None source (inl all) kept = record { behind = held; ending = Done; fetched = all }
+come_front parts used handed held None source (inr more) kept = record {
   behind = held ++ more.waiting;
   ending = more.brought.ending;
   fetched =
       (let P : List ℕ → Type 0 = λ all. Fetched parts used all more.brought.ending [] in
       subst P (append_assoc handed held more.waiting) more.brought.fetched);
 }
-come_front parts used handed held (Some loss) chain came kept =
+come_front parts used handed held (Some loss) source came kept =
     let told = tells_ending parts used (handed ++ held) came.1.0 loss (λ memory. kept (ap Some memory)) came.1.1 in
     record { behind = held; ending = told.0; fetched = told.2 }
 
@@ -142,15 +144,15 @@ module _ (fits : FetchedFits) (follow : BlocksFollow) (job : Job) (used : List E
       let far = (cuts_ordered job.plan (min (old.ready.first + 64) old.end) old.end follow (omega arith) end_within).0 in
       let reach = reaches fits follow job used handed old is in omega (arith, reach.0, reach.1, far, plan_room)
 
-  -- the chain brings more
-  pub chain_is : old.lost ≡ None → IsChain job.parts used (handed ++ old.held.items) old.chain
-  chain_is none =
-      let P : Option Loss → Type 0 = λ lost. HasCome job.parts used (handed ++ old.held.items) lost old.chain in
+  -- the source brings more
+  pub source_is : old.lost ≡ None → IsSource job.parts used (handed ++ old.held.items) old.source
+  source_is none =
+      let P : Option Loss → Type 0 = λ lost. HasCome job.parts used (handed ++ old.held.items) lost old.source in
       let short : length (handed ++ old.held.items) < parts_len job.parts = short_by_room in
-      let came : HasCome job.parts used (handed ++ old.held.items) None old.chain = subst P none is.came in
+      let came : HasCome job.parts used (handed ++ old.held.items) None old.source = subst P none is.came in
       elim came [
-        | inl all ↦ absurd (let full = (fits job.parts used (handed ++ old.held.items) Done is.is_job.parts all).all refl in omega (arith, short, full))
-        | inr more ↦ more.chain_is
+        | inl all ↦ absurd (let full = (fits job.parts used [] (handed ++ old.held.items) Done is.is_job.parts all).all refl in omega (arith, short, full))
+        | inr more ↦ more.source_is
       ]
 
   -- What stands after the call: the run and the blocks that were handed out are the same.
@@ -158,7 +160,7 @@ module _ (fits : FetchedFits) (follow : BlocksFollow) (job : Job) (used : List E
     still_left : (rest_of new).count ≡ 0 → ⊥
     still_left none = let left = some_left in omega (arith, left, end_is, first_is, none)
 
-    stands : HasCome job.parts later (handed ++ new.held.items) new.lost new.chain → IsFetch job later handed new
+    stands : HasCome job.parts later (handed ++ new.held.items) new.lost new.source → IsFetch job later handed new
     stands came = record {
       is_job = is.is_job;
       plan_is = plan_is ∙ is.plan_is;
@@ -228,7 +230,7 @@ module _ (fits : FetchedFits) (follow : BlocksFollow) (job : Job) (used : List E
     (before now : List Exchange) (faults allow : ℕ) (added : List ℕ) where
   -- a read that lost nothing
   pub steps_read : (got : Got) (read : ChainRead) → new.lost ≡ None → new.held.items ≡ old.held.items ++ added
-      → ReadsChain job.parts before used (handed ++ old.held.items) now added room allow read new.chain
+      → ReadsParts job.parts before used (handed ++ old.held.items) now added room allow read new.source
       → got.ready ≡ new.ready → got.taken ≡ read.taken → (IsTrue got.done ↔ (new.ready.count ≡ (rest_of new).count))
       → FetchSteps job before used handed now allow got new
   steps_read got read none held_is reads ready_is taken_is done_is =
@@ -239,14 +241,11 @@ module _ (fits : FetchedFits) (follow : BlocksFollow) (job : Job) (used : List E
       let ending : FetchEnding = reads.brought.ending in
       let P : List ℕ → Type 0 = λ all. Fetched job.parts reads.later (all ++ reads.waiting) reads.brought.ending [] in
       let fetched : Fetched job.parts reads.later ((handed ++ new.held.items) ++ reads.waiting) reads.brought.ending [] = subst P (sym join) reads.brought.fetched in
-      let C : List ℕ → Type 0 = λ all. IsChain job.parts reads.later all new.chain in
-      let more : IsShort job.parts (handed ++ new.held.items) → IsChain job.parts reads.later (handed ++ new.held.items) new.chain =
-      (λ short. subst C (sym join) (elim reads.goes_on [
-        | inl done ↦ absurd (let full = (fits job.parts reads.later ((handed ++ old.held.items) ++ added) Done is.is_job.parts (reads.done done)).all refl in omega (arith, short, full, ap length join))
-        | inr chain ↦ chain
-      ])) in
-      let come = decide_come fits job.parts is.is_job.parts reads.later (handed ++ new.held.items) reads.waiting reads.brought.ending fetched new.chain more in
-      let L : Option Loss → Type 0 = λ lost. HasCome job.parts reads.later (handed ++ new.held.items) lost new.chain in
+      let C : List ℕ → Type 0 = λ all. IsSource job.parts reads.later all new.source in
+      let more : IsShort job.parts (handed ++ new.held.items) → IsSource job.parts reads.later (handed ++ new.held.items) new.source =
+      (λ short. subst C (sym join) reads.goes_on) in
+      let come = decide_come fits job.parts is.is_job.parts reads.later (handed ++ new.held.items) reads.waiting reads.brought.ending fetched new.source more in
+      let L : Option Loss → Type 0 = λ lost. HasCome job.parts reads.later (handed ++ new.held.items) lost new.source in
       let is_new : IsFetch job reads.later handed new = stands fits follow job used handed old is room some_room has_room reads.later new plan_is end_is first_is (subst L (sym none) come) in
       let fit_room = plan_room fits follow job used handed old is room some_room has_room in
       let new_ready = plan_ready fits follow job reads.later handed new is_new in
@@ -268,7 +267,7 @@ module _ (fits : FetchedFits) (follow : BlocksFollow) (job : Job) (used : List E
       (λ reached. far_stops fits follow job used handed old is room some_room has_room reads.later new plan_is end_is first_is is_new got ready_is done_is reached) in
       let stopped_read : (got.done ≡ true) ⊎ IsStopped allow got new.lost =
       (elim reads.full [
-        | inl done ↦ or_stopped allow got new.lost (far (let full = (fits job.parts reads.later ((handed ++ old.held.items) ++ added) Done is.is_job.parts (reads.done done)).all refl in omega (arith, full, wide, reach.0, reach.1, ap length join)))
+        | inl done ↦ or_stopped allow got new.lost (far (let full = (fits job.parts reads.later [] ((handed ++ old.held.items) ++ added) Done is.is_job.parts (reads.done done)).all refl in omega (arith, full, wide, reach.0, reach.1, ap length join)))
         | inr (inl all) ↦ or_stopped allow got new.lost (far (omega (arith, all, bounded, same_end, same_first, grown, fit_room)))
         | inr (inr took) ↦ inr (inr (inl (taken_is ∙ took)))
       ]) in
@@ -298,7 +297,7 @@ module _ (fits : FetchedFits) (follow : BlocksFollow) (job : Job) (used : List E
 
   -- a read that lost the rest, but not for want of memory: what stands then
   module _ (loss : Loss) (not_memory : loss ≢ NoMemory) (lost_is : new.lost ≡ Some loss) (held_is : new.held.items ≡ old.held.items ++ added)
-      (loses : Loses job.parts before used (handed ++ old.held.items) now added allow faults new.chain loss) where
+      (loses : LosesParts job.parts before used (handed ++ old.held.items) now added allow faults new.source loss) where
     lost_join : handed ++ new.held.items ≡ (handed ++ old.held.items) ++ added
     lost_join = joins fits follow job used handed old is room some_room has_room loses.later new plan_is end_is first_is added held_is
 
@@ -308,26 +307,26 @@ module _ (fits : FetchedFits) (follow : BlocksFollow) (job : Job) (used : List E
     lost_short : IsShort job.parts (handed ++ new.held.items)
     lost_short =
         let told = tells_ending job.parts loses.later (handed ++ new.held.items) faults loss not_memory lost_tells in
-        let f : Fits job.parts (handed ++ new.held.items) told.0 = fits job.parts loses.later (handed ++ new.held.items) told.0 is.is_job.parts told.2 in
+        let f : Fits job.parts (handed ++ new.held.items) told.0 = fits job.parts loses.later [] (handed ++ new.held.items) told.0 is.is_job.parts told.2 in
         let few : length (handed ++ new.held.items) ≤ parts_len job.parts = f.few in
         ⊎_elim (λ (less : length (handed ++ new.held.items) < parts_len job.parts). less) (λ (ge : parts_len job.parts ≤ length (handed ++ new.held.items)). absurd (told.1 (f.full (omega (arith, few, ge))))) (cases_lt (length (handed ++ new.held.items)) (parts_len job.parts))
 
     lost_fetch : IsFetch job loses.later handed new
     lost_fetch =
-        let L : Option Loss → Type 0 = λ lost. HasCome job.parts loses.later (handed ++ new.held.items) lost new.chain in
+        let L : Option Loss → Type 0 = λ lost. HasCome job.parts loses.later (handed ++ new.held.items) lost new.source in
         stands fits follow job used handed old is room some_room has_room loses.later new plan_is end_is first_is (subst L (sym lost_is) (lost_short, (faults, lost_tells)))
 
     lost_ready : new.ready ≡ ready_blocks job.plan job.run (length handed) (length handed + length new.held.items)
     lost_ready = shown_ready fits follow job loses.later handed new lost_fetch new.held.items (omega arith) (inl refl)
 
     -- blocks are ready
-    pub steps_lost : (got : Got) → got.ready ≡ new.ready → got.taken ≡ new.chain.taken → (IsTrue got.done ↔ (new.ready.count ≡ (rest_of new).count)) → 0 < new.ready.count
+    pub steps_lost : (got : Got) → got.ready ≡ new.ready → got.taken ≡ new.source.taken → (IsTrue got.done ↔ (new.ready.count ≡ (rest_of new).count)) → 0 < new.ready.count
         → FetchSteps job before used handed now allow got new
     steps_lost got ready_is taken_is done_is some =
         let told = tells_ending job.parts loses.later (handed ++ new.held.items) faults loss not_memory lost_tells in
         let short : length (handed ++ new.held.items) < parts_len job.parts = lost_short in
         let same : got.ready.count ≡ new.ready.count = ap (λ (r : Run). r.count) ready_is in
-        let few : new.chain.taken ≤ allow = loses.few in
+        let few : new.source.taken ≤ allow = loses.few in
         record {
           later = loses.later;
           gains = loses.gains;
@@ -349,8 +348,8 @@ module _ (fits : FetchedFits) (follow : BlocksFollow) (job : Job) (used : List E
       later = loses.later;
       gains = loses.gains;
       is_fetch = lost_fetch;
-      more = (let took : received_by loses.later ≡ received_by used + new.chain.taken = loses.taken in omega (arith, took));
-      few = few_lost loses.later new.chain.taken loses.taken loses.few;
+      more = (let took : received_by loses.later ≡ received_by used + new.source.taken = loses.taken in omega (arith, took));
+      few = few_lost loses.later new.source.taken loses.taken loses.few;
       came = new.held.items;
       none_whole = ap (λ (r : Run). r.count) (sym lost_ready) ∙ none;
       count = faults;
@@ -363,7 +362,7 @@ module _ (fits : FetchedFits) (follow : BlocksFollow) (job : Job) (used : List E
       → new.held.items ≡ old.held.items → new.ready.count ≡ 0
       → Fails job before used handed now allow loss new
   fails_memory loss memory later gains more few lost_is held_is none =
-      let L : Option Loss → Type 0 = λ lost. HasCome job.parts later (handed ++ new.held.items) lost new.chain in
+      let L : Option Loss → Type 0 = λ lost. HasCome job.parts later (handed ++ new.held.items) lost new.source in
       let S : List ℕ → Type 0 = λ items. IsShort job.parts (handed ++ items) in
       let T : Loss → Type 0 = λ loss. TellsLoss job.parts later (handed ++ new.held.items) 0 loss in
       let tells : TellsLoss job.parts later (handed ++ new.held.items) 0 loss = subst T (sym memory) tt in
@@ -387,8 +386,8 @@ module _ (fits : FetchedFits) (follow : BlocksFollow) (job : Job) (used : List E
   -- the loss that is held back
   pub fails_held : (loss : Loss) → old.lost ≡ Some loss → old.ready.count ≡ 0 → Fails job before used handed now allow loss old
   fails_held loss lost_is none =
-      let L : Option Loss → Type 0 = λ lost. HasCome job.parts used (handed ++ old.held.items) lost old.chain in
-      let came : HasCome job.parts used (handed ++ old.held.items) (Some loss) old.chain = subst L lost_is is.came in
+      let L : Option Loss → Type 0 = λ lost. HasCome job.parts used (handed ++ old.held.items) lost old.source in
+      let came : HasCome job.parts used (handed ++ old.held.items) (Some loss) old.source = subst L lost_is is.came in
       let ready = shown_ready fits follow job used handed old is old.held.items (omega arith) (inl refl) in
       record {
         later = used;
@@ -442,15 +441,15 @@ module _ (fits : FetchedFits) (follow : BlocksFollow) (job : Job) (used : List E
 -- what was handed out is at the front of what the streams tell
 pub handed_front : (job : Job) (used : List Exchange) (handed : List ℕ) (fetch : Fetch) → IsFetch job used handed fetch → fetch.lost ≢ Some NoMemory
     → IsFrontOfFetched job.parts used handed
-handed_front job used handed fetch is kept = come_front job.parts used handed fetch.held.items fetch.lost fetch.chain is.came kept
+handed_front job used handed fetch is kept = come_front job.parts used handed fetch.held.items fetch.lost fetch.source is.came kept
 
 -- the second buffer came in
 pub same_fetch : (job : Job) (used : List Exchange) (handed : List ℕ) (old new : Fetch) → SameButSpare old new → IsFetch job used handed old → IsFetch job used handed new
 same_fetch job used handed old new same is =
     let first : new.ready.first ≡ old.ready.first = ap (λ (r : Run). r.first) same.ready in
-    let C : Chain → Type 0 = λ chain. HasCome job.parts used (handed ++ old.held.items) old.lost chain in
-    let L : Option Loss → Type 0 = λ lost. HasCome job.parts used (handed ++ old.held.items) lost new.chain in
-    let H : List ℕ → Type 0 = λ items. HasCome job.parts used (handed ++ items) new.lost new.chain in
+    let C : Source → Type 0 = λ source. HasCome job.parts used (handed ++ old.held.items) old.lost source in
+    let L : Option Loss → Type 0 = λ lost. HasCome job.parts used (handed ++ old.held.items) lost new.source in
+    let H : List ℕ → Type 0 = λ items. HasCome job.parts used (handed ++ items) new.lost new.source in
     let begun : job.run.first ≤ old.ready.first = is.begun in
     record {
       is_job = is.is_job;
@@ -458,7 +457,7 @@ same_fetch job used handed old new same is =
       end_is = same.end_is ∙ is.end_is;
       begun = omega (arith, first, begun);
       handed_is = is.handed_is ∙ ap (cut job.plan) (sym first);
-      came = subst H (sym (ap (λ v. v.items) same.held)) (subst L (sym same.lost) (subst C (sym same.chain) is.came));
+      came = subst H (sym (ap (λ v. v.items) same.held)) (subst L (sym same.lost) (subst C (sym same.source) is.came));
       all = λ none. is.all (omega (arith, none, first, same.end_is));
     }
 

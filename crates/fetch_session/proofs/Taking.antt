@@ -10,14 +10,14 @@ use Rattle.link_source.specs.Exchanges.{Exchange}
 use Rattle.span_map.specs.declared.jobs.Job.{Job}
 use Rattle.span_map.specs.declared.jobs.JobPart.{JobPart}
 use Rattle.reply_reader.specs.declared.loss.Loss.{Loss}
-use Rattle.request_chain.specs.Chains.{IsChain, HasBrought}
-use Rattle.request_chain.specs.Fetched.{Fetched}
 use Rattle.request_chain.specs.Plans.{Done}
-use Rattle.request_chain.specs.declared.chain.Chain.{Chain}
+use Rattle.part_fetches.specs.Fetched.{AreBrought, Fetched}
 use Rattle.fetch_session.specs.Blocks.{cut, AreReady}
 use Rattle.span_map.specs.Jobs.{IsJob, parts_len, run_end, run_start}
 use Rattle.fetch_session.specs.Fetches.{HasCome, IsFetch}
+use Rattle.fetch_session.specs.Sources.{IsSource}
 use Rattle.fetch_session.specs.declared.fetch.Fetch.{Fetch}
+use Rattle.fetch_session.specs.declared.source.Source.{Source}
 use Rattle.fetch_session.proofs.Cuts.{cut_inside, cut_next, cut_grows, cuts_ordered}
 use Rattle.fetch_session.proofs.Stepping.{job_end}
 
@@ -54,9 +54,9 @@ run_cuts plan end run follow within some le =
     (sym (cut_inside plan run.first (omega arith)), cut_next plan (run.first + run.count - 1) follow (omega arith) ∙ ap (cut plan) at)
 
 pub begun_fetch : (job : Job) (new : Fetch) → BlocksFollow → IsJob job → new.plan ≡ job.plan → new.end ≡ job.run.first + job.run.count → new.ready.first ≡ job.run.first
-    → new.held.items ≡ [] → new.lost ≡ None → IsChain job.parts [] [] new.chain
-    → HasBrought job.parts [] [] [] → IsFetch job [] [] new
-begun_fetch job new follow is plan_is end_is first_is none_held none_lost chain brought =
+    → new.held.items ≡ [] → new.lost ≡ None → IsSource job.parts [] [] new.source
+    → AreBrought job.parts [] [] [] → IsFetch job [] [] new
+begun_fetch job new follow is plan_is end_is first_is none_held none_lost source brought =
     let some : 0 < job.run.count = is.some in
     let within : job.run.first + job.run.count ≤ blocks_of job.plan.total job.plan.piece_len = is.within in
     let end = job_end job follow is in
@@ -65,29 +65,29 @@ begun_fetch job new follow is plan_is end_is first_is none_held none_lost chain 
     let far = (cuts_ordered job.plan (job.run.first + 1) (job.run.first + job.run.count) follow (omega arith) within).0 in
     let short : 0 < parts_len job.parts = omega (arith, end, start, grows, far) in
     let first : cut job.plan new.ready.first ≡ cut job.plan job.run.first = ap (cut job.plan) first_is in
-    let H : List ℕ → Type 0 = λ items. HasCome job.parts [] items new.lost new.chain in
-    let L : Option Loss → Type 0 = λ lost. HasCome job.parts [] [] lost new.chain in
+    let H : List ℕ → Type 0 = λ items. HasCome job.parts [] items new.lost new.source in
+    let L : Option Loss → Type 0 = λ lost. HasCome job.parts [] [] lost new.source in
     record {
       is_job = is;
       plan_is = plan_is;
       end_is = end_is;
       begun = omega (arith, first_is);
       handed_is = omega (arith, first, start);
-      came = subst H (sym none_held) (subst L (sym none_lost) (inr (record { short = short; chain_is = chain; waiting = []; brought = brought })));
+      came = subst H (sym none_held) (subst L (sym none_lost) (inr (record { short = short; source_is = source; waiting = []; brought = brought })));
       all = λ none. absurd (omega (arith, none, end_is, first_is));
     }
 
 -- where as many bytes came as the parts have, all came
-whole_come : (parts : List JobPart) (used : List Exchange) (bytes : List ℕ) (lost : Option Loss) (chain : Chain) → parts_len parts ≤ length bytes → HasCome parts used bytes lost chain
+whole_come : (parts : List JobPart) (used : List Exchange) (bytes : List ℕ) (lost : Option Loss) (source : Source) → parts_len parts ≤ length bytes → HasCome parts used bytes lost source
     → Fetched parts used bytes Done []
-whole_come parts used bytes None chain whole came = elim came [ inl all ↦ all | inr more ↦ absurd (let short : length bytes < parts_len parts = more.short in omega arith) ]
-whole_come parts used bytes (Some loss) chain whole came = absurd (let short : length bytes < parts_len parts = came.0 in omega arith)
+whole_come parts used bytes None source whole came = elim came [ inl all ↦ all | inr more ↦ absurd (let short : length bytes < parts_len parts = more.short in omega arith) ]
+whole_come parts used bytes (Some loss) source whole came = absurd (let short : length bytes < parts_len parts = came.0 in omega arith)
 
 pub taken_fetch : (job : Job) (used : List Exchange) (handed : List ℕ) (old new : Fetch) (blocks : List ℕ) → BlocksFollow
-    → new.plan ≡ old.plan → new.end ≡ old.end → new.ready.first ≡ old.ready.first + old.ready.count → new.chain ≡ old.chain → new.lost ≡ old.lost
+    → new.plan ≡ old.plan → new.end ≡ old.end → new.ready.first ≡ old.ready.first + old.ready.count → new.source ≡ old.source → new.lost ≡ old.lost
     → old.held.items ≡ blocks ++ new.held.items → cut old.plan old.ready.first + length blocks ≡ cut old.plan (old.ready.first + old.ready.count)
     → IsFetch job used handed old → IsFetch job used (handed ++ blocks) new
-taken_fetch job used handed old new blocks follow plan_is end_is first_is chain_is lost_is held_is len_is is =
+taken_fetch job used handed old new blocks follow plan_is end_is first_is source_is lost_is held_is len_is is =
     let P : Plan → Type 0 = λ plan. cut plan old.ready.first + length blocks ≡ cut plan (old.ready.first + old.ready.count) in
     let len : cut job.plan old.ready.first + length blocks ≡ cut job.plan (old.ready.first + old.ready.count) = subst P is.plan_is len_is in
     let first : cut job.plan new.ready.first ≡ cut job.plan (old.ready.first + old.ready.count) = ap (cut job.plan) first_is in
@@ -95,10 +95,10 @@ taken_fetch job used handed old new blocks follow plan_is end_is first_is chain_
     let begun : job.run.first ≤ old.ready.first = is.begun in
     let within : old.ready.first + old.ready.count ≤ old.end = old.holds.within in
     let join : handed ++ old.held.items ≡ (handed ++ blocks) ++ new.held.items = ap (λ more. handed ++ more) held_is ∙ sym (append_assoc handed blocks new.held.items) in
-    let B : List ℕ → Type 0 = λ bytes. HasCome job.parts used bytes old.lost old.chain in
-    let C : Chain → Type 0 = λ chain. HasCome job.parts used ((handed ++ blocks) ++ new.held.items) old.lost chain in
-    let L : Option Loss → Type 0 = λ lost. HasCome job.parts used ((handed ++ blocks) ++ new.held.items) lost new.chain in
-    let came : HasCome job.parts used ((handed ++ blocks) ++ new.held.items) new.lost new.chain = subst L (sym lost_is) (subst C (sym chain_is) (subst B join is.came)) in
+    let B : List ℕ → Type 0 = λ bytes. HasCome job.parts used bytes old.lost old.source in
+    let C : Source → Type 0 = λ source. HasCome job.parts used ((handed ++ blocks) ++ new.held.items) old.lost source in
+    let L : Option Loss → Type 0 = λ lost. HasCome job.parts used ((handed ++ blocks) ++ new.held.items) lost new.source in
+    let came : HasCome job.parts used ((handed ++ blocks) ++ new.held.items) new.lost new.source = subst L (sym lost_is) (subst C (sym source_is) (subst B join is.came)) in
     let held_len : vec_len old.held ≡ length old.held.items = old.held.ok.0 in
     let R : Plan → Type 0 = λ plan. cut plan old.ready.first + length old.held.items ≤ cut plan (min (old.ready.first + 64) old.end) in
     let reach : cut old.plan old.ready.first + vec_len old.held ≤ cut old.plan (min (old.ready.first + 64) old.end) = old.holds.bounded in
@@ -118,8 +118,8 @@ taken_fetch job used handed old new blocks follow plan_is end_is first_is chain_
           let whole : cut job.plan (old.ready.first + old.ready.count) ≡ cut job.plan old.end = ap (cut job.plan) last in
           let grown : length old.held.items ≡ length blocks + length new.held.items = ap length held_is ∙ length-append blocks new.held.items in
           let nothing : new.held.items ≡ [] = nil_from_length new.held.items (omega (arith, grown, len, whole, bounded, far)) in
-          let H : List ℕ → Type 0 = λ items. HasCome job.parts used ((handed ++ blocks) ++ items) new.lost new.chain in
-          let N : List ℕ → Type 0 = λ bytes. HasCome job.parts used bytes new.lost new.chain in
-          whole_come job.parts used (handed ++ blocks) new.lost new.chain (omega (arith, at, len, whole, end, length-append handed blocks))
+          let H : List ℕ → Type 0 = λ items. HasCome job.parts used ((handed ++ blocks) ++ items) new.lost new.source in
+          let N : List ℕ → Type 0 = λ bytes. HasCome job.parts used bytes new.lost new.source in
+          whole_come job.parts used (handed ++ blocks) new.lost new.source (omega (arith, at, len, whole, end, length-append handed blocks))
           (subst N (append-nil (handed ++ blocks)) (subst H nothing came));
     }

@@ -8,18 +8,19 @@ use Rattle.span_map.specs.declared.jobs.Job.{Job}
 use Rattle.span_map.specs.declared.jobs.JobPart.{JobPart}
 use Rattle.reply_reader.specs.declared.loss.Loss.{Loss}
 use Rattle.reply_reader.specs.declared.loss.Loss.TheVariants.{NoMemory}
-use Rattle.request_chain.specs.Chains.{IsChain, Gains, HasBrought, TellsLoss, received_by}
-use Rattle.request_chain.specs.Fetched.{Fetched}
+use Rattle.request_chain.specs.Chains.{Gains, received_by}
 use Rattle.request_chain.specs.Plans.{FetchEnding, Done, Lost}
 use Rattle.request_chain.specs.Rests.{LetsGo, RestsOn, RestsWhole}
-use Rattle.request_chain.specs.Turns.{AsksFor, MayGoOn}
-use Rattle.request_chain.specs.declared.chain.Chain.{Chain}
+use Rattle.part_fetches.specs.Fetched.{AreBrought, Fetched}
+use Rattle.part_fetches.specs.Losses.{TellsLoss}
 use Rattle.fetch_session.specs.declared.blocks.TheConstants.{MOST_READY}
 use Rattle.fetch_session.specs.Blocks.{cut, ready_blocks}
 use Rattle.span_map.specs.Jobs.{IsJob, parts_len, run_start}
 use Rattle.fetch_session.specs.declared.fetch.Fetch.{Fetch}
 use Rattle.fetch_session.specs.declared.fetch.Got.{Got}
 use Rattle.fetch_session.specs.declared.room.FetchRoom.{FetchRoom}
+use Rattle.fetch_session.specs.declared.source.Source.{Source}
+use Rattle.fetch_session.specs.Sources.{rests_at, IsSource, MayReadAt, RestsAt, RestsWholeAt, SourceAsks}
 
 abbrev pub fetch_plan : Fetch → Plan
 fetch_plan fetch = fetch.plan
@@ -42,39 +43,39 @@ IsHeldBack ready loss = (0 < ready.count) × (loss ≢ NoMemory)
 
 -- where a fetch with this room would go on over the connection of the one before, the link is still open there
 abbrev pub MayBegin : FetchRoom → LinkState → Type 0
-MayBegin room link = RestsOn room.chain link
+MayBegin room link = RestsOn room.rooms.chain link
 
 -- where a step would go on with a reply or over that connection, the link is open there
 pub record MayStep (fetch : Fetch) (link : LinkState) : Type 0 where
-  pub steps : lost_of fetch ≡ None → (ready_of fetch).count < (rest_of fetch).count → MayGoOn fetch.chain link
-  pub rests : lost_of fetch ≡ None → RestsOn fetch.chain.room link
+  pub steps : lost_of fetch ≡ None → (ready_of fetch).count < (rest_of fetch).count → MayReadAt fetch.source.reader link
+  pub rests : lost_of fetch ≡ None → RestsAt fetch.source.reader link
 
 -- the link is closed, or the next fetch may go on over its connection
 abbrev pub IsLetGo : Fetch → LinkState → Type 0
-IsLetGo fetch link = LetsGo fetch.chain.room link
+IsLetGo fetch link = (link.peer ≡ None) ⊎ (rests_at fetch.source.reader ≡ true)
 
 -- so behind a probe
 abbrev pub IsLeftTo : FetchRoom → LinkState → Type 0
-IsLeftTo room link = LetsGo room.chain link
+IsLeftTo room link = LetsGo room.rooms.chain link
 
 -- The fetch keeps a connection only behind a reply that was read whole, that of the newest of these exchanges.
 abbrev pub KeepsBehindWhole : Fetch → List Exchange → Type 0
-KeepsBehindWhole fetch exchanges = RestsWhole fetch.chain.room exchanges
+KeepsBehindWhole fetch exchanges = RestsWholeAt fetch.source.reader exchanges
 
 -- so the room of the next fetch
 abbrev pub IsKeptBehindWhole : FetchRoom → List Exchange → Type 0
-IsKeptBehindWhole room exchanges = RestsWhole room.chain exchanges
+IsKeptBehindWhole room exchanges = RestsWhole room.rooms.chain exchanges
 
 -- the next request of the fetch is for this URL
 abbrev pub AsksNext : Fetch → List ℕ → Type 0
-AsksNext fetch url = AsksFor fetch.chain url
+AsksNext fetch url = SourceAsks fetch.source url
 
 -- the second buffer may have come in, and nothing else changed
 pub record SameButSpare (old new : Fetch) : Type 0 where
   pub plan : new.plan ≡ old.plan
   pub end_is : new.end ≡ old.end
   pub ready : new.ready ≡ old.ready
-  pub chain : new.chain ≡ old.chain
+  pub source : new.source ≡ old.source
   pub held : new.held ≡ old.held
   pub lost : new.lost ≡ old.lost
 
@@ -82,17 +83,17 @@ pub record SameButSpare (old new : Fetch) : Type 0 where
 abbrev pub IsShort : List JobPart → List ℕ → Type 0
 IsShort parts bytes = length bytes < parts_len parts
 
--- The chain brings more behind these bytes, which the streams tell.
-pub record BringsMore (parts : List JobPart) (used : List Exchange) (bytes : List ℕ) (chain : Chain) : Type 0 where
+-- The source brings more behind these bytes, which the streams tell.
+pub record BringsMore (parts : List JobPart) (used : List Exchange) (bytes : List ℕ) (source : Source) : Type 0 where
   pub short : IsShort parts bytes
-  pub chain_is : IsChain parts used bytes chain
+  pub source_is : IsSource parts used bytes source
   pub waiting : List ℕ
-  pub brought : HasBrought parts used bytes waiting
+  pub brought : AreBrought parts used bytes waiting
 
--- these bytes came over these streams: all, or the chain brings more, or the rest is lost
-abbrev pub HasCome : List JobPart → List Exchange → List ℕ → Option Loss → Chain → Type 0
-HasCome parts used bytes None chain = Fetched parts used bytes Done [] ⊎ BringsMore parts used bytes chain
-HasCome parts used bytes (Some loss) chain = IsShort parts bytes × ((count : ℕ) × TellsLoss parts used bytes count loss)
+-- these bytes came over these streams: all, or the source brings more, or the rest is lost
+abbrev pub HasCome : List JobPart → List Exchange → List ℕ → Option Loss → Source → Type 0
+HasCome parts used bytes None source = Fetched parts used bytes Done [] ⊎ BringsMore parts used bytes source
+HasCome parts used bytes (Some loss) source = IsShort parts bytes × ((count : ℕ) × TellsLoss parts used bytes count loss)
 
 -- The fetch of the job used these streams, the oldest first, and handed out these bytes of it.
 pub record IsFetch (job : Job) (used : List Exchange) (handed : List ℕ) (fetch : Fetch) : Type 0 where
@@ -101,7 +102,7 @@ pub record IsFetch (job : Job) (used : List Exchange) (handed : List ℕ) (fetch
   pub end_is : fetch.end ≡ job.run.first + job.run.count
   pub begun : job.run.first ≤ fetch.ready.first
   pub handed_is : run_start job.plan job.run + length handed ≡ cut job.plan fetch.ready.first
-  pub came : HasCome job.parts used (handed ++ fetch.held.items) fetch.lost fetch.chain
+  pub came : HasCome job.parts used (handed ++ fetch.held.items) fetch.lost fetch.source
   pub all : (rest_of fetch).count ≡ 0 → Fetched job.parts used handed Done []
 
 -- the streams tell the bytes that were handed out, and more behind them

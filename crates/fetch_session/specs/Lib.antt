@@ -1,3 +1,3 @@
 pub mod Blocks
 pub mod Fetches
-pub mod Lengths
+pub mod Sources

@@ -9,14 +9,16 @@ ghost use Rattle.fetch_session.specs.declared.room.TheConstants.{BUFFER};
 ghost use Rattle.link_source.specs.Link.{LinkState};
 ghost use Rattle.link_source.specs.Exchanges.{Exchange};
 ghost use Rattle.request_chain.specs.Rests.{RestsOn, RestsWhole};
+ghost use Rattle.fetch_session.specs.Sources.{rests_at, RestsAt, RestsWholeAt};
 
 use crate::blocks::{cut, missing, take_front, whole_from};
-use crate::laws::fetched_bytes_fit_their_parts;
 use crate::room::{BUFFER, FetchRoom, make_buffer};
+use crate::source::Source;
 use dl_kinds::{Blob, NoMemory, Plan, Run, plan_laws};
 use link_source::Links;
+use part_fetches::fetched_bytes_fit_their_parts;
+use part_readers::PartRooms;
 use reply_reader::Loss;
-use request_chain::{Chain, ChainRoom};
 use span_map::Job;
 use std::alloc::Global;
 
@@ -37,7 +39,7 @@ pub struct Fetch {
     end: u32,
     // From the first block on that wasn't handed out.
     ready: Run,
-    chain: Chain,
+    source: Source,
     // The bytes from that block on.
     held: Vec<u8>,
     spare: Option<Vec<u8>>,
@@ -83,7 +85,7 @@ impl Fetch {
         plan_laws();
         let Job { plan, run, parts } = job;
         let FetchRoom {
-            chain,
+            rooms,
             mut held,
             spare,
         } = room;
@@ -95,7 +97,7 @@ impl Fetch {
                 first: run.first,
                 count: 0,
             },
-            chain: Chain::new(parts, chain),
+            source: Source::new(parts, rooms),
             held,
             spare,
             lost: None,
@@ -122,7 +124,7 @@ impl Fetch {
         ensures taken { result.taken ≡ taken }
         ensures done { IsTrue result.done ↔ ((ready_of self.now).count ≡ (rest_of self.now).count) }
         ensures closed { IsTrue result.done → IsTrue L.tells → IsLetGo self.now (L.state link.new) }
-        ensures kept { self.now.chain.room.rests ≡ true → link.new ≡ link.old }
+        ensures kept { rests_at self.now.source.reader ≡ true → link.new ≡ link.old }
         ensures same { IsFalse result.done → link.new ≡ link.old }
         ensures streams { IsTrue L.tells
             → (L.state link.new).exchanges ≡ (L.state link.old).exchanges }
@@ -131,7 +133,7 @@ impl Fetch {
         ensures faults { L.faults link.new ≡ L.faults link.old }
     {
         let got = self.got(taken);
-        if got.done && !self.chain.rests() {
+        if got.done && !self.source.rests() {
             link.hang_up();
         }
         got
@@ -139,8 +141,8 @@ impl Fetch {
 
     /// Reads on until `allow` bytes came from the link, heads and all, or 64 blocks are ready, or the last ones are.
     /// Where blocks are ready before a loss, the next step tells the loss, and each step behind it tells it again. Where
-    /// memory runs out, what came in this step is given up. It takes memory as a chain of requests does, and for a
-    /// buffer that wasn't given back.
+    /// memory runs out, what came in this step is given up. It takes memory as a chain of requests does, for
+    /// the URL of each part, and for a buffer that wasn't given back.
     pub fn step<L: Links>(&mut self, alloc: Global, link: &mut L, allow: u32) -> Result<Got, Loss>
         requires none_ready { (ready_of self.old).count ≡ 0 }
         requires some { 0 < allow }
@@ -284,7 +286,7 @@ impl Fetch {
         fetched_bytes_fit_their_parts();
         plan_laws();
         let before = self.held.len();
-        match self.chain.read(alloc, link, &mut self.held, room, allow) {
+        match self.source.read(alloc, link, &mut self.held, room, allow) {
             Ok(read) => {
                 self.ready = whole_from(&self.plan, self.ready.first, self.end, self.held.len());
                 Ok(self.end_step(link, read.taken))
@@ -306,7 +308,7 @@ impl Fetch {
                     if self.ready.count == 0 {
                         return Err(loss);
                     }
-                    Ok(self.end_step(link, self.chain.taken()))
+                    Ok(self.end_step(link, self.source.taken()))
                 }
             },
         }
@@ -374,29 +376,29 @@ impl Fetch {
             plan: _,
             end: _,
             ready: _,
-            chain,
+            source,
             held,
             spare,
             lost,
         } = self;
         FetchRoom {
-            chain: room_behind(chain, lost),
+            rooms: rooms_behind(source, lost),
             held,
             spare,
         }
     }
 }
 
-// The room of a chain, which doesn't go on over its connection after a loss.
-fn room_behind(chain: Chain, lost: Option<Loss>) -> ChainRoom
-    ensures rests { (link : LinkState) → (lost ≡ None → RestsOn chain.room link)
-        → RestsOn result link }
-    ensures whole { (exchanges : List Exchange) → RestsWhole chain.room exchanges
-        → RestsWhole result exchanges }
+// The rooms of a source, which doesn't go on over its connection after a loss.
+fn rooms_behind(source: Source, lost: Option<Loss>) -> PartRooms
+    ensures rests { (link : LinkState) → (lost ≡ None → RestsAt source.reader link)
+        → RestsOn result.chain link }
+    ensures whole { (exchanges : List Exchange) → RestsWholeAt source.reader exchanges
+        → RestsWhole result.chain exchanges }
 {
-    let room = chain.into_room();
+    let rooms = source.into_rooms();
     match lost {
-        Some(_) => room.without_connection(),
-        None => room,
+        Some(_) => rooms.without_connection(),
+        None => rooms,
     }
 }

@@ -1,18 +1,8 @@
 // Laws of what is fetched.
 ghost use Rattle.std.specs.Prelude.{◌≡◌};
 ghost use Rattle.fetch_session.specs.Fetches.{HandedIsFetched};
-ghost use Rattle.fetch_session.specs.Lengths.{FetchedFits};
 ghost use Rattle.fetch_session.specs.declared.blocks.TheConstants.{MOST_READY};
 ghost use Rattle.fetch_session.specs.declared.room.TheConstants.{BUFFER};
-
-use reply_reader::answers_fill_what_is_asked;
-
-/// How many bytes are fetched. It does nothing when it runs.
-pub fn fetched_bytes_fit_their_parts()
-    ensures fits { FetchedFits }
-{
-    answers_fill_what_is_asked();
-}
 
 /// Each block that a fetch handed out is what its streams tell, also where the fetch is given up before its end.
 pub fn handed_bytes_are_fetched()

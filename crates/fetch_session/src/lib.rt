@@ -6,6 +6,7 @@ mod fetch;
 mod laws;
 mod probing;
 mod room;
+mod source;
 
 pub use fetch::{Fetch, Got};
 pub use laws::{handed_bytes_are_fetched, limits_are_told};

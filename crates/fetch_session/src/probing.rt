@@ -7,7 +7,8 @@ ghost use Rattle.reply_reader.specs.Losses.{IsKnown};
 ghost use Rattle.request_chain.specs.Answered.{KeepsAnswers};
 ghost use Rattle.request_chain.specs.Links.{CountsLinkLoss};
 ghost use Rattle.request_chain.specs.Chains.{Gains};
-ghost use Rattle.request_chain.specs.Probes.{Told, Probed, TellsProbeLoss};
+ghost use Rattle.request_chain.specs.Probes.{Told};
+ghost use Rattle.part_fetches.specs.Probes.{Probed, TellsProbeLoss};
 
 use crate::room::FetchRoom;
 use link_source::Links;
@@ -40,5 +41,5 @@ pub fn probe<L: Links>(
     ensures known { IfErr result IsKnown }
     ensures later { L.faults link.old ≤ L.faults link.new }
 {
-    request_chain::probe(alloc, link, url, &mut room.chain)
+    room.rooms.probe(alloc, link, url)
 }

@@ -6,7 +6,7 @@ ghost use Rattle.fetch_session.specs.declared.room.TheConstants.{BUFFER};
 use crate::blocks::MOST_READY;
 use dl_kinds::{BLOCK_LEN, NoMemory};
 use link_source::Links;
-use request_chain::ChainRoom;
+use part_readers::PartRooms;
 use std::alloc::Global;
 
 /// The bytes of the most blocks that are ready at once.
@@ -23,7 +23,7 @@ pub fn make_buffer(alloc: Global) -> Result<Vec<u8>, NoMemory>
 /// where a fetch handed it out and didn't get it back.
 #[derive(Debug, Drop)]
 pub struct FetchRoom {
-    pub(crate) chain: ChainRoom,
+    pub(crate) rooms: PartRooms,
     pub(crate) held: Vec<u8>,
     pub(crate) spare: Option<Vec<u8>>,
     ghost held_fits: { BUFFER ≤ vec_capacity held },
@@ -41,7 +41,7 @@ impl FetchRoom {
             (λ room. (exchanges : List Exchange) → IsKeptBehindWhole room exchanges) }
     {
         Ok(FetchRoom {
-            chain: ChainRoom::new(alloc)?,
+            rooms: PartRooms::new(alloc)?,
             held: make_buffer(alloc)?,
             spare: Some(make_buffer(alloc)?),
         })
@@ -55,9 +55,9 @@ impl FetchRoom {
         ensures whole { (exchanges : List Exchange) → IsKeptBehindWhole result exchanges }
     {
         link.hang_up();
-        let FetchRoom { chain, held, spare } = self;
+        let FetchRoom { rooms, held, spare } = self;
         FetchRoom {
-            chain: chain.without_connection(),
+            rooms: rooms.without_connection(),
             held,
             spare,
         }

@@ -1,3 +1,4 @@
 pub mod AnswerLemmas
 pub mod CommandLemmas
+pub mod FollowLemmas
 pub mod TurnLemmas

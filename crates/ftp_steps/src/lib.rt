@@ -10,6 +10,6 @@ mod turn;
 
 pub use answers::answer;
 pub use commands::command;
-pub use laws::{answers_are_one_and_stay, commands_are_lines};
+pub use laws::{answers_are_one_and_stay, answers_follow_their_step, commands_are_lines};
 pub use step::FtpStep;
 pub use turn::FtpTurn;

@@ -127,14 +127,14 @@ answered mirrors left used host port bytes target text first last number next as
     let there : bad_at old host port ≡ option_and_then (next_bad left) number =
     ap (option_and_then (next_bad left)) (position-map mirror_of (λ (mirror : Mirror). (mirror.port == port) && bytes_eq mirror.host host) mirrors ∙ sym number_is) in
     record {
-      asked = λ other_target other_first other_last others.
+      asked = λ other_target other_first other_last _ others.
           let same = asks_once host port bytes target other_target first last other_first other_last asks others in
           text_is ∙ ap (λ bad. text_under bad (reply_of old host port target first last)) (next_is ∙ sym there)
           ∙ ap (λ t. text_under (bad_at old host port) (reply_of old host port t first last)) same.0
           ∙ ap (λ f. text_under (bad_at old host port) (reply_of old host port other_target f last)) same.1
           ∙ ap (λ l. text_under (bad_at old host port) (reply_of old host port other_target other_first l)) same.2;
-      used = λ _ _ _ bad _ is. one_used number left used new_left new_used bad (sym there ∙ is) uses;
-      other = λ never. absurd (never target first last asks);
+      used = λ _ _ _ bad _ _ is. one_used number left used new_left new_used bad (sym there ∙ is) uses;
+      other = λ _ never. absurd (never target first last asks);
       effect = effect_of mirrors left used new_left new_used host port number _ there refl uses;
     }
 
@@ -142,8 +142,8 @@ answered mirrors left used host port bytes target text first last number next as
 pub unanswered : (mirrors : List MemMirror) (left used : List Bad) (host : List ℕ) (port : ℕ) (bytes : List ℕ)
     → ((target : List ℕ) (first last : ℕ) → Asks host port target first last bytes → ⊥) → GivesText mirrors left used host port bytes [] None
 unanswered mirrors left used host port bytes never new_left new_used uses = record {
-  asked = λ target first last asks. absurd (never target first last asks);
-  used = λ target first last _ asks _. absurd (never target first last asks);
-  other = λ _. (refl, same_content mirrors left used new_left new_used uses);
+  asked = λ target first last _ asks. absurd (never target first last asks);
+  used = λ target first last _ _ asks _. absurd (never target first last asks);
+  other = λ _ _. (refl, same_content mirrors left used new_left new_used uses);
   effect = inl (same_content mirrors left used new_left new_used uses);
 }

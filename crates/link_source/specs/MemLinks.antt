@@ -2,7 +2,7 @@
 use Rattle.std.specs.Prelude.{◌≡◌, ◌⊎◌, ℕ, ◌+◌, ◌-◌, ◌^◌, min, false, List, [], Contains, None, option_map, Result, IsErrOf}
 use Rattle.dl_kinds.specs.declared.outside.IoErr.{IoErr}
 use Rattle.dl_kinds.specs.declared.outside.IoErr.TheVariants.{NoMemory}
-use Rattle.link_source.specs.Link.{LinkState}
+use Rattle.link_source.specs.Link.{LinkState, Shut}
 use Rattle.link_source.specs.Memory.{contents_of, peer_of}
 use Rattle.link_source.specs.Mirrors.{mirror_at}
 use Rattle.link_source.specs.declared.bad_answers.Bad.{Bad}
@@ -16,6 +16,7 @@ link_state links = record {
   due = links.due;
   peer = option_map peer_of links.peer;
   listens = links.listening;
+  data_link = Shut;
 }
 
 abbrev pub link_faults : MemLinks → ℕ

@@ -1,5 +1,5 @@
 -- What mirrors in memory hold, and how they answer requests for a part of a resource.
-use Rattle.std.specs.Prelude.{◌≡◌, ◌⊎◌, ◌==◌, ◌≤◌, ◌<◌, ◌^◌, ℕ, true, false, List, [], ◌∷◌, Option, Some, None, find, position, option_map, option_and_then, ◌&&◌}
+use Rattle.std.specs.Prelude.{◌≡◌, ◌⊎◌, ◌==◌, ◌≤◌, ◌<◌, ◌^◌, ℕ, true, false, List, [], ◌∷◌, Option, Some, None, find, position, option_map, option_and_then, IsSome, ◌&&◌}
 use Rattle.std.specs.Option.{option_map_or}
 use Rattle.std.specs.Str.{bytes_eq}
 use Rattle.link_source.specs.BadAnswers.{IsUsed, next_bad}
@@ -72,19 +72,25 @@ pub record UsesBadAnswer (old : Content) (host : List ℕ) (port : ℕ) (new : C
   pub used : IsUsed old.bad old.used bad new.bad new.used
   pub mirrors_stay : new.mirrors ≡ old.mirrors
 
--- The reply that a host and a port give to bytes, and what the mirrors hold then. A request gets the true reply, or the
--- next bad answer in its place where one is left, which is used then. Other bytes get none.
+-- one of the mirrors has this host and port
+abbrev pub IsServed : Content → List ℕ → ℕ → Type 0
+IsServed content host port = IsSome (mirror_at content.mirrors host port)
+
+-- The reply that the host and the port of a mirror give to bytes, and what the mirrors hold then. A request gets the true
+-- reply, or the next bad answer in its place where one is left, which is used then. Other bytes get none. What another
+-- host or port replies isn't told.
 pub record HasReply (old : Content) (host : List ℕ) (port : ℕ) (bytes reply : List ℕ) (new : Content) : Type 0 where
-  pub asked : (target : List ℕ) (first last : ℕ) → Asks host port target first last bytes
+  pub asked : (target : List ℕ) (first last : ℕ) → IsServed old host port → Asks host port target first last bytes
       → reply ≡ text_under (bad_at old host port) (reply_of old host port target first last)
-  pub used : (target : List ℕ) (first last : ℕ) (bad : Bad) → Asks host port target first last bytes → bad_at old host port ≡ Some bad
-      → IsUsed old.bad old.used bad new.bad new.used
-  pub other : ((target : List ℕ) (first last : ℕ) → Asks host port target first last bytes → ⊥) → (reply ≡ []) × (new ≡ old)
+  pub used : (target : List ℕ) (first last : ℕ) (bad : Bad) → IsServed old host port → Asks host port target first last bytes
+      → bad_at old host port ≡ Some bad → IsUsed old.bad old.used bad new.bad new.used
+  pub other : IsServed old host port → ((target : List ℕ) (first last : ℕ) → Asks host port target first last bytes → ⊥)
+      → (reply ≡ []) × (new ≡ old)
   pub effect : (new ≡ old) ⊎ UsesBadAnswer old host port new
 
 -- a request gets the reply to what it asks for, or the bad answer in its place
 abbrev pub AnswersRequests : Type 0
-AnswersRequests = (old new : Content) (host target reply : List ℕ) (port first last : ℕ) → first ≤ last → last < 2 ^ 64
+AnswersRequests = (old new : Content) (host target reply : List ℕ) (port first last : ℕ) → IsServed old host port → first ≤ last → last < 2 ^ 64
     → HasReply old host port (request_of (host_value host port) target first last) reply new
     → reply ≡ text_under (bad_at old host port) (reply_of old host port target first last)
 

@@ -3,7 +3,7 @@
 
 ghost use Rattle.std.specs.Prelude.{◌≡◌, ◌<◌, ◌≤◌, Bool, ℕ, true, length, IsTrue, IsSome, IfOk, OnOk, OnErr};
 ghost use Rattle.dl_kinds.specs.Causes.{HasCause};
-ghost use Rattle.link_source.specs.Link.{LinkState, Dials, Sends, Receives, closed};
+ghost use Rattle.link_source.specs.Link.{LinkState, Dials, DialsData, HasData, Sends, Receives, ReceivesData, closed};
 ghost use Rattle.link_source.specs.declared.exchanges.TheConstants.{MOST_RECEIVED};
 
 use dl_kinds::IoErr;
@@ -29,7 +29,7 @@ pub use load::load_part;
 pub use memory::MemLinks;
 pub use mirrors::{Manner, MemFile, MemMirror};
 
-/// One connection at a time to a mirror, over which requests go one after the other. A call that answers `NoMemory` was not made: it leaves everything as it was.
+/// One connection at a time to a mirror, over which requests go one after the other, and one for data beside it. A call that answers `NoMemory` was not made: it leaves everything as it was.
 pub trait Links {
     /// Whether this kind of link tells its state. A real one can't: over it only the counts of faults are known.
     ghost tells: { Bool };
@@ -70,7 +70,28 @@ pub trait Links {
         ensures failed { OnErr result (IsTrue tells → state self.new ≡ state self.old) }
         ensures cause { HasCause (faults self.old) (faults self.new) result };
 
-    /// Closes the connection. What the newest exchange had still to give stays due.
+    /// Opens a connection for data beside the open one, to this port of the same host, in place of the one before.
+    fn dial_data(&mut self, port: u16) -> Result<(), IoErr>
+        requires opened { IsTrue tells → IsSome (state self.old).peer }
+        ensures dialled { OnOk result (IsTrue tells
+            → DialsData port (state self.old) (state self.new)) }
+        ensures failed { OnErr result (IsTrue tells → state self.new ≡ state self.old) }
+        ensures cause { HasCause (faults self.old) (faults self.new) result };
+
+    /// Receives some bytes over the connection for data, and none only at its end. What comes is an exchange without a
+    /// request, the newest one from the first call on, so no reply is received behind it. The next request closes the
+    /// connection for data.
+    fn recv_data(&mut self, into: &mut [u8]) -> Result<usize, IoErr>
+        requires some { 0 < length into.old }
+        requires few { length into.old ≤ MOST_RECEIVED }
+        requires dialled { IsTrue tells → HasData (state self.old) }
+        ensures bound { IfOk result (λ count. count ≤ length into.new) }
+        ensures received { IfOk result (λ count. IsTrue tells
+            → ReceivesData count into.new (state self.old) (state self.new)) }
+        ensures failed { OnErr result (IsTrue tells → state self.new ≡ state self.old) }
+        ensures cause { HasCause (faults self.old) (faults self.new) result };
+
+    /// Closes the connection, and the one for data. What the newest exchange had still to give stays due.
     fn hang_up(&mut self)
         ensures closed { IsTrue tells → state self.new ≡ closed (state self.old) }
         ensures faults { faults self.new ≡ faults self.old };

@@ -183,6 +183,25 @@ impl Links for MemLinks {
         Ok(count)
     }
 
+    // Mirrors in memory have no connections for data: each call for one fails.
+    fn dial_data(&mut self, _port: u16) -> Result<(), IoErr>
+        ensures failed { link_state self.new ≡ link_state self.old }
+        ensures refused { IsErrOf result Fault }
+        ensures cause { HasCause (link_faults self.old) (link_faults self.new) result }
+        ensures numbered { IsNumberedCall self.old self.new result }
+    {
+        Err(self.calls.fail())
+    }
+
+    fn recv_data(&mut self, _into: &mut [u8]) -> Result<usize, IoErr>
+        ensures failed { link_state self.new ≡ link_state self.old }
+        ensures refused { IsErrOf result Fault }
+        ensures cause { HasCause (link_faults self.old) (link_faults self.new) result }
+        ensures numbered { IsNumberedCall self.old self.new result }
+    {
+        Err(self.calls.fail())
+    }
+
     fn hang_up(&mut self)
         ensures closed { link_state self.new ≡ closed (link_state self.old) }
         ensures faults { link_faults self.new ≡ link_faults self.old }

@@ -1,7 +1,7 @@
 -- The links of a load, over which its mirrors answer.
 use Rattle.std.specs.Prelude.{◌≡◌, ℕ, ◌+◌, ◌*◌, ◌%◌, false, List, [], ◌∷◌, None, codes}
 use Rattle.link_source.specs.Files.{Bytes}
-use Rattle.link_source.specs.Link.{LinkState}
+use Rattle.link_source.specs.Link.{LinkState, Shut}
 use Rattle.link_source.specs.Load.{load_bytes}
 use Rattle.link_source.specs.Mirrors.{Content, Mirror}
 use Rattle.link_source.specs.declared.bad_answers.Bad.{Bad}
@@ -34,7 +34,7 @@ load_content n link = record { mirrors = load_mirrors n; bad = bad_answer n link
 -- a link that wasn't used yet
 abbrev pub load_state : ℕ → ℕ → LinkState
 load_state n link =
-    record { content = load_content n link; exchanges = []; due = []; peer = None; listens = false }
+    record { content = load_content n link; exchanges = []; due = []; peer = None; listens = false; data_link = Shut }
 
 -- it is the link of this number
 abbrev pub IsLoadLink : (n link : ℕ) → SoundLinks → Type 0

@@ -29,7 +29,7 @@ fn unmade(_failed: IoErr) -> IoErr
 }
 
 impl Links for SoundLinks {
-    ghost use Rattle.std.specs.Prelude.{true};
+    ghost use Rattle.std.specs.Prelude.{◌≡◌, true, IsErrOf};
     ghost use Rattle.load_setup.specs.Sound.{sound_links_state};
 
     ghost tells = { true };
@@ -52,6 +52,17 @@ impl Links for SoundLinks {
 
     fn recv(&mut self, into: &mut [u8]) -> Result<usize, IoErr> {
         self.links.recv(into).map_err(unmade)
+    }
+
+    fn dial_data(&mut self, port: u16) -> Result<(), IoErr> {
+        self.links.dial_data(port).map_err(unmade)
+    }
+
+    fn recv_data(&mut self, into: &mut [u8]) -> Result<usize, IoErr>
+        ensures failed { sound_links_state self.new ≡ sound_links_state self.old }
+        ensures unmade { IsErrOf result IoErr.NoMemory }
+    {
+        self.links.recv_data(into).map_err(unmade)
     }
 
     fn hang_up(&mut self) {

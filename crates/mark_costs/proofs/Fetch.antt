@@ -30,7 +30,7 @@ use Rattle.memory_serving_laws.specs.Serving.{used_among}
 use Rattle.metainfo.specs.Jobs.{mirror_part}
 use Rattle.metainfo.specs.declared.meta.Meta.{Meta}
 use Rattle.mirror_payloads.specs.Faithful.{run_begin, run_finish}
-use Rattle.request_chain.specs.Fetched.{Fetched}
+use Rattle.part_fetches.specs.Fetched.{Fetched}
 use Rattle.request_chain.specs.Plans.{FetchEnding}
 use Rattle.request_chain.specs.declared.course.TheConstants.{REDIRECT_LIMIT}
 use Rattle.span_map.specs.Jobs.{run_end, run_start}

@@ -40,8 +40,8 @@ use Rattle.reply_reader.specs.Losses.{mark_of}
 use Rattle.reply_reader.specs.declared.loss.Loss.{Loss}
 use Rattle.reply_reader.specs.declared.loss.Loss.TheVariants as losses
 use Rattle.request_chain.specs.Answered.{GaveAll, IsAnswered}
-use Rattle.request_chain.specs.Chains.{TellsLoss}
-use Rattle.request_chain.specs.Fetched.{Fetched}
+use Rattle.part_fetches.specs.Fetched.{Fetched}
+use Rattle.part_fetches.specs.Losses.{TellsLoss}
 use Rattle.request_chain.specs.Links.{CountsLinkLoss}
 use Rattle.request_chain.specs.Plans as plans
 use Rattle.span_map.specs.declared.jobs.Job.{Job}

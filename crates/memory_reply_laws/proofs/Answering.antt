@@ -1,11 +1,11 @@
 -- What mirrors in memory give in answer to a request.
-use Rattle.std.proofs.Common.{◌≡◌, ℕ, List, [], ap, subst, ◌∙◌, refl}
+use Rattle.std.proofs.Common.{◌≡◌, ℕ, List, [], ap, subst, ◌∙◌, refl, sym}
 use Rattle.std.specs.Option.{option_and_then, option_map_or}
-use Rattle.std.specs.Prelude.{Option, Some, None}
+use Rattle.std.specs.Prelude.{Option, Some, None, IsSome}
 use Rattle.link_source.specs.BadAnswers.{next_bad}
 use Rattle.link_source.specs.Endpoint.{host_value}
 use Rattle.link_source.specs.Files.{MemFile}
-use Rattle.link_source.specs.Mirrors.{Content, Mirror, AddsReply, HasReply, bad_at, file_at, mirror_reply, number_at, reply_by, reply_of}
+use Rattle.link_source.specs.Mirrors.{Content, Mirror, AddsReply, HasReply, IsServed, bad_at, file_at, mirror_reply, number_at, reply_by, reply_of}
 use Rattle.link_source.specs.Replies.{bare_reply, text_under}
 use Rattle.link_source.specs.Requests.{request_of}
 use Rattle.link_source.specs.declared.bad_answers.Bad.{Bad}
@@ -29,7 +29,8 @@ requests_are_answered due new_due sent host target port asked content new_conten
     let text : sent ≡ request_of (host_value host port) target asked.first asked.last =
     is.sent_is ∙ requests_are_alike (host_value host port) target asked in
     let replies : HasReply content host port sent new_due new_content = subst (λ d. AddsReply host port sent content new_content d new_due) is.nothing_due adds in
-    replies.asked target asked.first asked.last (record { text = text; ordered = is.ordered; bounded = is.bounded })
+    let served : IsServed content host port = subst (λ at. IsSome at) (sym has.mirror_is) refl in
+    replies.asked target asked.first asked.last served (record { text = text; ordered = is.ordered; bounded = is.bounded })
     ∙ ap (text_under (bad_at content host port)) (found content host port target manner file asked.first asked.last has)
 
 pub none_is_next : NoneIsNext

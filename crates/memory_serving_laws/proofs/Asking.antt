@@ -1,10 +1,10 @@
 -- What a stream gave in answer to a request.
 use Rattle.std.proofs.Common.{◌≡◌, ℕ, ◌+◌, ◌<◌, ◌≤◌, ◌^◌, Bool, true, arith, List, [], ◌++◌, refl, ap, sym, subst, ◌∙◌}
 use Rattle.std.proofs.lemmas.Bool.{cond-true}
-use Rattle.std.specs.Prelude.{Option, Some, None}
+use Rattle.std.specs.Prelude.{Option, Some, None, IsSome}
 use Rattle.link_source.specs.Endpoint.{endpoint_of, host_value}
 use Rattle.memory_serving_laws.specs.Leads.{StandsAt}
-use Rattle.link_source.specs.Mirrors.{Content, AddsReply, HasReply, bad_at, mirror_at, number_at, reply_by}
+use Rattle.link_source.specs.Mirrors.{Content, AddsReply, HasReply, IsServed, bad_at, mirror_at, number_at, reply_by}
 use Rattle.link_source.specs.Replies.{text_under}
 use Rattle.link_source.specs.Requests.{Asks}
 use Rattle.link_source.specs.Exchanges.{Exchange}
@@ -70,11 +70,11 @@ module _ (alike : RequestsAreAlike) (answered : RequestsAreAnswered) (among : �
       → HasReply at stream.host stream.port request reply after → Asks stream.host stream.port endpoint.target asked.first asked.last request
       → stream.host ≡ endpoint.host → stream.port ≡ endpoint.port → at.mirrors ≡ old.mirrors
       → LeadsTo url endpoint → ((number : ℕ) → NamesMirror old url number → among number ≡ true)
-      → bad_at at stream.host stream.port ≡ next → used_among among at + cost next ≤ used_among among after
-  paid_there url asked stream at after endpoint request reply None has asks host port mirrors leads is_among is =
+      → bad_at at stream.host stream.port ≡ next → IsServed at stream.host stream.port → used_among among at + cost next ≤ used_among among after
+  paid_there url asked stream at after endpoint request reply None has asks host port mirrors leads is_among is served =
       omega (arith, (reply_counts among at stream.host stream.port request reply after has).0)
-  paid_there url asked stream at after endpoint request reply (Some bad) has asks host port mirrors leads is_among is =
-      let used = one_used among at after bad (has.used endpoint.target asked.first asked.last bad asks is) in
+  paid_there url asked stream at after endpoint request reply (Some bad) has asks host port mirrors leads is_among is served =
+      let used = one_used among at after bad (has.used endpoint.target asked.first asked.last bad served asks is) in
       let next = next_number at stream.host stream.port bad is in
       let at_old : number_at old.mirrors endpoint.host endpoint.port ≡ Some next.number =
       ap (λ h. number_at old.mirrors h endpoint.port) (sym host) ∙ ap (number_at old.mirrors stream.host) (sym port)
@@ -94,6 +94,9 @@ module _ (alike : RequestsAreAlike) (answered : RequestsAreAnswered) (among : �
       let asks = asks_there asked stream endpoint stream.request ordered bounded exchange.host_is exchange.port_is exchange.request_is in
       let bad = bad_at at stream.host stream.port in
       let has = has_there at url endpoint file mirrors stands exchange.leads in
+      let here : mirror_at at.mirrors stream.host stream.port ≡ Some has.mirror =
+      ap (λ h. mirror_at at.mirrors h stream.port) exchange.host_is ∙ ap (mirror_at at.mirrors endpoint.host) exchange.port_is ∙ has.mirror_is in
+      let served : IsServed at stream.host stream.port = subst (λ m. IsSome m) (sym here) refl in
       let P : List ℕ → Type 0 = λ h. AddsReply h stream.port stream.request at after [] one.reply in
       let Q : ℕ → Type 0 = λ p. AddsReply endpoint.host p stream.request at after [] one.reply in
       let adds : AddsReply endpoint.host endpoint.port stream.request at after [] one.reply =
@@ -109,5 +112,5 @@ module _ (alike : RequestsAreAlike) (answered : RequestsAreAnswered) (among : �
         whole =
             sym (reply ∙ ap (λ b. text_under b (reply_by manner (Some file) asked.first asked.last)) same) ∙ sym one.whole;
         last = one.last;
-        paid = paid_there url asked stream at after endpoint stream.request one.reply bad one.answers asks exchange.host_is exchange.port_is mirrors exchange.leads is_among refl;
+        paid = paid_there url asked stream at after endpoint stream.request one.reply bad one.answers asks exchange.host_is exchange.port_is mirrors exchange.leads is_among refl served;
       }

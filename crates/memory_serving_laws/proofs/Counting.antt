@@ -70,6 +70,11 @@ module _ (among : ℕ → Bool) where
       let rest = each_counts between later new gave_later in
       omega (arith, (gave_counts old stream due between gave).0, rest)
 
+  pub each_mirrors : (old : Content) (streams : List Exchange) (new : Content) → GaveEach old streams new → new.mirrors ≡ old.mirrors
+  each_mirrors old [] new same = ap (λ (c : Content). c.mirrors) same
+  each_mirrors old (stream ∷ later) new (between, due, gave, gave_later) =
+      each_mirrors between later new gave_later ∙ (gave_counts old stream due between gave).1
+
   -- the streams that a link gained, the newest first
   pub record OnTop (old : Content) (before : List Exchange) (link : LinkState) : Type 0 where
     pub top : List Exchange

@@ -11,6 +11,14 @@ abbrev pub GaveEach : Content → List Exchange → Content → Type 0
 GaveEach old [] new = new ≡ old
 GaveEach old (stream ∷ later) new = (between : Content) × (due : List ℕ) × Gave old stream due between × GaveEach between later new
 
+-- those before some others gave before them
+pub gave_split : (old new : Content) (first later : List Exchange) → GaveEach old (first ++ later) new
+    → (between : Content) × GaveEach old first between × GaveEach between later new
+gave_split old new [] later gave = (old, refl, gave)
+gave_split old new (stream ∷ first) later (next, due, gave, rest) =
+    let split = gave_split next new first later rest in
+    (split.0, (next, due, gave, split.1), split.2)
+
 -- those on top gave behind the others
 record GaveOnTop (old : Content) (top others : List Exchange) (new : Content) : Type 0 where
   between : Content

@@ -1,8 +1,9 @@
 -- Bad answers pay for what comes.
-use Rattle.std.proofs.Common.{◌≡◌, ◌⊎◌, inl, inr, ℕ, ◌+◌, ◌<◌, ◌≤◌, ◌^◌, Bool, true, false, cond, List, [], ◌∷◌, ◌++◌, append-nil, append_assoc, length, length-append, drop, map, replicate, refl, ap, sym, subst, ◌∙◌, arith}
+use Rattle.std.proofs.Common.{◌≡◌, ◌⊎◌, inl, inr, ℕ, zero, suc, ◌+◌, ◌<◌, ◌≤◌, ◌^◌, Bool, true, false, cond, List, [], ◌∷◌, ◌++◌, append-nil, append_assoc, length, length-append, drop, map, replicate, refl, ap, sym, subst, ◌∙◌, arith}
 use Rattle.std.proofs.lemmas.Bool.{cases_lt, cond-true, cond-false, le-ltb, lt-ltb, lt-leb}
 use Rattle.std.proofs.lemmas.List.{length-map, length-replicate, replicate-append-replicate}
-use Rattle.std.specs.Prelude.{Option, Some, None, nat_lt, nat_le}
+use Rattle.std.proofs.lemmas.List.Elements.{All-nil, All-cons, All-head, All-tail}
+use Rattle.std.specs.Prelude.{All, Option, Some, None, nat_lt, nat_le}
 use Rattle.dl_kinds.specs.Lists.{part_at}
 use Rattle.link_source.specs.Mirrors.{Content}
 use Rattle.link_source.specs.Exchanges.{Exchange}
@@ -14,19 +15,23 @@ use Rattle.reply_reader.specs.declared.loss.Loss.{Loss}
 use Rattle.reply_reader.specs.declared.loss.Loss.TheVariants as losses
 use Rattle.request_chain.specs.Answered.{Gave}
 use Rattle.request_chain.specs.Exchanges.{Replies}
-use Rattle.request_chain.specs.Fetched.{FetchedBy}
+use Rattle.request_chain.specs.Fetched.{FetchedBy, Fetched as FetchedByRequests}
 use Rattle.request_chain.specs.Plans.{FetchEnding, Done, Open, Lost, NextAsk, Ask, Over, plan_of, asked_of, rest_behind, plan_behind, plan_at, next_plan}
 use Rattle.request_chain.specs.Redirects.{moved_to}
 use Rattle.request_chain.specs.declared.course.TheConstants.{REDIRECT_LIMIT}
-use Rattle.memory_serving_laws.specs.Charges.{BadAnswersPay, IsPaidFor, differing, lost_known, next_known}
+use Rattle.memory_serving_laws.specs.Charges.{AreKnownOf, BadAnswersPay, IsKnownOf, IsPaidFor, differing, lost_known, next_known}
 use Rattle.memory_serving_laws.specs.Leads.{StandsAt}
-use Rattle.memory_serving_laws.specs.Serving.{NamesMirror, used_among}
-use Rattle.memory_serving_laws.proofs.Counting.{each_counts, gave_counts, top_of}
+use Rattle.memory_serving_laws.specs.Serving.{NamesMirror, ServesPart, used_among}
+use Rattle.memory_serving_laws.proofs.Counting.{each_counts, each_mirrors, gave_counts, top_of}
 use Rattle.memory_serving_laws.proofs.Differing.{differing_append, differing_front, differing_nothing, drop_behind, next_nothing, next_one}
-use Rattle.memory_serving_laws.proofs.Gained.{GaveEach, gave_each}
+use Rattle.memory_serving_laws.proofs.Gained.{GaveEach, gave_each, gave_split}
 use Rattle.memory_serving_laws.proofs.Plans.{IsServed, IsExpected, Expects, plan_expects, LeadsOn, leads_on, names_leads, next_leads, usable}
 use Rattle.memory_serving_laws.proofs.Replies.{IsInside, wanted, wanted_length}
 use Rattle.memory_serving_laws.proofs.Turns.{Laws, resource_turn, moved_turn}
+use Rattle.part_fetches.specs.Fetched.{Fetched, FetchedPart}
+use Rattle.part_fetches.specs.Laws.{PartFits}
+use Rattle.part_fetches.proofs.Following.{came_by_requests, http_no_ftp, part_is_cut}
+use Rattle.span_map.specs.Jobs.{IsJobPart}
 use Rattle.span_map.specs.declared.jobs.JobPart.{JobPart}
 
 -- ---- one answer
@@ -395,6 +400,35 @@ joined got more front later ending was mid now same paid rest =
     lost Open = refl
     lost (Lost loss) = ap next_known (drop_behind got more front later same)
 
+-- the next place of a front is the same where more is known behind it
+next-front : (n : ℕ) (known later : List (Option ℕ)) → n < length known → next_known (drop n (known ++ later)) ≡ next_known (drop n known)
+next-front n [] later few = absurd (omega (arith, few))
+next-front zero (None ∷ known) later few = refl
+next-front zero (Some right ∷ known) later few = refl
+next-front (suc n) (k ∷ known) later few = next-front n known later (omega (arith, few))
+
+-- what is known behind the bytes that are asked for doesn't matter where not all of them came
+paid-front : (known later : List (Option ℕ)) (came : List ℕ) (ending : FetchEnding) (was now : ℕ) → IsPaidFor known came ending was now → (ending ≡ Done → ⊥)
+    → IsPaidFor (known ++ later) came ending was now
+paid-front known later came Done was now is undone = absurd (undone refl)
+paid-front known later came Open was now is undone =
+    let are = length-append known later in
+    record {
+      few = omega (arith, is.few, are);
+      all = λ e. cc;
+      short = λ loss e. cc;
+      paid = omega (arith, is.paid, differing_front came known later is.few);
+    }
+paid-front known later came (Lost loss) was now is undone =
+    let are = length-append known later in
+    let short = is.short loss refl in
+    record {
+      few = omega (arith, is.few, are);
+      all = λ e. cc;
+      short = λ other e. omega (arith, short, are);
+      paid = omega (arith, is.paid, differing_front came known later is.few, next-front (length came) known later short);
+    }
+
 module _ (laws : Laws) (among : ℕ → Bool) (content : Content) where
   -- by each plan, stream by stream
   comes : (plan : NextAsk) (streams : List Exchange) (known : List (Option ℕ)) (came : List ℕ) (ending : FetchEnding) (rest : List Exchange) (at new : Content)
@@ -448,8 +482,80 @@ module _ (laws : Laws) (among : ℕ → Bool) (content : Content) where
             subst (λ k. IsPaidFor k came ending was now) (sym on.known_is) (subst (λ c. IsPaidFor (on.front ++ on.later) c ending was now) (sym is) both)
       ]
 
-pub bad_answers_pay : Laws → BadAnswersPay
-bad_answers_pay laws old link gained among parts known came ending has parts_are smalls are fetched =
+  -- ---- part by part
+
+  -- of a part of which nothing is known, whatever it is asked for by
+  unknown_comes : PartFits → (part : JobPart) (streams rest : List Exchange) (known : List (Option ℕ)) (came : List ℕ) (ending : FetchEnding) (was now : ℕ)
+      → IsJobPart part → known ≡ replicate part.len None → was ≤ now → FetchedPart part streams came ending rest → IsPaidFor known came ending was now
+  unknown_comes fit part streams rest known came ending was now is_part none grows fetched =
+      let fits = fit part streams rest came ending is_part fetched in
+      let long : length known ≡ part.len = ap length none ∙ length-replicate part.len unknown in
+      let short : (loss : Loss) → ending ≡ Lost loss → length came < part.len = λ loss lost. elim (cases_lt (length came) part.len) [
+        | inl less ↦ less
+        | inr all ↦
+            let both : Lost loss ≡ Done = sym lost ∙ fits.full (omega (arith, all, fits.few)) in
+            absurd (cc both)
+      ] in
+      let apart : differing came known ≡ 0 = ap (differing came) none ∙ differing_nothing came part.len in
+      let lost : (e : FetchEnding) → ending ≡ e → lost_known came known e ≡ 0 = λ e is. by e (λ loss same. short loss (is ∙ same)) in
+      record {
+        few = omega (arith, fits.few, long);
+        all = λ done. let all = fits.all done in omega (arith, all, long);
+        short = λ loss e. let less = short loss e in omega (arith, less, long);
+        paid = omega (arith, grows, apart, lost ending refl);
+      }
+    where
+      by : (e : FetchEnding) → ((loss : Loss) → e ≡ Lost loss → length came < part.len) → lost_known came known e ≡ 0
+      by Done less = refl
+      by Open less = refl
+      by (Lost loss) less =
+          ap (λ (k : List (Option ℕ)). next_known (drop (length came) k)) (none ∙ sym (append-nil (replicate part.len None)))
+          ∙ next_nothing (length came) part.len [] (less loss refl)
+
+  -- what is served is asked for by requests
+  served_asked : (part : JobPart) (streams rest : List Exchange) (bytes came : List ℕ) (ending : FetchEnding) → ServesPart content part bytes
+      → FetchedPart part streams came ending rest → FetchedByRequests (part ∷ []) streams came ending rest
+  served_asked part streams rest bytes came ending serves fetched =
+      came_by_requests part streams rest came ending (http_no_ftp part.url (usable content REDIRECT_LIMIT part.url serves.resource serves.leads)) fetched
+
+  part_comes : PartFits → (part : JobPart) (streams rest : List Exchange) (known : List (Option ℕ)) (came : List ℕ) (ending : FetchEnding) (at new : Content)
+      → IsJobPart part → part.total < 2 ^ 63 → at.mirrors ≡ content.mirrors → IsKnownOf content among part known → GaveEach at streams new
+      → FetchedPart part streams came ending rest → IsPaidFor known came ending (used_among among at) (used_among among new)
+  part_comes fit part streams rest known came ending at new is_part small mirrors (inr none) gave fetched =
+      unknown_comes fit part streams rest known came ending _ _ is_part none (each_counts among at streams new gave) fetched
+  part_comes fit part streams rest known came ending at new is_part small mirrors (inl here) gave fetched =
+      let Small : JobPart → Type 0 = λ (p : JobPart). p.total < 2 ^ 63 in
+      let expected = plan_expects content among (part ∷ []) known (All-cons IsJobPart part [] is_part (All-nil IsJobPart))
+      (All-cons Small part [] small (All-nil Small)) (known, [], inl here, sym (append-nil known), refl) in
+      comes (plan_of (part ∷ [])) streams known came ending rest at new mirrors expected gave
+      (served_asked part streams rest here.0 came ending here.1 fetched)
+
+  parts_come : PartFits → (parts : List JobPart) (streams rest : List Exchange) (known : List (Option ℕ)) (came : List ℕ) (ending : FetchEnding) (at new : Content)
+      → All IsJobPart parts → All (λ (p : JobPart). p.total < 2 ^ 63) parts → at.mirrors ≡ content.mirrors → AreKnownOf content among parts known
+      → GaveEach at streams new → Fetched parts streams came ending rest → IsPaidFor known came ending (used_among among at) (used_among among new)
+  parts_come fit [] streams rest known came ending at new are smalls mirrors none gave (nothing, done, same) =
+      paid-done known came ending _ _ done (omega (arith, ap length nothing, ap length none))
+      (omega (arith, ap (λ c. differing c known) nothing, each_counts among at streams new gave))
+  parts_come fit (part ∷ parts) streams rest known came ending at new are smalls mirrors (front, later, here, is, others) gave (inl (fetched, undone)) =
+      let one = part_comes fit part streams rest front came ending at new (All-head IsJobPart part parts are)
+      (All-head (λ (p : JobPart). p.total < 2 ^ 63) part parts smalls) mirrors here gave fetched in
+      let was = used_among among at in
+      let now = used_among among new in
+      subst (λ k. IsPaidFor k came ending was now) (sym is) (paid-front front later came ending was now one undone)
+  parts_come fit (part ∷ parts) streams rest known came ending at new are smalls mirrors (front, later, here, is, others) gave (inr (own, more, left, fetched, came_is, next)) =
+      let cut = part_is_cut part streams left own fetched in
+      let split = gave_split at new cut.0 left (subst (λ (s : List Exchange). GaveEach at s new) cut.1 gave) in
+      let one = part_comes fit part cut.0 [] front own Done at split.0 (All-head IsJobPart part parts are)
+      (All-head (λ (p : JobPart). p.total < 2 ^ 63) part parts smalls) mirrors here split.1 cut.2 in
+      let behind = parts_come fit parts left rest later more ending split.0 new (All-tail IsJobPart part parts are)
+      (All-tail (λ (p : JobPart). p.total < 2 ^ 63) part parts smalls) (each_mirrors among at cut.0 split.0 split.1 ∙ mirrors) others split.2 next in
+      let both = joined own more front later ending _ _ _ (one.all refl) (omega (arith, one.paid)) behind in
+      let was = used_among among at in
+      let now = used_among among new in
+      subst (λ k. IsPaidFor k came ending was now) (sym is) (subst (λ c. IsPaidFor (front ++ later) c ending was now) (sym came_is) both)
+
+pub bad_answers_pay : Laws → PartFits → BadAnswersPay
+bad_answers_pay laws fit old link gained among parts known came ending has parts_are smalls are fetched =
     let top = top_of among old has.before link has.answered in
     let each = gave_each old link.content has.before link.exchanges gained top.top has.gains top.on_top top.gave in
-    comes laws among old (plan_of parts) gained known came ending [] old link.content refl (plan_expects old among parts known parts_are smalls are) each fetched
+    parts_come laws among old fit parts gained [] known came ending old link.content parts_are smalls refl are each fetched

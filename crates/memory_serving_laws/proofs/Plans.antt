@@ -4,7 +4,7 @@ use Rattle.std.proofs.lemmas.List.Elements.{All-head, All-tail}
 use Rattle.std.specs.Prelude.{All, Option, Some, None}
 use Rattle.memory_serving_laws.specs.Charges.{AreKnownOf, IsKnownOf, next_known}
 use Rattle.dl_kinds.specs.Lists.{part_at}
-use Rattle.link_source.specs.Endpoint.{IsUsable}
+use Rattle.link_source.specs.Endpoint.{IsHttp}
 use Rattle.link_source.specs.Files.{MemFile, Bytes}
 use Rattle.memory_serving_laws.specs.Leads.{StandsAt, Redirects, Leads}
 use Rattle.link_source.specs.Mirrors.{Content}
@@ -98,10 +98,10 @@ pub next_leads : (content : Content) (left : ℕ) (url bytes : List ℕ) (on : L
 next_leads content left url bytes on number leads =
     subst (λ n. LeadsThrough content n url number) (sym on.one) (inr (on.next, on.redirects, leads))
 
-pub usable_at : (content : Content) (url : List ℕ) (file : MemFile) → StandsAt content url file → IsUsable url
+pub usable_at : (content : Content) (url : List ℕ) (file : MemFile) → StandsAt content url file → IsHttp url
 usable_at content url file stands = (stands.named.0, stands.named.1, stands.named.2)
 
-pub usable : (content : Content) (left : ℕ) (url bytes : List ℕ) → Leads content left url bytes → IsUsable url
+pub usable : (content : Content) (left : ℕ) (url bytes : List ℕ) → Leads content left url bytes → IsHttp url
 usable content left url bytes leads = elim (leads_on content left url bytes leads) [
   | inl stands ↦ usable_at content url _ stands
   | inr on ↦ usable_at content url _ on.redirects.stands

@@ -4,7 +4,7 @@ use Rattle.std.proofs.Math.Seq.{take-nil}
 use Rattle.std.proofs.lemmas.Bool.{cases_lt, cond-true, cond-false, eq-eqb, eqb-true, cases_Bool, lt-leb, true≢false}
 use Rattle.std.proofs.lemmas.List.{length-set}
 use Rattle.std.specs.Prelude.{nat_le, nat_lt, unwrap_or, ◌&&◌, ◌==◌}
-use Rattle.link_source.specs.Endpoint.{IsUsable}
+use Rattle.link_source.specs.Endpoint.{IsHttp}
 use Rattle.link_source.specs.Mirrors.{Content, content_reply}
 use Rattle.link_source.specs.Replies.{bare_reply, body_text, moved, not_satisfiable, spoiled_text, status_head, text_of, text_under}
 use Rattle.link_source.specs.Exchanges.{Exchange}
@@ -28,6 +28,9 @@ use Rattle.reply_reader.specs.declared.loss.Loss.TheVariants as losses
 use Rattle.request_chain.specs.Answered.{Gave, GaveAnswer}
 use Rattle.request_chain.specs.Probes.{Probe, Due, Told, Away, Lost, ProbeAnswers, ProbeReplies, ProbedBy, Search, At, Found, next_search, search_at, probe_asked, probe_by}
 use Rattle.request_chain.specs.declared.course.TheConstants.{REDIRECT_LIMIT}
+use Rattle.part_fetches.specs.Probes.{Probed}
+use Rattle.part_fetches.proofs.Following.{http_no_ftp}
+use Rattle.part_fetches.proofs.Probing.{told_by_requests}
 use Rattle.memory_serving_laws.specs.Leads.{Redirects}
 use Rattle.memory_serving_laws.specs.Serving.{LeadsThrough, NamesMirror, used_among}
 use Rattle.memory_serving_laws.specs.Sizes.{TellsSize, LeadsToSize, misses, BadAnswersPayProbes, ServedSizeIsTold}
@@ -252,7 +255,7 @@ module _ (laws : Laws) (none_stays : NoFinalHeadStays) (empty : EmptyIsRead) (am
   Seeks (At url count status) size = IsSought url count size
   Seeks (Found probe) size = misses size probe ≡ 0
 
-  usable-size : (left : ℕ) (url : List ℕ) (size : ℕ) → LeadsToSize old left url size → IsUsable url
+  usable-size : (left : ℕ) (url : List ℕ) (size : ℕ) → LeadsToSize old left url size → IsHttp url
   usable-size zero url size tells = usable_at old url _ tells.stands
   usable-size (suc left) url size (inl tells) = usable_at old url _ tells.stands
   usable-size (suc left) url size (inr (next, redirects, leads)) = usable_at old url _ redirects.stands
@@ -341,7 +344,8 @@ probes_are_paid_for laws none_stays empty old link gained among url size probe h
     let top = top_of among old has.before link has.answered in
     let each = gave_each old link.content has.before link.exchanges gained top.top has.gains top.on_top top.gave in
     probes laws none_stays empty among old (At url 0 0) gained probe size old link.content refl
-    (record { left = REDIRECT_LIMIT; counts = refl; leads = leads; through = through }) each probed
+    (record { left = REDIRECT_LIMIT; counts = refl; leads = leads; through = through }) each
+    (told_by_requests url gained probe (http_no_ftp url (usable-size laws none_stays empty among old REDIRECT_LIMIT url size leads)) probed)
 
 told-or-due : (size : ℕ) (probe : Probe) → misses size probe ≤ 0 → (probe ≡ Due) ⊎ (probe ≡ Told size)
 told-or-due size Due none = inl refl

@@ -7,8 +7,8 @@ use Rattle.std.specs.Prelude.{All, Some}
 use Rattle.link_source.specs.Link.{LinkState}
 use Rattle.link_source.specs.Mirrors.{Content}
 use Rattle.link_source.specs.Exchanges.{Exchange}
-use Rattle.request_chain.specs.Fetched.{Fetched}
 use Rattle.request_chain.specs.Plans.{FetchEnding, Done, Open, Lost}
+use Rattle.part_fetches.specs.Fetched.{Fetched}
 use Rattle.memory_serving_laws.specs.Charges.{AreKnownOf, BadAnswersPay, DiffersOnce, IsPaidFor, LosesOnly, OneIsNeverBoth, differing, next_known}
 use Rattle.memory_serving_laws.specs.Laws.{AreGiven, GainedAnswers, IsRightSoFar, ServedComes, GoodMirrorsStay, GoodMirrorsServe}
 use Rattle.memory_serving_laws.specs.Serving.{GivesAll, LeadsAmong, used_among}

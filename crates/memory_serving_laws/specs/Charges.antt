@@ -4,8 +4,8 @@ use Rattle.link_source.specs.Link.{LinkState}
 use Rattle.link_source.specs.Mirrors.{Content}
 use Rattle.link_source.specs.Exchanges.{Exchange}
 use Rattle.reply_reader.specs.declared.loss.Loss.{Loss}
-use Rattle.request_chain.specs.Fetched.{Fetched}
 use Rattle.request_chain.specs.Plans.{FetchEnding, Done, Open, Lost}
+use Rattle.part_fetches.specs.Fetched.{Fetched}
 use Rattle.memory_serving_laws.specs.Laws.{AreGiven, GainedAnswers}
 use Rattle.memory_serving_laws.specs.Serving.{LeadsAmong, ServesPart, used_among}
 use Rattle.span_map.specs.Jobs.{IsJobPart}

@@ -5,8 +5,8 @@ use Rattle.link_source.specs.Mirrors.{Content}
 use Rattle.link_source.specs.Exchanges.{Exchange}
 use Rattle.request_chain.specs.Answered.{IsAnswered}
 use Rattle.request_chain.specs.Chains.{Gains}
-use Rattle.request_chain.specs.Fetched.{Fetched}
 use Rattle.request_chain.specs.Plans.{FetchEnding, Done, Open}
+use Rattle.part_fetches.specs.Fetched.{Fetched}
 use Rattle.memory_serving_laws.specs.Serving.{GivesAll, LeadsAmong, used_among}
 use Rattle.span_map.specs.Jobs.{IsJobPart}
 use Rattle.span_map.specs.declared.jobs.JobPart.{JobPart}

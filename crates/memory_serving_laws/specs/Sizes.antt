@@ -5,7 +5,8 @@ use Rattle.link_source.specs.Mirrors.{Content}
 use Rattle.link_source.specs.Exchanges.{Exchange}
 use Rattle.link_source.specs.Files.{Bytes}
 use Rattle.link_source.specs.declared.mirrors.Manner.TheVariants.{ToEnd}
-use Rattle.request_chain.specs.Probes.{Probe, Due, Told, Away, Lost, Probed}
+use Rattle.request_chain.specs.Probes.{Probe, Due, Told, Away, Lost}
+use Rattle.part_fetches.specs.Probes.{Probed}
 use Rattle.request_chain.specs.declared.course.TheConstants.{REDIRECT_LIMIT}
 use Rattle.memory_serving_laws.specs.Laws.{GainedAnswers}
 use Rattle.memory_serving_laws.specs.Leads.{Redirects, StandsAt}

@@ -6,6 +6,7 @@ ghost use Rattle.memory_serving_laws.specs.Sizes.{BadAnswersPayProbes, ServedSiz
 ghost use Rattle.memory_serving_laws.specs.Laws.{ServedComes, CleanMirrorsUseNone, GoodMirrorsStay, GoodMirrorsServe};
 
 use memory_reply_laws::{bad_replies_are_read, replies_are_read, requests_are_answered};
+use part_fetches::fetched_bytes_fit_their_parts;
 use reply_reader::{
     answers_fill_what_is_asked, final_heads_are_one_and_stay, streams_have_one_answer,
 };
@@ -15,6 +16,7 @@ pub fn bad_answers_pay()
     ensures { BadAnswersPay }
 {
     answers_fill_what_is_asked();
+    fetched_bytes_fit_their_parts();
     bad_replies_are_read();
     final_heads_are_one_and_stay();
     replies_are_read();

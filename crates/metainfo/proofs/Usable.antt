@@ -1,5 +1,5 @@
 -- The test of a seed is what makes a URL usable; adding one to the seeds.
-use Rattle.std.proofs.Common.{◌≡◌, ℕ, ◌<◌, ◌≤◌, Bool, true, false, cond, List, [], ◌∷◌, ◌++◌, length, take, Some, None, Ok, Err, Result, IsUtf8, refl, sym, ap, ◌∙◌, arith}
+use Rattle.std.proofs.Common.{◌≡◌, ℕ, ◌<◌, ◌≤◌, Bool, true, false, cond, List, [], ◌∷◌, ◌++◌, length, take, Some, None, Ok, Err, Result, IsUtf8, refl, sym, ap, subst, ◌∙◌, arith}
 use Rattle.std.specs.Bool.{Decides}
 use Rattle.std.specs.List.{filter}
 use Rattle.std.specs.Prelude.{codes}
@@ -9,20 +9,19 @@ use Rattle.std.proofs.lemmas.Slice.Eq.{bytes_eq-Decides}
 use Rattle.url.specs.Parser.{parse_url}
 use Rattle.url.specs.Parts.{Parts}
 use Rattle.url.specs.declared.error.ParseError.{ParseError}
-use Rattle.link_source.specs.Endpoint.{IsUsable}
-use Rattle.metainfo.specs.Tests.{is_http, is_seed}
+use Rattle.link_source.specs.Endpoint.{IsUsable, is_usable_by, is_usable_url}
+use Rattle.metainfo.specs.Tests.{is_seed}
 use Rattle.metainfo.proofs.Parts.{utf8_decides}
 
 -- by what the parser gives
-to_test : (parsed : Result Parts ParseError) (url : Parts) → parsed ≡ Ok url → url.scheme ≡ codes "http" → is_http parsed ≡ true
-to_test (Ok u) url is http = (bytes_eq-Decides u.scheme (codes "http")).1 (let same : u ≡ url = cc in ap (λ (p : Parts). p.scheme) same ∙ http)
-to_test (Err e) url is http = cc
+to_test : (parsed : Result Parts ParseError) (url : Parts) → parsed ≡ Ok url → is_usable_url url ≡ true → is_usable_by parsed ≡ true
+to_test parsed url is usable = subst (λ p. is_usable_by p ≡ true) (sym is) usable
 
-from_test : (parsed : Result Parts ParseError) → is_http parsed ≡ true → (url : Parts) × (parsed ≡ Ok url) × (url.scheme ≡ codes "http")
-from_test (Ok u) is = (u, refl, (bytes_eq-Decides u.scheme (codes "http")).0 is)
+from_test : (parsed : Result Parts ParseError) → is_usable_by parsed ≡ true → (url : Parts) × (parsed ≡ Ok url) × (is_usable_url url ≡ true)
+from_test (Ok u) is = (u, refl, is)
 from_test (Err e) is = absurd (false≢true is)
 
-pub usable_decides : (text : List ℕ) → Decides (is_http (parse_url None text)) (IsUsable text)
+pub usable_decides : (text : List ℕ) → Decides (is_usable_by (parse_url None text)) (IsUsable text)
 usable_decides text = (from_test (parse_url None text), λ usable. to_test (parse_url None text) usable.0 usable.1 usable.2)
 
 pub seed_found : (bytes : List ℕ) → IsUtf8 bytes → IsUsable bytes → cond (is_seed bytes) (Some bytes) None ≡ Some bytes

@@ -1,10 +1,9 @@
 -- Tests that the rules for metainfo files make.
-use Rattle.std.specs.Prelude.{ℕ, ◌+◌, ◌==◌, Bool, true, false, not, ◌&&◌, ◌||◌, nat_le, if◌then◌else◌, List, [], ◌∷◌, ◌++◌, length, codes, Option, Some, None, option_map, is_some, Result, Ok, Err}
+use Rattle.std.specs.Prelude.{ℕ, ◌+◌, ◌==◌, Bool, true, false, not, ◌&&◌, ◌||◌, nat_le, if◌then◌else◌, List, [], ◌∷◌, ◌++◌, length, codes, Option, Some, None, option_map, is_some}
 use Rattle.std.specs.List.{list_any, list_all, starts_with}
 use Rattle.std.specs.Str.{bytes_eq, is_utf8}
 use Rattle.url.specs.Parser.{parse_url}
-use Rattle.url.specs.Parts.{Parts}
-use Rattle.url.specs.declared.error.ParseError.{ParseError}
+use Rattle.link_source.specs.Endpoint.{is_usable_by}
 use Rattle.dl_kinds.specs.Plan.{pieces_of, blocks_of}
 use Rattle.dl_kinds.specs.declared.plan.TheConstants.{MAX_BLOCKS, MAX_PIECES, MAX_PIECE_LEN}
 use Rattle.span_map.specs.declared.paths.TheConstants.{MAX_PARTS, MAX_PART_LEN, NUL, SLASH}
@@ -48,13 +47,9 @@ is_plan total piece_len =
     nat_le 1 piece_len && nat_le piece_len MAX_PIECE_LEN && nat_le (pieces_of total piece_len) MAX_PIECES
     && nat_le (blocks_of total piece_len) MAX_BLOCKS
 
-abbrev pub is_http : Result Parts ParseError → Bool
-is_http (Ok url) = bytes_eq url.scheme (codes "http")
-is_http (Err e) = false
-
--- the bytes are the text of an `http` URL
+-- the bytes are the text of a URL of a mirror that can be asked
 abbrev pub is_seed : List ℕ → Bool
-is_seed bytes = is_utf8 bytes && is_http (parse_url None bytes)
+is_seed bytes = is_utf8 bytes && is_usable_by (parse_url None bytes)
 
 abbrev pub is_dict_value : values.Value → Bool
 is_dict_value (values.dict ms) = true

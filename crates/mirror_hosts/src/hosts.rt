@@ -5,16 +5,16 @@ ghost use Rattle.link_source.specs.Endpoint.{IsUsable};
 ghost use Rattle.mirror_hosts.specs.Hosts as specs;
 
 use dl_kinds::{NoMemory, Text, Texts};
-use link_source::Endpoint;
 use std::alloc::Global;
+use url::Url;
 
 fn host_of(alloc: Global, url: &str) -> Result<Text, NoMemory>
     requires { IsUsable url.now }
     ensures { IfOk result (λ host. host ≡ specs.url_host url.now) }
 {
-    match Endpoint::of(alloc, url) {
-        Ok(endpoint) => Ok(endpoint.host),
-        // A usable URL is one of an endpoint.
+    match Url::parse(alloc, url) {
+        Ok(url) => Text::of(alloc, url.host_str().unwrap_or("")),
+        // A usable URL is one by the parser.
         Err(_) => Err(NoMemory),
     }
 }

@@ -1,5 +1,5 @@
-// The real link: one TCP connection at a time.
-ghost use Rattle.std.specs.Prelude.{◌≤◌, false, length, IfOk};
+// The real link: one TCP connection at a time, and one for data beside it.
+ghost use Rattle.std.specs.Prelude.{◌≡◌, ◌≤◌, false, length, IfOk};
 ghost use Rattle.link_source.specs.Link.{no_link};
 
 use crate::faults::{NotedFaults, told};
@@ -26,12 +26,16 @@ const MOST_CONNECTS: usize = 1_000;
 /// seconds fails. A mirror that gives one byte in each such span is waited for until the reply is whole. Once the run is over
 /// nothing more is received, and what can't be sent or opened within two seconds fails. How long the system looks for a host's
 /// addresses is its own business. A host whose first reply over a connection was 503 isn't dialled again at once, but behind a rest
-/// of 20 milliseconds, which gets twice as long each time, up to 640.
+/// of 20 milliseconds, which gets twice as long each time, up to 640. A connection for data leads to the address to which the
+/// other one does: a host that is looked up again may name another machine.
 #[derive(Drop)]
 pub struct TcpLinks<'a, R: Net<Stream = TcpStream> + Clock + AllocGlobal> {
     rt: &'a R,
     over: &'a AtomicBool,
     stream: Option<TcpStream>,
+    data: Option<TcpStream>,
+    // Whether something was received over the connection for data.
+    has_given: bool,
     rests: Rests,
     faults: NotedFaults,
 }
@@ -43,6 +47,8 @@ impl<'a, R: Net<Stream = TcpStream> + Clock + AllocGlobal> TcpLinks<'a, R> {
             rt,
             over,
             stream: None,
+            data: None,
+            has_given: false,
             rests: Rests::new(rt.alloc()),
             faults: NotedFaults::new(rt.alloc()),
         }
@@ -94,12 +100,32 @@ impl<'a, R: Net<Stream = TcpStream> + Clock + AllocGlobal> TcpLinks<'a, R> {
 
     fn connect(&self, host: &str, port: u16) -> Result<TcpStream, Why> {
         let addresses = self.addresses(host, port)?;
-        let stream = self.first_answer(&addresses)?;
-        let look = Some(Duration::from_millis(LOOK_MS));
-        told(stream.set_read_timeout(look))?;
-        told(stream.set_write_timeout(look))?;
-        Ok(stream)
+        told(patient(self.first_answer(&addresses)?))
     }
+
+    fn connect_data(&self, port: u16) -> Result<TcpStream, Why> {
+        let mut address = match &self.stream {
+            Some(stream) => told(stream.peer_addr())?,
+            None => return told(Err(not_connected())),
+        };
+        address.set_port(port);
+        told(patient(self.first_answer(&[address])?))
+    }
+
+    fn close_data(&mut self)
+        ensures { self.new.faults ≡ self.old.faults }
+    {
+        self.data = None;
+        self.has_given = false;
+    }
+}
+
+// It is waited for in short spans.
+fn patient(stream: TcpStream) -> io::Result<TcpStream> {
+    let look = Some(Duration::from_millis(LOOK_MS));
+    stream.set_read_timeout(look)?;
+    stream.set_write_timeout(look)?;
+    Ok(stream)
 }
 
 impl<'a, R: Net<Stream = TcpStream> + Clock + AllocGlobal> Noted for TcpLinks<'a, R> {
@@ -120,7 +146,7 @@ impl<'a, R: Net<Stream = TcpStream> + Clock + AllocGlobal> Links for TcpLinks<'a
     }
 
     fn dial(&mut self, host: &str, port: u16) -> Result<(), IoErr> {
-        self.stream = None;
+        self.hang_up();
         self.rests.rest(self.rt, self.over, host, port);
         let outcome = self.connect(host, port);
         self.stream = Some(self.faults.note(host, outcome)?);
@@ -129,6 +155,9 @@ impl<'a, R: Net<Stream = TcpStream> + Clock + AllocGlobal> Links for TcpLinks<'a
     }
 
     fn send(&mut self, bytes: &[u8]) -> Result<(), IoErr> {
+        if self.has_given {
+            self.close_data();
+        }
         let outcome = match &mut self.stream {
             Some(stream) => write_whole(self.rt, stream, bytes, self.over),
             None => Err(not_connected()),
@@ -149,8 +178,26 @@ impl<'a, R: Net<Stream = TcpStream> + Clock + AllocGlobal> Links for TcpLinks<'a
         self.faults.note("", told(outcome))
     }
 
+    fn dial_data(&mut self, port: u16) -> Result<(), IoErr> {
+        self.close_data();
+        let outcome = self.connect_data(port);
+        self.data = Some(self.faults.note("", outcome)?);
+        Ok(())
+    }
+
+    fn recv_data(&mut self, into: &mut [u8]) -> Result<usize, IoErr> {
+        let outcome = match &mut self.data {
+            _ if self.over.load(Ordering::SeqCst) => Err(io::Error::from(ErrorKind::TimedOut)),
+            Some(data) => read_some(self.rt, data, into, self.over),
+            None => Err(not_connected()),
+        };
+        self.has_given = self.has_given || outcome.is_ok();
+        self.faults.note("", told(outcome))
+    }
+
     fn hang_up(&mut self) {
         self.stream = None;
+        self.close_data();
     }
 }
 

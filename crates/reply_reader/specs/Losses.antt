@@ -21,13 +21,14 @@ mark_of (Short got) = marked statuses.Network
 mark_of Redirects = marked statuses.Redirects
 mark_of NoMemory = None
 
--- The exit statuses of a refusal: a reply that isn't expected, one that wants to know who asks, and an overloaded mirror.
--- What another protocol refuses with is added here.
+-- The exit statuses of a refusal: a reply that isn't expected, one that wants to know who asks, an overloaded mirror, and a
+-- command of FTP that was refused.
 abbrev pub is_refusal_status : ℕ → Bool
 is_refusal_status code =
     (code == code_of_status statuses.HttpReply)
     || (code == code_of_status statuses.Authorization)
     || (code == code_of_status statuses.Unavailable)
+    || (code == code_of_status statuses.FtpCommand)
 
 -- a refusal has one of them, as a test
 abbrev pub is_known : Loss → Bool

@@ -32,7 +32,7 @@ fresh_little nothing stream none = record {
 -- ---- a request
 
 -- the newest exchange before becomes an older one
-answered_past : (old : Content) (before : List Exchange) (link : LinkState) → IsAnswered old before link
+pub answered_past : (old : Content) (before : List Exchange) (link : LinkState) → IsAnswered old before link
     → (older : List Exchange) × (link.exchanges ≡ older ++ before) × GaveAll old older link.content
 answered_past old before link is = elim is [
   | inl same ↦ ([], same.0, same.1)
@@ -191,21 +191,22 @@ gains_more : (before now used : List Exchange) → Gains before now used → len
 gains_more before now [] gains = omega (arith, ap length gains)
 gains_more before now (stream ∷ used) gains = omega (arith, gains_more (stream ∷ before) now used gains)
 
--- a stream came on top
-some_gained : (parts : List JobPart) (before now used : List Exchange) (course : Course) → IsSent parts used course → Gains before now used → now ≡ before → ⊥
-some_gained parts before now used course sent gains same =
+-- a stream came on top of those before, of which there are no fewer than these
+some_gained : (parts : List JobPart) (since before now used : List Exchange) (course : Course) → length since ≤ length before
+    → IsSent parts used course → Gains before now used → now ≡ since → ⊥
+some_gained parts since before now used course few sent gains same =
     let P : List Exchange → Type 0 = Gains before now in
     let top = gains_last sent.older before now sent.newest (subst P sent.used_is gains) in
     let longer = gains_more before top.0 sent.older top.2 in
     let long = ap length top.1 in
     let same_long = ap length same in
-    absurd (omega (arith, longer, long, same_long))
+    absurd (omega (arith, longer, long, same_long, few))
 
 -- the newest stream came behind those before, where its reply is read
-pub sent_later : (parts : List JobPart) (before now used : List Exchange) (course : Course) (bytes waiting : List ℕ) (stage : Stage)
-    → IsReading stage course waiting parts used bytes → (stage ≡ Asking → ⊥) → Gains before now used → now ≡ before → ⊥
-sent_later parts before now used course bytes waiting stage reading sent gains same =
-    some_gained parts before now used course (sent_of parts used course bytes waiting stage reading sent) gains same
+pub sent_later : (parts : List JobPart) (since before now used : List Exchange) (course : Course) (bytes waiting : List ℕ) (stage : Stage)
+    → length since ≤ length before → IsReading stage course waiting parts used bytes → (stage ≡ Asking → ⊥) → Gains before now used → now ≡ since → ⊥
+sent_later parts since before now used course bytes waiting stage few reading sent gains same =
+    some_gained parts since before now used course few (sent_of parts used course bytes waiting stage reading sent) gains same
 
 -- a stream on top of others came behind those before, where there are no fewer others
 pub top_later : (before others now : List Exchange) (stream : Exchange) → now ≡ stream ∷ others → length before ≤ length others → now ≡ before → ⊥

@@ -1,7 +1,7 @@
 -- A request that goes out, or doesn't.
 use Rattle.std.proofs.Common.{◌≡◌, ◌^◌, ◌≤◌, ◌<◌, ◌==◌, ◌&&◌, not, Bool, true, false, ℕ, List, [], ◌∷◌, ◌++◌, length, refl, sym, ap, subst, ◌∙◌, inl, inr, arith, append-nil}
 use Rattle.std.specs.Prelude.{◌⊎◌, Result, Ok, Err, MatchResult}
-use Rattle.link_source.specs.Endpoint.{IsUsable}
+use Rattle.link_source.specs.Endpoint.{IsHttp}
 use Rattle.link_source.specs.Exchanges.{Exchange}
 use Rattle.range_http.specs.declared.asked.Asked.{Asked}
 use Rattle.span_map.specs.declared.jobs.JobPart.{JobPart}
@@ -123,15 +123,15 @@ module _ (parts : List JobPart) (before used now new : List Exchange) (plan : Ne
         let Q : List ℕ → Type 0 = λ came. TellsLoss parts used came faults loss in
         record { later = used; gains = subst P (sym same) gains; taken_is = omega (arith, taken); tells = subst Q (sym (append-nil bytes)) tells }
 
-    fetched_with : (ending : FetchEnding) → ((IsUsable asks.url × (ending ≡ Open)) ⊎ ((IsUsable asks.url → ⊥) × (ending ≡ Gone (unusable asks.status)))) → Fetched parts used bytes ending []
+    fetched_with : (ending : FetchEnding) → ((IsHttp asks.url × (ending ≡ Open)) ⊎ ((IsHttp asks.url → ⊥) × (ending ≡ Gone (unusable asks.status)))) → Fetched parts used bytes ending []
     fetched_with ending stands = leads_end parts used bytes (Ask asks.part asks.others asks.url asks.count asks.status) ending asking (refl, stands, refl)
 
-    lose_unusable : (loss : Loss) → (IsUsable asks.url → ⊥) → loss ≡ unusable asks.status → new ≡ now → StepLoses parts before used bytes new [] was faults chain loss
+    lose_unusable : (loss : Loss) → (IsHttp asks.url → ⊥) → loss ≡ unusable asks.status → new ≡ now → StepLoses parts before used bytes new [] was faults chain loss
     lose_unusable loss unfit is same =
         let P : Loss → Type 0 = λ l. StepLoses parts before used bytes new [] was faults chain l in
         subst P (sym is) (lose_same (unusable asks.status) same (fetched_with (Gone (unusable asks.status)) (inr (unfit, refl))))
 
-    lose_link : (count : ℕ) → count ≡ faults → IsUsable asks.url → new ≡ now → StepLoses parts before used bytes new [] was faults chain (losses.Link count)
+    lose_link : (count : ℕ) → count ≡ faults → IsHttp asks.url → new ≡ now → StepLoses parts before used bytes new [] was faults chain (losses.Link count)
     lose_link count is usable same = lose_same (losses.Link count) same (fetched_with Open (inl (usable, refl)), is)
 
     pub unopened_loses : (url : List ℕ) (status : ℕ) → url ≡ asks.url → status ≡ asks.status → (loss : Loss) → IsUnopened url status now new faults loss

@@ -166,14 +166,16 @@ module _ (one : HasOneFinalHead) (stays : FinalHeadStays) where
   one-most : AsksOnce → (url : List ℕ) (asked : Asked) (stream : Exchange) (answer : Answer) → asked.first ≤ asked.last → asked.last < 2 ^ 64 → ReceivesLittle stream
       → Replies url asked stream answer → length stream.received ≤ heads_most + 261 * (asked.last + 1) + lines_most + MOST_RECEIVED
   one-most once url asked stream answer ordered bounded (inl near) replies = omega (arith, near.few)
-  one-most once url asked stream answer ordered bounded (inr far) asking =
+  one-most once url asked stream answer ordered bounded (inr (inl far)) asking =
       let last = same-last once url far.url asked far.asked stream asking.0 far.exchange ordered bounded far.ordered far.bounded in
       omega (arith, last, far.short, far.buffer, ap length far.received_is, length-append far.front far.behind)
+  one-most once url asked stream answer ordered bounded (inr (inr other)) replies = absurd (other.none url asked replies.0)
 
   away-most : (url : List ℕ) (asked : Asked) (stream : Exchange) (answer : Answer) (status : ℕ) (location : List ℕ) → ReceivesLittle stream
       → Replies url asked stream answer → answer.turn ≡ Away status location → length stream.received ≤ heads_most
   away-most url asked stream answer status location (inl near) replies is = omega (arith, near.few)
-  away-most url asked stream answer status location (inr far) asking is = never-away asked stream far answer status location asking.1 is
+  away-most url asked stream answer status location (inr (inl far)) asking is = never-away asked stream far answer status location asking.1 is
+  away-most url asked stream answer status location (inr (inr other)) replies is = absurd (other.none url asked replies.0)
 
 -- ---- all streams
 
@@ -280,14 +282,16 @@ module _ (one : HasOneFinalHead) (stays : FinalHeadStays) (once : AsksOnce) wher
   probe-most : (url : List ℕ) (stream : Exchange) (told : Probe) → ReceivesLittle stream → ProbeReplies url stream told
       → length stream.received ≤ heads_most + 261 + lines_most + MOST_RECEIVED
   probe-most url stream told (inl near) replies = omega (arith, near.few)
-  probe-most url stream told (inr far) asking =
+  probe-most url stream told (inr (inl far)) asking =
       let last = same-last once url far.url probe_asked far.asked stream asking.0 far.exchange (omega arith) (omega arith) far.ordered far.bounded in
       omega (arith, last, far.short, far.buffer, ap length far.received_is, length-append far.front far.behind)
+  probe-most url stream told (inr (inr other)) replies = absurd (other.none url probe_asked replies.0)
 
   probe-away-most : (url : List ℕ) (stream : Exchange) (told : Probe) (status : ℕ) (location : List ℕ) → ReceivesLittle stream → ProbeReplies url stream told
       → told ≡ probes.Away status location → length stream.received ≤ heads_most
   probe-away-most url stream told status location (inl near) replies is = near.few
-  probe-away-most url stream told status location (inr far) asking is = elim asking.2 [
+  probe-away-most url stream told status location (inr (inr other)) replies is = absurd (other.none url probe_asked replies.0)
+  probe-away-most url stream told status location (inr (inl far)) asking is = elim asking.2 [
     | inl (due, same) ↦ probe-due stream.ended status location (sym same ∙ is)
     | inr (inl (none, same)) ↦
         let both : probes.Lost losses.BadReply ≡ probes.Away status location = sym same ∙ is in

@@ -97,7 +97,7 @@ byte_little url others now head came and ends small newest older is =
     let same : newest ≡ has.stream = cc (is, has.on_top) in
     let none : drop has.used has.stream.received ≡ [] = drop_of_length-le has.stream.received (omega (arith, and.behind)) in
     let Q : Exchange → Type 0 = λ stream. ReceivesLittle (on_stream came stream) in
-    subst Q (sym same) (inr (record {
+    subst Q (sym same) (inr (inl (record {
       url = url;
       asked = probe_asked;
       ordered = omega arith;
@@ -115,4 +115,4 @@ byte_little url others now head came and ends small newest older is =
       answers = inr (inr (record { head = head; used = has.used; begins = has.begins; is = refl }));
       due = rw none (first_due head (verdict_of head probe_asked) ends.framed);
       short = omega (arith, and.few);
-    }))
+    })))

@@ -4,7 +4,7 @@ use Rattle.std.proofs.lemmas.Bool.{cases_Bool, false≢true}
 use Rattle.std.proofs.lemmas.Slice.Eq.{bytes_eq-Decides}
 use Rattle.std.specs.Str.{bytes_eq}
 use Rattle.std.specs.Prelude.{◌⊎◌, Ok, Err, None, Result, codes}
-use Rattle.link_source.specs.Endpoint.{IsUsable}
+use Rattle.link_source.specs.Endpoint.{IsHttp}
 use Rattle.link_source.specs.Exchanges.{Exchange}
 use Rattle.url.specs.Parser.{parse_url}
 use Rattle.url.specs.Parts.{Parts}
@@ -57,7 +57,7 @@ usable_by (Ok url) = elim (cases_Bool (bytes_eq url.scheme (codes "http"))) [
 ]
 usable_by (Err error) = inr (λ usable. cc)
 
-pub usable_or_not : (url : List ℕ) → IsUsable url ⊎ (IsUsable url → ⊥)
+pub usable_or_not : (url : List ℕ) → IsHttp url ⊎ (IsHttp url → ⊥)
 usable_or_not url = usable_by (parse_url None url)
 
 -- each plan ends somehow where no stream follows

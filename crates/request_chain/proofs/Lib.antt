@@ -2,14 +2,15 @@ mod AskLemmas
 mod Bounds
 mod CallLemmas
 mod ContentLemmas
-mod CourseLemmas
-mod GainLemmas
+pub mod CourseLemmas
+pub mod GainLemmas
 mod HeadLemmas
 mod InboxLemmas
 mod AnsweredLemmas
 mod KeepingLemmas
+mod KeptLemmas
 mod KnownLemmas
-mod Leading
+pub mod Leading
 mod Little
 mod MovedLemmas
 mod Moving

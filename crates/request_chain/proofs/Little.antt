@@ -155,7 +155,7 @@ module _ (final_heads : FinalHeadsAreShort) (heads : HeadsReadAreShort) (not_fin
       let asked = asked_of reading.sent.part in
       let due = slice-due read.slice content.last (drop read.used read.front) read.turn_is in
       let P : Exchange → Type 0 = λ stream. IsExchange reading.sent.url asked (on_stream came stream) in
-      inr (record {
+      inr (inl (record {
         url = reading.sent.url;
         asked = asked;
         ordered = reading.sent.ordered;
@@ -185,7 +185,7 @@ module _ (final_heads : FinalHeadsAreShort) (heads : HeadsReadAreShort) (not_fin
           read.within,
           length-drop read.used read.front,
         );
-      })
+      }))
 
 -- ---- a probe
 

@@ -11,7 +11,7 @@ use Rattle.range_http.specs.Fields.{values_of}
 use Rattle.range_http.specs.Verdict.{verdict_of}
 use Rattle.reply_reader.specs.declared.loss.Loss.{Loss}
 use Rattle.reply_reader.specs.declared.loss.Loss.TheVariants as losses
-use Rattle.link_source.specs.Endpoint.{IsUsable}
+use Rattle.link_source.specs.Endpoint.{IsHttp}
 use Rattle.request_chain.specs.Chains.{Gains}
 use Rattle.request_chain.specs.Contents.{IsOwn}
 use Rattle.request_chain.specs.Plans.{unusable}
@@ -101,7 +101,7 @@ module _ (url hop : List ℕ) (count status : ℕ) (before now new used : List E
     same_gains : new ≡ now → Gains before new used
     same_gains same = let P : List Exchange → Type 0 = λ streams. Gains before streams used in subst P (sym same) gains
 
-    own_lost : (loss : Loss) → IsOwn loss → ((loss ≡ unusable status) × (IsUsable hop → ⊥) × (new ≡ now)) ⊎ NewestTells hop now new (Lost loss) → Loss_told loss
+    own_lost : (loss : Loss) → IsOwn loss → ((loss ≡ unusable status) × (IsHttp hop → ⊥) × (new ≡ now)) ⊎ NewestTells hop now new (Lost loss) → Loss_told loss
     own_lost loss own lost = elim lost [
       | inl unfit ↦ (used, same_gains unfit.2, own_tells url used faults loss own (search_end (At url 0 0) (At hop count status) used (Lost loss) leads (inr (unfit.1, ap (λ l. let p : Probe = Lost l in p) unfit.0))))
       | inr tells ↦ loss_found faults loss (Lost loss) own tells refl

@@ -1,5 +1,5 @@
 -- What a call of a chain gains.
-use Rattle.std.specs.Prelude.{ℕ, List, [], Result, MatchResult}
+use Rattle.std.specs.Prelude.{ℕ, ◌≤◌, List, [], length, Result, MatchResult}
 use Rattle.link_source.specs.Exchanges.{Exchange}
 use Rattle.link_source.specs.Link.{LinkState}
 use Rattle.span_map.specs.declared.jobs.JobPart.{JobPart}
@@ -44,6 +44,7 @@ HearsMore old link result new new_link faults = ForEachUse old link (λ parts be
     (λ _. ReceivesMore parts before used bytes new_link.exchanges old.taken new)
     (StepLoses parts before used bytes new_link.exchanges [] old.taken faults new))
 
--- each exchange since those before had one answer still
+-- each exchange since those before, or since fewer of them, had one answer still
 abbrev pub StaysAnswered : Chain → LinkState → LinkState → Type 0
-StaysAnswered old link new_link = ForEachUse old link (λ parts before used bytes. KeepsAnswers before link new_link)
+StaysAnswered old link new_link = ForEachUse old link (λ parts before used bytes.
+    (since : List Exchange) → length since ≤ length before → KeepsAnswers since link new_link)

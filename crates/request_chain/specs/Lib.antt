@@ -6,6 +6,7 @@ pub mod Contents
 pub mod Courses
 pub mod Exchanges
 pub mod Fetched
+pub mod KeptAnswers
 pub mod Links
 pub mod Plans
 pub mod Probes

@@ -2,7 +2,7 @@
 use Rattle.std.specs.Prelude.{◌≡◌, ◌⊎◌, ℕ, ◌+◌, ◌-◌, nat_lt, nat_le, List, [], ◌∷◌, Option, Some, None, if◌then◌else◌}
 use Rattle.dl_kinds.specs.ExitStatuses.{exit_code}
 use Rattle.dl_kinds.specs.declared.exit_status.ExitStatus.TheVariants.{HttpReply}
-use Rattle.link_source.specs.Endpoint.{IsUsable}
+use Rattle.link_source.specs.Endpoint.{IsHttp}
 use Rattle.range_http.specs.declared.asked.Asked.{Asked}
 use Rattle.span_map.specs.declared.jobs.JobPart.{JobPart}
 use Rattle.reply_reader.specs.Answers.{Turn, Due, Given, Away, Lost as LostTurn}
@@ -62,4 +62,4 @@ next_plan part parts url count (LostTurn loss) = Over (Lost loss)
 abbrev pub Stands : NextAsk → FetchEnding → Type 0
 Stands (Over ending) now = now ≡ ending
 Stands (Ask part parts url count status) now =
-    (IsUsable url × (now ≡ Open)) ⊎ ((IsUsable url → ⊥) × (now ≡ Lost (unusable status)))
+    (IsHttp url × (now ≡ Open)) ⊎ ((IsHttp url → ⊥) × (now ≡ Lost (unusable status)))

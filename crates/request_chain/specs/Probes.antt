@@ -2,7 +2,7 @@
 use Rattle.std.specs.Prelude.{◌≡◌, ◌⊎◌, ℕ, ◌+◌, Bool, true, List, [], ◌∷◌, Option, Some, None, unwrap_or, codes, nat_le, if◌then◌else◌}
 use Rattle.dl_kinds.specs.ExitStatuses.{exit_code}
 use Rattle.dl_kinds.specs.declared.exit_status.ExitStatus.TheVariants.{HttpReply}
-use Rattle.link_source.specs.Endpoint.{IsUsable}
+use Rattle.link_source.specs.Endpoint.{IsHttp}
 use Rattle.link_source.specs.Exchanges.{Exchange}
 use Rattle.range_http.specs.declared.asked.Asked.{Asked}
 use Rattle.http_heads.specs.declared.head.Head.{Head}
@@ -78,7 +78,7 @@ next_search url count (Lost loss) = Found (Lost loss)
 abbrev pub ProbedBy : Search → List Exchange → Probe → Type 0
 ProbedBy (Found told) streams probe = (probe ≡ told) × (streams ≡ [])
 ProbedBy (At url count status) [] probe =
-    (IsUsable url × (probe ≡ Due)) ⊎ ((IsUsable url → ⊥) × (probe ≡ Lost (unusable status)))
+    (IsHttp url × (probe ≡ Due)) ⊎ ((IsHttp url → ⊥) × (probe ≡ Lost (unusable status)))
 ProbedBy (At url count status) (stream ∷ streams) probe =
     (told : Probe) × ProbeReplies url stream told × ProbedBy (next_search url count told) streams probe
 

@@ -1,5 +1,5 @@
 -- How far the reply in a stream is read.
-use Rattle.std.specs.Prelude.{◌≡◌, ◌⊎◌, ℕ, ◌+◌, ◌*◌, ◌<◌, ◌≤◌, ◌^◌, false, List, ◌++◌, length}
+use Rattle.std.specs.Prelude.{◌≡◌, ◌⊎◌, ℕ, ◌+◌, ◌*◌, ◌<◌, ◌≤◌, ◌^◌, false, List, [], ◌++◌, length}
 use Rattle.link_source.specs.Exchanges.{Exchange}
 use Rattle.link_source.specs.declared.exchanges.TheConstants.{MOST_RECEIVED}
 use Rattle.range_http.specs.declared.asked.Asked.{Asked}
@@ -41,6 +41,11 @@ pub record IsReadNoFurther (stream : Exchange) : Type 0 where
   pub due : answer.turn ≡ Due
   pub short : length front ≤ heads_most + 261 * (asked.last + 1) + lines_most
 
+-- a stream of no request of this kind: a reply of at most 32,768 bytes to a command, or what came without one
+pub record IsOtherwise (stream : Exchange) : Type 0 where
+  pub none : (url : List ℕ) (asked : Asked) → IsExchange url asked stream → ⊥
+  pub few : (stream.request ≡ []) ⊎ (length stream.received ≤ 32768)
+
 -- So a stream was read: no body's rest, and of a probe no body.
 abbrev pub ReceivesLittle : Exchange → Type 0
-ReceivesLittle stream = IsReadToHead stream ⊎ IsReadNoFurther stream
+ReceivesLittle stream = IsReadToHead stream ⊎ (IsReadNoFurther stream ⊎ IsOtherwise stream)

@@ -2,7 +2,7 @@
 use Rattle.std.specs.Prelude.{◌≡◌, ℕ, Bool, false, List, [], ◌∷◌}
 use Rattle.dl_kinds.specs.declared.outside.IoErr.{IoErr}
 use Rattle.dl_kinds.specs.declared.outside.IoErr.TheVariants.{Fault, NoMemory as NoRoom}
-use Rattle.link_source.specs.Endpoint.{IsUsable}
+use Rattle.link_source.specs.Endpoint.{IsHttp}
 use Rattle.link_source.specs.Exchanges.{Exchange}
 use Rattle.range_http.specs.declared.asked.Asked.{Asked}
 use Rattle.reply_reader.specs.declared.loss.Loss.{Loss}
@@ -26,6 +26,6 @@ pub record IsOpened (url : List ℕ) (asked : Asked) (fresh : Bool) (old new : L
 
 -- what each loss says of a request that wasn't sent
 abbrev pub IsUnopened : List ℕ → ℕ → List Exchange → List Exchange → ℕ → Loss → Type 0
-IsUnopened url status old new faults (Link count) = (count ≡ faults) × IsUsable url × (new ≡ old)
+IsUnopened url status old new faults (Link count) = (count ≡ faults) × IsHttp url × (new ≡ old)
 IsUnopened url status old new faults NoMemory = new ≡ old
-IsUnopened url status old new faults loss = (loss ≡ unusable status) × (IsUsable url → ⊥) × (new ≡ old)
+IsUnopened url status old new faults loss = (loss ≡ unusable status) × (IsHttp url → ⊥) × (new ≡ old)

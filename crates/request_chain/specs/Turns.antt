@@ -1,6 +1,6 @@
 -- The steps of a call of a chain.
 use Rattle.std.specs.Prelude.{◌≡◌, ◌≢◌, ℕ, ◌+◌, ◌*◌, false, List, ◌++◌, length}
-use Rattle.link_source.specs.Endpoint.{IsUsable}
+use Rattle.link_source.specs.Endpoint.{IsHttp}
 use Rattle.link_source.specs.Link.{LinkState}
 use Rattle.link_source.specs.Exchanges.{Exchange}
 use Rattle.http_heads.specs.declared.head.Head.{Head}
@@ -69,4 +69,4 @@ AsksFor chain url = (chain.stage ≡ Asking) × AsksAt (plan_now chain.course) u
 
 -- P, where the next request is for a URL that is no `http` URL
 abbrev pub IfUnusable : Chain → Type 0 → Type 0
-IfUnusable chain P = (url : List ℕ) → AsksFor chain url → (IsUsable url → ⊥) → P
+IfUnusable chain P = (url : List ℕ) → AsksFor chain url → (IsHttp url → ⊥) → P

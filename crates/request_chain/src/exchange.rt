@@ -3,7 +3,7 @@ ghost use Rattle.std.specs.Prelude.{◌≡◌, ◌⊎◌, ◌≤◌, ℕ, List, 
 ghost use Rattle.dl_kinds.specs.Counts.{Rose};
 ghost use Rattle.reply_reader.specs.Losses.{IsKnown};
 ghost use Rattle.reply_reader.specs.declared.loss.Loss.TheVariants.{Link, NoMemory};
-ghost use Rattle.link_source.specs.Endpoint.{IsUsable};
+ghost use Rattle.link_source.specs.Endpoint.{IsHttp};
 ghost use Rattle.link_source.specs.Exchanges.{Exchange};
 ghost use Rattle.request_chain.specs.Answered.{KeepsAnswers};
 ghost use Rattle.request_chain.specs.Links.{CountsLinkLoss};
@@ -20,7 +20,7 @@ use reply_reader::{Loss, replies_are_read_short};
 use std::alloc::Global;
 
 /// The loss by a link's error, which is told with the link's count.
-pub(crate) fn link_loss<L: Links>(link: &L, error: IoErr) -> Loss
+pub fn link_loss<L: Links>(link: &L, error: IoErr) -> Loss
     ensures loss { result ≡ loss_by (L.faults link.now) error }
     ensures known { IsKnown result }
 {
@@ -36,7 +36,7 @@ pub(crate) fn link_loss<L: Links>(link: &L, error: IoErr) -> Loss
 fn endpoint(alloc: Global, url: &str, status: u16) -> Result<Endpoint, Loss>
     ensures leads { IfOk result (λ endpoint. LeadsTo url.now endpoint) }
     ensures lost { IfErr result (λ loss. (loss ≡ NoMemory)
-        ⊎ ((loss ≡ unusable status) × (IsUsable url.now → ⊥))) }
+        ⊎ ((loss ≡ unusable status) × (IsHttp url.now → ⊥))) }
     ensures known { IfErr result IsKnown }
 {
     match Endpoint::of(alloc, url) {
@@ -81,8 +81,8 @@ pub(crate) fn send_request<L: Links>(
         → KeepsAnswers before (L.state link.old) (L.state link.new) }
     ensures listens { OnOk result (IsTrue L.tells → (L.state link.new).listens ≡ true) }
     // A URL that is no `http` URL is refused without a call of the link.
-    ensures usable { OnOk result (IsUsable url.now) }
-    ensures untouched { (IsUsable url.now → ⊥) → link.new ≡ link.old }
+    ensures usable { OnOk result (IsHttp url.now) }
+    ensures untouched { (IsHttp url.now → ⊥) → link.new ≡ link.old }
     ensures later { L.faults link.old ≤ L.faults link.new }
 {
     replies_are_read_short();
@@ -130,8 +130,8 @@ pub(crate) fn send_again<L: Links>(
     ensures known { IfErr result IsKnown }
     ensures answered { IsTrue L.tells → (before : List Exchange)
         → KeepsAnswers before (L.state link.old) (L.state link.new) }
-    ensures usable { OnOk result (IsUsable url.now) }
-    ensures untouched { (IsUsable url.now → ⊥) → link.new ≡ link.old }
+    ensures usable { OnOk result (IsHttp url.now) }
+    ensures untouched { (IsHttp url.now → ⊥) → link.new ≡ link.old }
     ensures later { L.faults link.old ≤ L.faults link.new }
 {
     replies_are_read_short();

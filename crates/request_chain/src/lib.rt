@@ -19,7 +19,8 @@ mod stage;
 
 pub use chain::{Chain, ChainRead};
 pub use course::REDIRECT_LIMIT;
-pub use laws::{fetched_is_one, limits_are_told, requests_receive_little};
+pub use exchange::link_loss;
+pub use laws::{fetched_is_one, limits_are_told, links_keep_answers, requests_receive_little};
 pub use probing::probe;
 pub use reply_reader::Loss;
 pub use room::ChainRoom;

@@ -1,7 +1,7 @@
 // How long a resource is.
 ghost use Rattle.std.specs.Prelude.{◌≡◌, ◌≢◌, ◌⊎◌, ◌≤◌, ◌<◌, ◌+◌, ◌-◌, [], List, ℕ, true, false, Ok, Some, None, IsTrue, OnOk, IfOk, IfErr, IfSome, MatchResult, codes, length};
 ghost use Rattle.dl_kinds.specs.Counts.{Rose};
-ghost use Rattle.link_source.specs.Endpoint.{IsUsable};
+ghost use Rattle.link_source.specs.Endpoint.{IsHttp};
 ghost use Rattle.link_source.specs.Exchanges.{Exchange};
 ghost use Rattle.http_heads.specs.Fields.{sole};
 ghost use Rattle.range_http.specs.Fields.{values_of};
@@ -171,8 +171,8 @@ fn ask<L: Links>(
         → KeepsAnswers before (L.state link.old) (L.state link.new) }
     ensures link { IfErr result (CountsLinkLoss (L.faults link.old) (L.faults link.new)) }
     ensures known { IfErr result IsKnown }
-    ensures usable { OnOk result (IsUsable hop.now.url) }
-    ensures untouched { (IsUsable hop.now.url → ⊥) → link.new ≡ link.old }
+    ensures usable { OnOk result (IsHttp hop.now.url) }
+    ensures untouched { (IsHttp hop.now.url → ⊥) → link.new ≡ link.old }
     ensures later { L.faults link.old ≤ L.faults link.new }
 {
     let asked = Asked {
@@ -231,7 +231,7 @@ pub fn probe<L: Links>(
     ensures whole { IsTrue L.tells → RestsWhole room.new (L.state link.new).exchanges }
     ensures closed { OnOk result (IsTrue L.tells → LetsGo room.new (L.state link.new)) }
     // A URL that is no `http` URL is refused without a call of the link.
-    ensures untouched { (IsUsable url.now → ⊥) → link.new ≡ link.old }
+    ensures untouched { (IsHttp url.now → ⊥) → link.new ≡ link.old }
     ensures later { L.faults link.old ≤ L.faults link.new }
 {
     final_heads_are_one_and_stay();

@@ -29,7 +29,7 @@ pub struct ChainRoom {
 }
 
 impl ChainRoom {
-    ghost use Rattle.std.specs.Prelude.{List, IfOk};
+    ghost use Rattle.std.specs.Prelude.{◌≡◌, false, List, IfOk};
     ghost use Rattle.link_source.specs.Link.{LinkState};
     ghost use Rattle.link_source.specs.Exchanges.{Exchange};
     ghost use Rattle.request_chain.specs.Rests.{RestsOn, RestsWhole};
@@ -47,6 +47,13 @@ impl ChainRoom {
         })
     }
 
+    /// Whether the connection may take another request.
+    pub fn rests(&self) -> bool
+        ensures { result ≡ self.now.rests }
+    {
+        self.rests
+    }
+
     /// The room of a chain that begins on a connection of its own.
     pub fn without_connection(self) -> Self
         ensures rests { (link : LinkState) → RestsOn result link }
@@ -55,5 +62,14 @@ impl ChainRoom {
         let mut room = self;
         room.rests = false;
         room
+    }
+
+    /// Forgets the connection: the next chain begins on one of its own.
+    pub fn leave_connection(&mut self)
+        ensures rests { (link : LinkState) → RestsOn self.new link }
+        ensures whole { (exchanges : List Exchange) → RestsWhole self.new exchanges }
+        ensures rests_not { self.new.rests ≡ false }
+    {
+        self.rests = false;
     }
 }

@@ -1,7 +1,6 @@
 -- A download that is told complete has each of its wanted pieces verified.
-use Rattle.std.proofs.Common.{◌≡◌, ⊎_elim, ℕ, Bool, true, false, Option, Some, None, List, [], ◌∷◌, refl, sym, ap, ◌∙◌, subst, arith}
-use Rattle.std.specs.Prelude.{Contains, IsSome, slice_index_or, unwrap_or}
-use Rattle.std.specs.List.{list_any}
+use Rattle.std.proofs.Common.{◌≡◌, ⊎_elim, ℕ, true, false, Option, Some, List, [], ◌∷◌, refl, sym, ap, ◌∙◌, subst, arith}
+use Rattle.std.specs.Prelude.{Contains, slice_index_or, unwrap_or}
 use Rattle.std.proofs.lemmas.Bool.{eq-eqb}
 use Rattle.std.specs.Option.{option_and_then}
 use Rattle.dl_history.proofs.Bools.{or_left, or_right}
@@ -10,9 +9,9 @@ use Rattle.dl_history.specs.PayloadParts.{is_verified_in}
 use Rattle.dl_kinds.specs.declared.gid.Gid.{Gid}
 use Rattle.durable_progress.proofs.Promised.{verified_later}
 use Rattle.engine_core.specs.Askings.{is_completed_in, is_completion}
-use Rattle.machine_core.specs.OwnParts.{PayloadLengths, lengths_by, no_lengths, own_of, payload_lengths_of}
-use Rattle.machine_core.specs.RunLegal.{IsLegal, MayFollow, download_in, info_hash_by, known_lengths}
-use Rattle.machine_core.specs.Starts.{Download, Listed, RunStart, Subject, Unlisted}
+use Rattle.machine_core.specs.OwnParts.{PayloadLengths, lengths_by, no_lengths, own_of}
+use Rattle.machine_core.specs.RunLegal.{IsLegal, MayFollow, download_in, known_lengths}
+use Rattle.machine_core.specs.Starts.{Download, Listed, RunStart, Subject}
 use Rattle.machine_core.specs.Wanted.{wanted_pieces}
 use Rattle.machine_core.specs.declared.ends.End.TheVariants.{Complete}
 use Rattle.machine_core.specs.declared.events.Event.{Event}

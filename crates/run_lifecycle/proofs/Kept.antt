@@ -1,5 +1,5 @@
 -- What a run promises of its disk follows from what it did.
-use Rattle.std.proofs.Common.{◌≡◌, ⊎_elim, ◌<◌, ◌≤◌, ℕ, IsTrue, List, [], ◌∷◌, ◌++◌, sym, subst, arith}
+use Rattle.std.proofs.Common.{◌≡◌, ◌≢◌, ⊎_elim, ◌<◌, ◌≤◌, ℕ, IsTrue, List, [], ◌∷◌, ◌++◌, sym, subst, arith}
 use Rattle.std.proofs.lemmas.List.{length-append, length-reverse}
 use Rattle.std.proofs.lemmas.Bool.{cases_lt}
 use Rattle.control_file.specs.declared.want.Want.{Want}
@@ -11,7 +11,9 @@ use Rattle.resume_core.specs.Resume.{Agrees, AreSound, Sound}
 use Rattle.run_lifecycle.specs.Promises.{CompletedAreRight, CrashesKeepRuns, IsRun, WasSound}
 use Rattle.run_lifecycle.specs.Finishes.{Ran}
 use Rattle.run_lifecycle.specs.Survivals.{LeavesKept}
+use Rattle.run_lifecycle.specs.TurnsOf.{AreFed}
 use Rattle.run_lifecycle.specs.declared.ended.Ended.{Ended}
+use Rattle.run_report.specs.declared.endings.RunEnding.TheVariants.{NoMemory}
 use Rattle.run_lifecycle.proofs.Ran as ran_facts
 
 -- files that are the same under each name are the same
@@ -64,13 +66,13 @@ module _ {D O : Type 0} {says : DiskSays D} {sinks : SinkSays O} {words : List (
       subst (λ (i : Files). Sound want i) (sym (same_files from.0 image from.2)) (sound from.0 from.1).0)
       (cases_lt (says.state ran.begins.read).moment left.0)
 
-  pub kept : CompletedAreRight says.state → CrashesKeepRuns says.state → LeavesKept says words gids doors disk ended
-  kept complete crash = record {
+  pub kept : CompletedAreRight says.state → CrashesKeepRuns says.state → (ended.ending ≢ NoMemory → AreFed (ran_facts.told ran))
+      → LeavesKept says words gids doors disk ended
+  kept complete crash fed = record {
     line = ran.begins.line;
     means = ran.begins.means;
     told = ran_facts.told ran;
-    history = ran_facts.history_is ran;
-    ties = ran_facts.ties ran;
+    turns = ran_facts.are_turns ran fed;
     complete = λ gid want is was.
         complete (ran_facts.start ran) (ran_facts.told ran) ran.begins.read ended.disk run_is gid want is (was_read want was);
     crash = λ want was.

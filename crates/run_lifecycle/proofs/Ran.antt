@@ -1,5 +1,5 @@
 -- What holds of a run that began: its turns, its history and its disk.
-use Rattle.std.proofs.Common.{◌≡◌, ℕ, Bool, true, false, IsTrue, List, [], ◌∷◌, ◌++◌, refl, sym, ap, ◌∙◌, subst, append_assoc}
+use Rattle.std.proofs.Common.{◌≡◌, ◌≢◌, ℕ, Bool, true, false, IsTrue, List, [], ◌∷◌, ◌++◌, refl, sym, ap, ◌∙◌, subst, append_assoc}
 use Rattle.std.specs.Prelude.{Contains, reverse}
 use Rattle.std.proofs.lemmas.Bool.{false≢true}
 use Rattle.std.proofs.lemmas.List.{reverse-reverse}
@@ -23,7 +23,9 @@ use Rattle.turn_desk.specs.declared.turn.Stamp.{Stamp}
 use Rattle.run_lifecycle.specs.Begins.{stamp_on, start_of_line, start_on}
 use Rattle.run_lifecycle.specs.Finishes.{Ran}
 use Rattle.run_lifecycle.specs.Stops.{all_turns}
+use Rattle.run_lifecycle.specs.TurnsOf.{AreFed, AreTurnsOf}
 use Rattle.run_lifecycle.specs.declared.ended.Ended.{Ended}
+use Rattle.run_report.specs.declared.endings.RunEnding.TheVariants.{NoMemory}
 use Rattle.run_lifecycle.proofs.Turns.{AreMarked, BroughtBy, MarksBetween, all_at, all_reversed, brought_by, marks_between, reversed_cut}
 
 -- the moment of a disk that tells
@@ -108,6 +110,10 @@ module _ {D O : Type 0} {says : DiskSays D} {sinks : SinkSays O} {words : List (
   -- each turn may come after those before it
   pub ties : AllTurns (MayComeAfter start) told
   ties = all_reversed (MayComeAfter start) turns may_come
+
+  -- they are the run's, where memory sufficed for them
+  pub are_turns : (ended.ending ≢ NoMemory → AreFed told) → AreTurnsOf ended start told
+  are_turns fed = record { history = history_is; ties = ties; memory = fed }
 
   -- ---- marks
 

@@ -23,7 +23,8 @@ use Rattle.machine_core.specs.declared.events.Event.{Event}
 use Rattle.machine_core.specs.declared.events.Event.TheVariants.{Claimed}
 use Rattle.reply_reader.specs.Losses.{mark_of}
 use Rattle.reply_reader.specs.declared.loss.Loss.{Loss}
-use Rattle.request_chain.specs.Probes.{Probed, Told}
+use Rattle.request_chain.specs.Probes.{Told}
+use Rattle.part_fetches.specs.Probes.{Probed}
 
 -- what the claim asks of its mirror: blocks of the payload, or the payload's length
 abbrev pub IsGrantOf : PayloadLengths → Download → Claim → Grant → Type 0

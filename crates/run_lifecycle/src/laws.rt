@@ -31,7 +31,7 @@ pub fn runs_print_one_text<D: Disk, O: Sink>()
     ensures { RunsPrintText D.Disk O.Sink }
 {}
 
-/// The history of a run begins with the call of its line, and leaves nothing unsaved.
+/// The history of a run whose doors leave before its stop begins with the call of its line, and leaves nothing unsaved.
 pub fn runs_have_whole_histories<D: Disk, O: Sink>()
     ensures { RunsHaveHistories D.Disk O.Sink }
 {

@@ -125,6 +125,19 @@ impl<'a, L: Links, K: Clock, W: Write> Links for WatchedLinks<'a, L, K, W> {
         outcome
     }
 
+    fn dial_data(&mut self, port: u16) -> Result<(), IoErr> {
+        self.inner.dial_data(port)
+    }
+
+    fn recv_data(&mut self, into: &mut [u8]) -> Result<usize, IoErr> {
+        let outcome = self.inner.recv_data(into);
+        if let Ok(count) = outcome {
+            self.progress.receive(count as u64);
+        }
+        self.draw();
+        outcome
+    }
+
     fn hang_up(&mut self) {
         self.note(false);
         self.inner.hang_up();

@@ -22,6 +22,7 @@ use Rattle.metainfo.specs.declared.meta.Meta.{Meta}
 use Rattle.option_set.specs.Values.{OptionValues, number_value}
 use Rattle.option_set.specs.declared.kinds.Num.TheVariants.{MaxTries}
 use Rattle.resume_core.specs.Wants.{payload_name}
+use Rattle.run_lifecycle.specs.Begins.{start_of_line}
 use Rattle.run_lifecycle.specs.FrameLaws.{RunsEndAsShown}
 use Rattle.run_lifecycle.specs.Promises.{CompletedAreRight}
 use Rattle.run_lifecycle.specs.Stops.{all_turns}
@@ -97,7 +98,7 @@ module _ {D O L K : Type 0} {says : DiskSays D} {sinks : SinkSays O} {limited : 
 
     abbrev Comes : Type 0
     Comes = IsDoneWhole says disk ended (own_options named) meta ⊎ (ended.ending ≡ NoMemory)
-        ⊎ EndsCutShort limited links olds ended news
+        ⊎ EndsCutShort limited links (start_of_line gids doors named.globals) olds ended news
 
     -- ---- its download
 
@@ -153,7 +154,10 @@ module _ {D O L K : Type 0} {says : DiskSays D} {sinks : SinkSays O} {limited : 
           let ends = laws.well words gids doors disk out ended out' ran gid mirror meta want payload tells brought in ⊎_elim
           (λ (done : IsDone ended). inl (done_whole laws.right laws.follows ran tells one.download meta uris one.there
           one.subject_is listed.alone (is.fresh (payload_name want)) (own_options named) options_are ends.0 done))
-          (λ other. inr other) (comes it laws.shown is.well (Listed meta uris) laws.done one ends.0 ends.1)
+          (λ other. inr other) (subst (λ (s : RunStart). IsDone ended ⊎ (ended.ending ≡ NoMemory)
+          ⊎ EndsCutShort limited links s olds ended news)
+          (ap (λ (l : CommandLine). start_of_line gids doors l.globals) (sym line_is))
+          (comes it laws.shown is.well (Listed meta uris) laws.done one ends.0 ends.1))
 
     completes_here : 1 ≤ length olds → Comes
     completes_here some = ⊎_elim (λ (one : RanOne it (Listed meta uris)). comes_whole one)
@@ -163,7 +167,7 @@ module _ {D O L K : Type 0} {says : DiskSays D} {sinks : SinkSays O} {limited : 
   pub completes_served : Laws K says sinks links
       → IsRunOver says sinks limited links words gids doors disk olds out ended news out'
       → 1 ≤ length olds → IsTrue says.tells → IsTrue links.tells
-      → CompletesServed limited says links sinks words disk olds out ended news out'
+      → CompletesServed limited says links sinks words gids doors disk olds out ended news out'
   completes_served laws (inl never) links_are tells link_tells named meta uris mirror payload is =
       let known = is.known in
       inr (inl (never_began laws.lines tells never named meta uris is.names (omega (arith, known)) is.well.of_disk))

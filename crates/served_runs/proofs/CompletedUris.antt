@@ -55,6 +55,7 @@ use Rattle.resume_core.specs.Refusals.{in_the_way, open_refusal, refused_over}
 use Rattle.resume_core.specs.Wants.{control_name, files_in}
 use Rattle.resume_core.specs.declared.refusing.OpenErr.TheVariants.{Exists}
 use Rattle.run_lifecycle.proofs.Ran as ran_facts
+use Rattle.run_lifecycle.specs.Begins.{start_of_line}
 use Rattle.run_lifecycle.specs.Finishes.{Ran}
 use Rattle.run_lifecycle.specs.FrameLaws.{RunsEndAsShown, RunsShowDisk}
 use Rattle.run_lifecycle.specs.Stops.{all_turns}
@@ -264,7 +265,7 @@ module _ {D O L K : Type 0} {says : DiskSays D} {sinks : SinkSays O} {limited : 
       ends = ends_here says sinks laws.disk words gids doors disk out ended out' ran gid
           (laws.complete start told ended.disk gid 0 uris resource brought)
 
-      done : IsDone ended ⊎ (ended.ending ≡ NoMemory) ⊎ EndsCutShort limited links olds ended news
+      done : IsDone ended ⊎ (ended.ending ≡ NoMemory) ⊎ EndsCutShort limited links start olds ended news
       done = comes it laws.shown is.well (Unlisted uris) laws.done one ends.0 ends.1
 
       -- ---- its file
@@ -309,7 +310,7 @@ module _ {D O L K : Type 0} {says : DiskSays D} {sinks : SinkSays O} {limited : 
 
     abbrev Comes : CommandLine → Type 0
     Comes l = IsDoneWith says ended l uris resource
-        ⊎ (ended.ending ≡ NoMemory) ⊎ EndsCutShort limited links olds ended news
+        ⊎ (ended.ending ≡ NoMemory) ⊎ EndsCutShort limited links (start_of_line gids doors l.globals) olds ended news
 
     completes_here : 1 ≤ length olds → Comes named
     completes_here some = subst Comes (sym line_is) (⊎_elim
@@ -321,7 +322,7 @@ module _ {D O L K : Type 0} {says : DiskSays D} {sinks : SinkSays O} {limited : 
   pub completes_uris : UriLaws K says sinks links
       → IsRunOver says sinks limited links words gids doors disk olds out ended news out'
       → 1 ≤ length olds → IsTrue says.tells → IsTrue links.tells
-      → CompletesUris limited says links sinks words disk olds out ended news out'
+      → CompletesUris limited says links sinks words gids doors disk olds out ended news out'
   completes_uris laws (inl never) links_are tells link_tells named uris resource is =
       inr (inl (never_began_uris laws.lines tells never named uris is.names.means is.names.named))
   completes_uris laws (inr it) links_are tells link_tells named uris resource is =

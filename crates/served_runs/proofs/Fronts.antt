@@ -12,8 +12,8 @@ use Rattle.memory_serving_laws.specs.Laws.{IsRightSoFar}
 use Rattle.reply_reader.specs.Losses.{mark_of}
 use Rattle.reply_reader.specs.declared.loss.Loss.{Loss}
 use Rattle.reply_reader.specs.declared.loss.Loss.TheVariants as losses
-use Rattle.request_chain.specs.Chains.{TellsLoss}
-use Rattle.request_chain.specs.Fetched.{Fetched}
+use Rattle.part_fetches.specs.Fetched.{Fetched}
+use Rattle.part_fetches.specs.Losses.{TellsLoss}
 use Rattle.request_chain.specs.Plans.{FetchEnding, Open}
 use Rattle.request_chain.specs.Plans as plans
 use Rattle.span_map.specs.declared.jobs.Job.{Job}

@@ -18,6 +18,8 @@ pub mod TurnLists
 pub mod TurnCalls
 pub mod WorkEnds
 pub mod Workers
+pub mod Fed
+pub mod Stopped
 pub mod Linked
 pub mod Spared
 pub mod FirstAdded

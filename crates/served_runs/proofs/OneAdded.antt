@@ -97,7 +97,7 @@ pub record RanOne {D O L K : Type 0} {says : DiskSays D} {sinks : SinkSays O} {l
     pub memory : HaveMemory (reverse (all_turns says it.ran.stops))
     pub completed : OnlyCompletes says sinks ended.journal.events.items download.gid → ended.ending ≡ Done
         → (g : Gid) × Contains ended.journal.events.items (event.Ended g Complete)
-    pub came : IsFinishedOnce says sinks it.ran ⊎ WasCutShort limited links olds ended news
+    pub came : IsFinishedOnce says sinks it.ran ⊎ WasCutShort limited links (ran_facts.start it.ran) olds ended news
 
 module _ {D O L K : Type 0} {says : DiskSays D} {sinks : SinkSays O} {limited : Bool} {links : LinkSays L}
     {words : List (List ℕ)} {gids doors : ℕ} {disk : D} {olds : List (L × K)} {out : O} {ended : Ended D}
@@ -214,7 +214,7 @@ module _ {D O L K : Type 0} {says : DiskSays D} {sinks : SinkSays O} {limited : 
       starved_not t is_there works = ⊎_elim
           (λ (same : first ≡ t). absurd (subst IsWork (ap (λ (u : RunTurn). u.op) (sym same) ∙ own.2) works))
           (λ (later : Contains (middle ++ last ∷ []) t). ⊎_elim
-          (λ (within : Contains middle t). one_fed limited links ran olds news unshort t (it.over.works t within works) works)
+          (λ (within : Contains middle t). one_fed limited links ran olds news unshort it.over.works t (it.over.works t within works) works)
           (λ (at_last : last ≡ t). absurd (subst IsWork (ap (λ (u : RunTurn). u.op) (sym at_last) ∙ ran.stops.op) works))
           (Contains-push_cases middle last t later))
           (first_or_later first (middle ++ last ∷ []) t is_there)
@@ -282,7 +282,7 @@ module _ {D O L K : Type 0} {says : DiskSays D} {sinks : SinkSays O} {limited : 
           (sym (ap (ending_by (last_failure past)) unfinished) ∙ by_history is_done)))
           (end_or_none (reverse rest))
 
-      so_far : IsFinishedOnce says sinks ran ⊎ WasCutShort limited links olds ended news → RanOne it subject
+      so_far : IsFinishedOnce says sinks ran ⊎ WasCutShort limited links start olds ended news → RanOne it subject
       so_far came = record {
         download = added.download;
         there = there;
@@ -352,7 +352,7 @@ module _ {D O L K : Type 0} {says : DiskSays D} {sinks : SinkSays O} {limited : 
                 (Contains-append_cases first.events (events_of front) event.Stopped is_there)
 
     abbrev Cut : Type 0
-    Cut = WasCutShort limited links olds ended news
+    Cut = WasCutShort limited links start olds ended news
 
     -- the turn that found nothing left to do is one of the first worker's
     found : (at : WorkedOver limited links ran olds news 0) → CameFinished at.own.its.worked at.own.its.stop
@@ -369,8 +369,8 @@ module _ {D O L K : Type 0} {says : DiskSays D} {sinks : SinkSays O} {limited : 
         let first_at = it.over.each unshort 0 (omega (arith, some)) in ⊎_elim
         (λ (came : CameFinished first_at.own.its.worked first_at.own.its.stop). ⊎_elim
         (λ (works : (t : RunTurn) → Contains middle t → IsWork t.op). inl (finished_once unshort works (found first_at came)))
-        (λ (cut : Cut). inr cut) (all_work limited links ran olds news unshort middle (it.over.alone off)))
-        (λ (cut : Cut). inr cut) (one_came limited links ran olds news unshort 0 first_at)
+        (λ (cut : Cut). inr cut) (all_work limited links ran olds news unshort it.over.works middle (it.over.alone off)))
+        (λ (cut : Cut). inr cut) (one_came limited links ran olds news unshort it.over.works 0 first_at)
 
     came_well : 1 ≤ length olds → (short : Bool) → (ran.begun.is_short || ran.short) ≡ short
         → RanOne it subject ⊎ (ended.ending ≡ NoMemory)
@@ -417,14 +417,14 @@ module _ {D O L K : Type 0} {says : DiskSays D} {sinks : SinkSays O} {limited : 
     -- nor did anything else
     pub comes : (subject : Subject) → FinishedAreDone says sinks → (one : RanOne it subject)
         → OnlyCompletes says sinks ended.journal.events.items one.download.gid → EndsUnfailed ended.ending
-        → IsDone ended ⊎ (ended.ending ≡ NoMemory) ⊎ EndsCutShort limited links olds ended news
+        → IsDone ended ⊎ (ended.ending ≡ NoMemory) ⊎ EndsCutShort limited links (ran_facts.start it.ran) olds ended news
     comes subject finished one only ends = ⊎_elim
         (λ (done : ended.ending ≡ Done). let so = one.completed only done in inl (done, so.0, so.1))
         (λ more. ⊎_elim
         (λ (unfinished : ended.ending ≡ Unfinished). ⊎_elim
         (λ (once : IsFinishedOnce says sinks it.ran).
         absurd (finished words gids doors disk out ended out' it.ran once unfinished))
-        (λ (cut : WasCutShort limited links olds ended news). inr (inr (record { cut = cut; unfinished = unfinished })))
+        (λ (cut : WasCutShort limited links (ran_facts.start it.ran) olds ended news). inr (inr (record { cut = cut; unfinished = unfinished })))
         one.came)
         (λ rest_of. ⊎_elim (λ (starved : ended.ending ≡ NoMemory). inr (inl starved))
         (λ (sunk : ended.ending ≡ SinkFault). absurd (not_sunk sunk)) rest_of) more) ends

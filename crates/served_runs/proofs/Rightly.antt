@@ -28,12 +28,13 @@ use Rattle.option_set.specs.Values.{OptionValues}
 use Rattle.reply_reader.specs.Losses.{mark_of}
 use Rattle.reply_reader.specs.declared.loss.Loss.{Loss}
 use Rattle.reply_reader.specs.declared.loss.Loss.TheVariants as losses
-use Rattle.request_chain.specs.Chains.{TellsLoss}
-use Rattle.request_chain.specs.Fetched.{Fetched}
 use Rattle.request_chain.specs.Links.{CountsLinkLoss}
 use Rattle.request_chain.specs.Plans.{FetchEnding, Done, Open}
 use Rattle.request_chain.specs.Plans as plans
-use Rattle.request_chain.specs.Probes.{Probe, Probed, TellsProbeLoss}
+use Rattle.request_chain.specs.Probes.{Probe}
+use Rattle.part_fetches.specs.Fetched.{Fetched}
+use Rattle.part_fetches.specs.Losses.{TellsLoss}
+use Rattle.part_fetches.specs.Probes.{Probed, TellsProbeLoss}
 use Rattle.request_chain.specs.Probes as probes
 use Rattle.request_chain.specs.declared.course.TheConstants.{REDIRECT_LIMIT}
 use Rattle.span_map.specs.Jobs.{run_end, run_start}

@@ -29,6 +29,7 @@ use Rattle.served_runs.specs.ServingLaws.{IsToldRight, UsesClaim}
 use Rattle.served_runs.specs.ServedRuns.{ComesOfLink, RunsAreFaithful}
 use Rattle.served_runs.specs.Over.{IsOfWorker, IsRunOver, IsWork, RanOverLinks}
 use Rattle.served_runs.specs.Served.{AllServe, AllUseNone, IsServed, SparesServing}
+use Rattle.served_runs.proofs.Fed.{fed}
 use Rattle.served_runs.proofs.Workers.{among_all, ends_so, its_work}
 
 pub uses_work : (op : Operation) → UsesClaim op → IsWork op
@@ -108,8 +109,7 @@ module _ {D O L K : Type 0} {says : DiskSays D} {sinks : SinkSays O} {limited : 
     line = it.ran.begins.line;
     means = it.ran.begins.means;
     told = reverse (turns it);
-    history = ran_facts.history_is it.ran;
-    ties = ran_facts.ties it.ran;
+    turns = ran_facts.are_turns it.ran (fed it);
     lost = λ gid mirror payload is. lost it gid mirror payload (brings it faithful tells gid mirror payload is);
     settled = λ disk_tells gid mirror payload meta want alone of is piece there.
         findings (start it) (reverse (turns it)) ended.disk gid mirror meta want payload

@@ -130,7 +130,7 @@ stop_there (Stopped ∷ before) is = here Stopped before
 stop_there (e ∷ before) is = event_behind e Stopped before (stop_there before is)
 
 -- the turn stops the run
-abbrev StopsRunAt : Operation → Type 0
+abbrev pub StopsRunAt : Operation → Type 0
 StopsRunAt op = (now : Moment) × (op ≡ operation.Stop now)
 
 ones_stop_not : {P : Type 0} (events : List Event) → AreOfOnes events → Contains events Stopped → P
@@ -241,7 +241,7 @@ module _ {D O L K : Type 0} {says : DiskSays D} {sinks : SinkSays O} (limited : 
 
     abbrev Why : Type 0
     Why = WasShutDown ended.journal.events.items
-        ⊎ WasCutShort limited links olds ended news
+        ⊎ WasCutShort limited links start olds ended news
         ⊎ IsLeftPaused (start_of_line gids doors ran.begins.line.globals) ran.begins.line ended.journal.events.items
 
     pub unshort : (it.ran.begun.is_short || it.ran.short) ≡ false
@@ -322,8 +322,8 @@ module _ {D O L K : Type 0} {says : DiskSays D} {sinks : SinkSays O} (limited : 
           let inside = subst (λ (ts : List RunTurn). Contains ts u)
           (ap (λ (ts : List RunTurn). own.its.worked ++ ts) came.no_stop ∙ append-nil own.its.worked) of.there in
           absurd (subst IsWork op (worked_work links of.place own.from of.at.old.0 own.to of.at.new.0 own.came own.its u inside)))
-          (λ (short : WasCutShort limited links olds ended news). inr (inl short))
-          (one_came limited links ran olds news unshort of.place of.at)
+          (λ (short : WasCutShort limited links start olds ended news). inr (inl short))
+          (one_came limited links ran olds news unshort it.over.works of.place of.at)
 
       by_stop : list_any is_stop past ≡ true → Why
       by_stop is =
@@ -364,8 +364,8 @@ module _ {D O L K : Type 0} {says : DiskSays D} {sinks : SinkSays O} (limited : 
         let f = came.finishes in
         why_here 0 at f.turn (at.own.among f.turn f.there)
         (finished_by f.turn.answer.said f.said_is))
-        (λ (short : WasCutShort limited links olds ended news). inr (inl short))
-        (one_came limited links ran olds news unshort 0 at)
+        (λ (short : WasCutShort limited links start olds ended news). inr (inl short))
+        (one_came limited links ran olds news unshort it.over.works 0 at)
 
   pub shows_unfinished : TurnsAppend → IsRunOver says sinks limited links words gids doors disk olds out ended news out'
       → 1 ≤ length olds → ShowsUnfinished limited links words gids doors olds news ended

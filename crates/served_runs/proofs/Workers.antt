@@ -1,5 +1,5 @@
 -- The turns of the workers of a run over links.
-use Rattle.std.proofs.Common.{◌≡◌, ◌⊎◌, inl, inr, ⊎_elim, ℕ, ◌-◌, true, false, List, [], ◌∷◌, append_assoc, Bool, Result, Ok, Err, length, refl, sym, ap, ◌∙◌, subst, arith}
+use Rattle.std.proofs.Common.{◌≡◌, ◌≢◌, ◌⊎◌, inl, inr, ⊎_elim, ℕ, ◌-◌, true, false, List, [], ◌∷◌, append_assoc, Bool, Option, None, Some, Result, Ok, Err, length, refl, sym, ap, ◌∙◌, subst, arith}
 use Rattle.std.specs.Prelude.{◌||◌, ◌++◌, Contains, IsTrue, reverse}
 use Rattle.std.proofs.lemmas.Bool.{false≢true, lt-ltb, ltb-true}
 use Rattle.std.proofs.lemmas.List.{append-nil, length-append, length-reverse}
@@ -10,20 +10,25 @@ use Rattle.conn_worker.specs.declared.ends.WorkEnd.{WorkEnd}
 use Rattle.conn_worker.specs.declared.ends.WorkEnd.TheVariants as end
 use Rattle.dl_disk.specs.declared.disk.Disk.{Ghosts as DiskSays}
 use Rattle.dl_kinds.specs.declared.outside.Sink.{Ghosts as SinkSays}
+use Rattle.engine_core.specs.Askings.{IsNext}
 use Rattle.engine_core.specs.EngineViews.{EngineView}
 use Rattle.dl_kinds.specs.declared.runs.Moment.{Moment}
 use Rattle.engine_turns.specs.RunTurns.{is_nearly_full}
 use Rattle.engine_turns.specs.Told.{RunTurn, history_of}
 use Rattle.engine_turns.specs.declared.limits.TheConstants.{MAX_ENTRIES}
+use Rattle.engine_turns.specs.declared.operations.Operation.{Operation}
 use Rattle.engine_turns.specs.declared.operations.Operation.TheVariants as operation
 use Rattle.engine_turns.specs.declared.operations.Said.TheVariants as said
 use Rattle.link_source.specs.declared.Links.{Ghosts as LinkSays}
+use Rattle.machine_core.specs.declared.calls.Call.{Call}
 use Rattle.machine_core.specs.declared.journal.TheConstants.{TURN_EVENTS}
 use Rattle.run_lifecycle.proofs.Ran as ran_facts
 use Rattle.run_lifecycle.proofs.Turns as list_facts
+use Rattle.run_lifecycle.specs.Begins.{IsOwnCall}
 use Rattle.run_lifecycle.specs.Finishes.{EndsBy, Ran}
 use Rattle.run_lifecycle.specs.LinkCauses.{WorkedAmong}
 use Rattle.run_lifecycle.specs.Stops.{all_turns, ends_short}
+use Rattle.run_lifecycle.specs.TurnsOf.{AreFed}
 use Rattle.run_lifecycle.specs.declared.ended.Ended.{Ended}
 use Rattle.run_report.specs.declared.endings.RunEnding.{RunEnding}
 use Rattle.run_report.specs.declared.endings.RunEnding.TheVariants.{NoMemory}
@@ -38,6 +43,21 @@ in_reversed turns t there =
     let c = list_facts.cut_at turns t there in
     subst (λ (ts : List RunTurn). Contains ts t) (sym (ap reverse c.cut ∙ list_facts.reversed_cut c.front t c.back))
     (Contains-append_right (reverse c.back) (t ∷ reverse c.front) t (here t (reverse c.front)))
+
+-- ---- turns that ask for work
+
+next_work : (op : Operation) → IsNext op → IsWork op
+next_work (operation.Next worker now) is = tt
+next_work other is = absurd is
+
+-- the line's own call doesn't
+own_asks_not : {P : Type 0} (call : Option Call) (turns : List RunTurn) (short : Bool) (t : RunTurn) → IsOwnCall call turns short
+    → Contains turns t → IsNext t.op → P
+own_asks_not None turns short t is there asks =
+    none_there t (subst (λ (ts : List RunTurn). Contains ts t) is.0 there)
+own_asks_not (Some call) turns short t is there asks = ⊎_elim (λ (none : Contains [] t). none_there t none)
+    (λ (same : is.0 ≡ t). absurd (subst IsNext (ap (λ (v : RunTurn). v.op) (sym same) ∙ is.2) asks))
+    (Contains-push_cases [] is.0 t (subst (λ (ts : List RunTurn). Contains ts t) is.1 there))
 
 -- ---- how work comes out
 
@@ -124,9 +144,43 @@ module _ {D O L K : Type 0} {says : DiskSays D} {sinks : SinkSays O} (limited : 
       (full_so (ran_facts.start ran) before t (ran_facts.may_come ran c.front t c.back c.cut) count is) in
       lt-ltb (MAX_ENTRIES - TURN_EVENTS) (length ended.journal.events.items) (omega (arith, items, parts, many))
 
-  module _ (unshort : (ran.begun.is_short || ran.short) ≡ false) where
+  module _ (unshort : (ran.begun.is_short || ran.short) ≡ false)
+      (theirs : (t : RunTurn) → Contains ran.stops.middle t → IsWork t.op → IsOfWorker limited links ran olds news t) where
+    fed : (place : ℕ) (at : Over place) → ends_short at.own.came ≡ false
+    fed place at = unless_true (ends_short at.own.came) (ran.begun.is_short || ran.short) at.short unshort
+
+    -- memory sufficed for each turn of work
+    pub one_fed : (t : RunTurn) → IsOfWorker limited links ran olds news t → IsWork t.op → t.answer.said ≡ said.NoMemory → ⊥
+    one_fed t is works =
+        let own = is.at.own in
+        (worked_well links is.place own.from is.at.old.0 own.to is.at.new.0 own.came own.its
+        (λ starved. false≢true (sym (fed is.place is.at) ∙ ap ends_short starved)) t (its_work t is works)).memory
+
+    -- ---- all turns
+
+    asks_fed : (t : RunTurn) → Contains (all_turns says ran.stops) t → IsNext t.op → t.answer.said ≡ said.NoMemory → ⊥
+    asks_fed t there asks = ⊎_elim
+        (λ (front : Contains (ran.begun.desk.own ++ ran.stops.middle) t). ⊎_elim
+        (λ (first : Contains ran.begun.desk.own t).
+        own_asks_not ran.begins.call ran.begun.desk.own ran.begun.is_short t ran.begins.own first asks)
+        (λ (between : Contains ran.stops.middle t).
+        one_fed t (theirs t between (next_work t.op asks)) (next_work t.op asks))
+        (Contains-append_cases ran.begun.desk.own ran.stops.middle t front))
+        (λ (same : ran.stops.last ≡ t).
+        absurd (subst IsNext (ap (λ (v : RunTurn). v.op) (sym same) ∙ ran.stops.op) asks))
+        (Contains-push_cases (ran.begun.desk.own ++ ran.stops.middle) ran.stops.last t there)
+
+    -- memory sufficed for each turn that asked for work
+    pub all_fed : AreFed (ran_facts.told ran)
+    all_fed = list_facts.all_reversed
+        (λ (before : List RunTurn) (t : RunTurn). IsNext t.op → t.answer.said ≢ said.NoMemory) (all_turns says ran.stops)
+        (λ earlier t later cut. asks_fed t (subst (λ (ts : List RunTurn). Contains ts t) (sym cut)
+        (Contains-append_right earlier (t ∷ later) t (here t later))))
+
+    -- ---- how work came out
+
     abbrev Cut : Type 0
-    Cut = WasCutShort limited links olds ended news
+    Cut = WasCutShort limited links (ran_facts.start ran) olds ended news
 
     abbrev Finished : (place : ℕ) → Over place → Type 0
     Finished place at = CameFinished at.own.its.worked at.own.its.stop
@@ -145,7 +199,7 @@ module _ {D O L K : Type 0} {says : DiskSays D} {sinks : SinkSays O} (limited : 
       why = why;
       few = at.few;
       told = ran_facts.told ran;
-      history = ran_facts.history_is ran;
+      turns = ran_facts.are_turns ran (λ well. all_fed);
       among = λ t there. in_reversed (all_turns says ran.stops) t ((among_all place at).among t there);
     }
 
@@ -166,9 +220,6 @@ module _ {D O L K : Type 0} {says : DiskSays D} {sinks : SinkSays O} (limited : 
     by_turns false came spent kept is =
         let by = kept refl in absurd (let never : Ok by.0 ≡ Err spent = sym by.1 ∙ is in cc)
 
-    fed : (place : ℕ) (at : Over place) → ends_short at.own.came ≡ false
-    fed place at = unless_true (ends_short at.own.came) (ran.begun.is_short || ran.short) at.short unshort
-
     -- nothing was left to do for a worker, or it was cut short
     pub one_came : (place : ℕ) (at : Over place) → Finished place at ⊎ Cut
     one_came place at =
@@ -177,13 +228,6 @@ module _ {D O L K : Type 0} {says : DiskSays D} {sinks : SinkSays O} (limited : 
         (λ is. inl (came_finished links place own.from at.old.0 own.to at.new.0 own.came own.its is))
         (λ is. inr (was_cut place at (by_journal place at is)))
         (λ spent is. inr (was_cut place at (subst IsCut (sym is) (by_turns limited own.came spent at.kept is))))
-
-    -- memory sufficed for each turn of work
-    pub one_fed : (t : RunTurn) → IsOfWorker limited links ran olds news t → IsWork t.op → t.answer.said ≡ said.NoMemory → ⊥
-    one_fed t is works =
-        let own = is.at.own in
-        (worked_well links is.place own.from is.at.old.0 own.to is.at.new.0 own.came own.its
-        (λ starved. false≢true (sym (fed is.place is.at) ∙ ap ends_short starved)) t (its_work t is works)).memory
 
     one_works : (t : RunTurn) → IsOfWorker limited links ran olds news t → IsWork t.op ⊎ Cut
     one_works t is = ⊎_elim

@@ -1,5 +1,5 @@
 -- What a run comes to over links that lead to all that is to come of what a metainfo file lists.
-use Rattle.std.specs.Prelude.{◌≡◌, ◌⊎◌, ◌≤◌, ◌<◌, ◌+◌, ◌-◌, ◌^◌, ◌++◌, ℕ, Bool, true, false, IsTrue, codes, Contains, None, Ok, Err, Result, List, [], Some, length, reverse, slice_get}
+use Rattle.std.specs.Prelude.{◌≡◌, ◌⊎◌, ◌≤◌, ◌<◌, ◌+◌, ◌-◌, ◌^◌, ◌++◌, ℕ, Bool, true, false, IsTrue, codes, Contains, None, Ok, Err, Result, List, [], Some, length, slice_get}
 use Rattle.blameless_mirrors.specs.Blameless.{HasChosenPieces}
 use Rattle.blameless_mirrors.specs.Chosen.{IsChosenPiece}
 use Rattle.command_line.specs.Lines.{IsLine, has_console}
@@ -17,11 +17,11 @@ use Rattle.dl_kinds.specs.declared.claims.TheConstants.{MAX_MIRRORS}
 use Rattle.dl_kinds.specs.declared.gid.Gid.{Gid}
 use Rattle.dl_kinds.specs.declared.outside.Sink.{Ghosts as SinkSays}
 use Rattle.engine_turns.specs.RunTurns.{is_nearly_full}
-use Rattle.engine_turns.specs.Told.{RunTurn, history_of}
+use Rattle.engine_turns.specs.Told.{RunTurn}
 use Rattle.command_call.specs.Files.{Says}
 use Rattle.link_source.specs.declared.Links.{Ghosts as LinkSays}
 use Rattle.machine_core.specs.Replays.{with_settings}
-use Rattle.machine_core.specs.Starts.{Listed}
+use Rattle.machine_core.specs.Starts.{Listed, RunStart}
 use Rattle.machine_core.specs.declared.ends.End.TheVariants.{Complete}
 use Rattle.machine_core.specs.declared.events.Event.{Event}
 use Rattle.machine_core.specs.declared.events.Event.TheVariants as event
@@ -29,7 +29,9 @@ use Rattle.metainfo.specs.Info.{info_of}
 use Rattle.metainfo.specs.declared.meta.Meta.{Meta}
 use Rattle.option_set.specs.Values.{OptionValues, text_of_word}
 use Rattle.option_set.specs.declared.kinds.Word.TheVariants.{Dir}
+use Rattle.run_lifecycle.specs.Begins.{start_of_line}
 use Rattle.run_lifecycle.specs.Promises.{IsRightPiece}
+use Rattle.run_lifecycle.specs.TurnsOf.{AreTurnsOf}
 use Rattle.run_lifecycle.specs.declared.ended.Ended.{Ended}
 use Rattle.run_report.specs.declared.endings.RunEnding.TheVariants.{Done, NoMemory, Unfinished}
 use Rattle.served_runs.specs.Served.{AllServe}
@@ -100,9 +102,9 @@ IsCutShort limited events (Ok JournalFull) = is_nearly_full events ≡ true
 IsCutShort limited events (Err spent) = IsTrue limited
 IsCutShort limited events other = ⊥
 
--- The work over a link did, by turns of this run, of which its journal is the history.
-pub record WasCutShort {D L K : Type 0} (limited : Bool) (links : LinkSays L) (olds : List (L × K)) (ended : Ended D)
-    (news : List (L × K)) : Type 0 where
+-- The work over a link did, by turns of this run.
+pub record WasCutShort {D L K : Type 0} (limited : Bool) (links : LinkSays L) (start : RunStart) (olds : List (L × K))
+    (ended : Ended D) (news : List (L × K)) : Type 0 where
   pub place : ℕ
   pub old : L × K
   pub new : L × K
@@ -115,13 +117,13 @@ pub record WasCutShort {D L K : Type 0} (limited : Bool) (links : LinkSays L) (o
   pub why : IsCutShort limited ended.journal.events.items came
   pub few : IsTrue limited → IsWithinTurns (length its.worked) came
   pub told : List RunTurn
-  pub history : reverse ended.journal.events.items ≡ history_of told
+  pub turns : AreTurnsOf ended start told
   pub among : (t : RunTurn) → Contains its.worked t → Contains told t
 
 -- .. and the run is unfinished
-pub record EndsCutShort {D L K : Type 0} (limited : Bool) (links : LinkSays L) (olds : List (L × K)) (ended : Ended D)
-    (news : List (L × K)) : Type 0 where
-  pub cut : WasCutShort limited links olds ended news
+pub record EndsCutShort {D L K : Type 0} (limited : Bool) (links : LinkSays L) (start : RunStart) (olds : List (L × K))
+    (ended : Ended D) (news : List (L × K)) : Type 0 where
+  pub cut : WasCutShort limited links start olds ended news
   pub unfinished : ended.ending ≡ Unfinished
 
 -- the run is done, and its download complete
@@ -137,10 +139,11 @@ pub record IsDoneWhole {D : Type 0} (says : DiskSays D) (disk : D) (ended : Ende
       → IsRightPiece (want_by options meta) (says.state ended.disk).seen piece
 
 module _ {D L K O : Type 0} (limited : Bool) (says : DiskSays D) (links : LinkSays L) (sinks : SinkSays O)
-    (words : List (List ℕ)) (disk : D) (olds : List (L × K)) (out : O) (ended : Ended D) (news : List (L × K)) (out' : O) where
+    (words : List (List ℕ)) (gids doors : ℕ) (disk : D) (olds : List (L × K)) (out : O) (ended : Ended D) (news : List (L × K))
+    (out' : O) where
   abbrev pub CompletesServed : Type 0
   CompletesServed =
       (line : CommandLine) (meta : Meta) (uris : List (List ℕ)) (mirror : ℕ) (payload : List ℕ)
       → IsServedWhole says links sinks words disk olds out ended news out' line meta uris mirror payload
       → IsDoneWhole says disk ended (own_options line) meta ⊎ (ended.ending ≡ NoMemory)
-      ⊎ EndsCutShort limited links olds ended news
+      ⊎ EndsCutShort limited links (start_of_line gids doors line.globals) olds ended news

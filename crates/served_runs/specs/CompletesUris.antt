@@ -16,6 +16,7 @@ use Rattle.option_set.specs.Values.{number_value, text_of_word}
 use Rattle.option_set.specs.declared.kinds.Num.TheVariants.{PieceLength}
 use Rattle.option_set.specs.declared.kinds.Word.TheVariants.{Checksum, Dir, Out}
 use Rattle.payload_files.specs.Names.{name_of}
+use Rattle.run_lifecycle.specs.Begins.{start_of_line}
 use Rattle.run_lifecycle.specs.declared.ended.Ended.{Ended}
 use Rattle.run_report.specs.declared.endings.RunEnding.TheVariants.{NoMemory}
 use Rattle.std.specs.Option.{unwrap_or}
@@ -60,10 +61,12 @@ pub record IsDoneWith {D : Type 0} (says : DiskSays D) (ended : Ended D) (line :
   pub file : (says.state ended.disk).seen (name_in_folder line base) ≡ Some resource
 
 module _ {D L K O : Type 0} (limited : Bool) (says : DiskSays D) (links : LinkSays L) (sinks : SinkSays O)
-    (words : List (List ℕ)) (disk : D) (olds : List (L × K)) (out : O) (ended : Ended D) (news : List (L × K)) (out' : O) where
+    (words : List (List ℕ)) (gids doors : ℕ) (disk : D) (olds : List (L × K)) (out : O) (ended : Ended D) (news : List (L × K))
+    (out' : O) where
   -- the run is done with the resource, unless memory was wanting, or it is unfinished since a worker was cut short
   abbrev pub CompletesUris : Type 0
   CompletesUris =
       (line : CommandLine) (uris : List (List ℕ)) (resource : List ℕ)
       → IsServedAlike says links sinks words disk olds out ended news out' line uris resource
-      → IsDoneWith says ended line uris resource ⊎ (ended.ending ≡ NoMemory) ⊎ EndsCutShort limited links olds ended news
+      → IsDoneWith says ended line uris resource ⊎ (ended.ending ≡ NoMemory)
+      ⊎ EndsCutShort limited links (start_of_line gids doors line.globals) olds ended news

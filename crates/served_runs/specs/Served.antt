@@ -1,13 +1,12 @@
 -- What the history of a run holds against mirrors that serve a payload.
-use Rattle.std.specs.Prelude.{◌≡◌, ◌≢◌, ◌⊎◌, ◌<◌, ℕ, false, true, Contains, IsTrue, List, [], Some, reverse, slice_get}
+use Rattle.std.specs.Prelude.{◌≡◌, ◌≢◌, ◌⊎◌, ◌<◌, ℕ, false, true, Contains, IsTrue, List, [], Some, slice_get}
 use Rattle.command_line.specs.Lines.{IsLine}
 use Rattle.command_line.specs.declared.line.CommandLine.{CommandLine}
 use Rattle.control_file.specs.declared.want.Want.{Want}
 use Rattle.dl_disk.specs.declared.disk.Disk.{Ghosts as DiskSays}
 use Rattle.dl_kinds.specs.declared.gid.Gid.{Gid}
 use Rattle.dl_kinds.specs.declared.marks.Mark.{Mark}
-use Rattle.engine_turns.specs.RunTurns.{MayComeAfter}
-use Rattle.engine_turns.specs.Told.{AllTurns, RunTurn, history_of}
+use Rattle.engine_turns.specs.Told.{RunTurn, history_of}
 use Rattle.link_source.specs.declared.Links.{Ghosts as LinkSays}
 use Rattle.machine_core.specs.RunLegal.{download_in, is_listed}
 use Rattle.machine_core.specs.Starts.{Download, RunStart, Subject}
@@ -18,6 +17,7 @@ use Rattle.option_set.specs.Values.{OptionValues}
 use Rattle.piece_table.specs.declared.giver.Giver.TheVariants.{One}
 use Rattle.blameless_mirrors.specs.Blameless.{HasChosenPieces, IsListedAlone}
 use Rattle.run_lifecycle.specs.Begins.{start_of_line}
+use Rattle.run_lifecycle.specs.TurnsOf.{AreTurnsOf}
 use Rattle.run_lifecycle.specs.declared.ended.Ended.{Ended}
 use Rattle.run_report.specs.declared.endings.RunEnding.{RunEnding}
 use Rattle.run_report.specs.declared.endings.RunEnding.TheVariants.{NoMemory}
@@ -48,15 +48,14 @@ module _ {L K : Type 0} (links : LinkSays L) (olds news : List (L × K)) where
 
 module _ {D L K : Type 0} (says : DiskSays D) (links : LinkSays L) (words : List (List ℕ)) (gids doors : ℕ)
     (olds news : List (L × K)) (ended : Ended D) where
-  -- Turns came, each of which may come after those before it, and the journal is their history. Each loss at a mirror that serves a payload tells a count of the link's own
-  -- faults. Where the payload has the metainfo file's digests in each piece that the options choose, no piece that this mirror
-  -- alone gave is found wrong.
+  -- Turns came, which are the run's. Each loss at a mirror that serves a payload tells a count of the link's own faults. Where
+  -- the payload has the metainfo file's digests in each piece that the options choose, no piece that this mirror alone gave is
+  -- found wrong.
   pub record HoldsNothing : Type 0 where
     pub line : CommandLine
     pub means : IsLine words line
     pub told : List RunTurn
-    pub history : reverse ended.journal.events.items ≡ history_of told
-    pub ties : AllTurns (MayComeAfter (start_of_line gids doors line.globals)) told
+    pub turns : AreTurnsOf ended (start_of_line gids doors line.globals) told
     pub lost : (gid : Gid) (mirror : ℕ) (payload : List ℕ)
         → IsServed links olds news ended.ending (start_of_line gids doors line.globals) (history_of told) gid mirror payload
         → (id piece : ℕ) (mark : Mark) → Contains ended.journal.events.items (Lost gid id mirror piece mark)

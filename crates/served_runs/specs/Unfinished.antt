@@ -42,7 +42,7 @@ module _ {D L K : Type 0} (limited : Bool) (links : LinkSays L) (words : List (L
     pub line : CommandLine
     pub means : IsLine words line
     pub why : WasShutDown ended.journal.events.items
-        ⊎ WasCutShort limited links olds ended news
+        ⊎ WasCutShort limited links (start_of_line gids doors line.globals) olds ended news
         ⊎ IsLeftPaused (start_of_line gids doors line.globals) line ended.journal.events.items
 
   -- a run that is unfinished shows why

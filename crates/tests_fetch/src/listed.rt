@@ -118,6 +118,15 @@ impl Links for ListedLink {
         }
     }
 
+    // Mirrors in memory have no connections for data.
+    fn dial_data(&mut self, _port: u16) -> Result<(), IoErr> {
+        Err(IoErr::NoMemory)
+    }
+
+    fn recv_data(&mut self, _into: &mut [u8]) -> Result<usize, IoErr> {
+        Err(IoErr::NoMemory)
+    }
+
     fn hang_up(&mut self) {
         self.mirrors.hang_up();
     }

@@ -84,6 +84,15 @@ impl<'a> Links for GatedLinks<'a> {
         self.mirrors.recv(into)
     }
 
+    // Mirrors in memory have no connections for data.
+    fn dial_data(&mut self, _port: u16) -> Result<(), IoErr> {
+        Err(IoErr::NoMemory)
+    }
+
+    fn recv_data(&mut self, _into: &mut [u8]) -> Result<usize, IoErr> {
+        Err(IoErr::NoMemory)
+    }
+
     fn hang_up(&mut self) {
         self.mirrors.hang_up();
     }

@@ -70,6 +70,14 @@ impl Links for TestLink {
         self.mirrors.recv(into)
     }
 
+    fn dial_data(&mut self, port: u16) -> Result<(), IoErr> {
+        self.mirrors.dial_data(port)
+    }
+
+    fn recv_data(&mut self, into: &mut [u8]) -> Result<usize, IoErr> {
+        self.mirrors.recv_data(into)
+    }
+
     fn hang_up(&mut self) {
         self.mirrors.hang_up();
     }

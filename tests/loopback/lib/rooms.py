@@ -37,7 +37,7 @@ ONCE = ("--max-tries=1", "t.torrent")
 BY_MIB = ("--split=64", "--min-split-size=1M", *ONCE)
 
 # The statuses of a download that was opened and that no mirror could complete.
-LOST = {3, 6, 22, 23, 24, 29, 32}
+LOST = {3, 6, 21, 22, 23, 24, 29, 32}
 
 
 def built(program):

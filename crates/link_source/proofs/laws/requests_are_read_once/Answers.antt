@@ -6,5 +6,5 @@ pub returns-clause-once : goal.returns-clause-once
 returns-clause-once c = asks_once
 
 pub returns-clause-answered : goal.returns-clause-answered
-returns-clause-answered c = λ old new host target reply port first last ordered bounded answers.
-    answers.asked target first last (record { text = refl; ordered = ordered; bounded = bounded })
+returns-clause-answered c = λ old new host target reply port first last served ordered bounded answers.
+    answers.asked target first last served (record { text = refl; ordered = ordered; bounded = bounded })

@@ -24,4 +24,4 @@ returns c = bad_answers_pay (record {
   flipped = c.bad_replies_are_read.ensures.flipped;
   bare = c.bad_replies_are_read.ensures.bare;
   cut = c.bad_replies_are_read.ensures.cut;
-})
+}) c.fetched_bytes_fit_their_parts.ensures.own

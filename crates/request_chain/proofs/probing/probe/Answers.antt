@@ -2,7 +2,7 @@ use Rattle.std.proofs.Common.{◌≡◌, ◌+◌, List, ℕ, refl, sym, ap, subs
 use Rattle.std.proofs.lemmas.Bool.{lt-leb}
 use Rattle.std.specs.Prelude.{◌⊎◌, None}
 use Rattle.std.proofs.lemmas.Result.{err_from_is_err_and}
-use Rattle.link_source.specs.Endpoint.{IsUsable}
+use Rattle.link_source.specs.Endpoint.{IsHttp}
 use Rattle.reply_reader.specs.declared.loss.Loss.TheVariants.{NoMemory}
 use Rattle.request_chain.specs.Probes.{Told, Lost, At}
 use Rattle.request_chain.specs.Redirects.{moved_to}
@@ -82,7 +82,7 @@ turns-preserved g c = record {
       (on.0, on.1, subst P (sym led.1) on.2);
   untouched = λ unusable.
       let same = c.turns.invariant.untouched unusable in
-      absurd (unusable (subst IsUsable same.1 c.in_ok-head.ensures.usable));
+      absurd (unusable (subst IsHttp same.1 c.in_ok-head.ensures.usable));
   answered = λ told before old were. c.ask.ensures.answered told before old (c.turns.invariant.answered told before old were);
 }
 

@@ -1,5 +1,5 @@
 use Rattle.std.proofs.Common.{◌≡◌, ◌≤◌, ◌-◌, false, List, IsTrue}
-use Rattle.link_source.specs.Endpoint.{IsUsable}
+use Rattle.link_source.specs.Endpoint.{IsHttp}
 use Rattle.link_source.specs.Exchanges.{Exchange}
 use Rattle.request_chain.specs.Answered.{KeepsAnswers}
 use Rattle.request_chain.specs.Chains.{Gains}
@@ -14,7 +14,7 @@ invariant-turns g l = record {
   faults : g.L.Links.faults l.initial.link ≤ g.L.Links.faults l.link;
   searched : IsTrue g.L.Links.tells → (used : List Exchange) × Gains (g.L.Links.state l.initial.link).exchanges (g.L.Links.state l.link).exchanges used
       × SearchLeads (At l.fn.url 0 0) used (At l.hop.url l.redirects l.hop.status);
-  untouched : (IsUsable l.fn.url → ⊥) → (l.link ≡ l.initial.link) × (l.hop.url ≡ l.fn.url);
+  untouched : (IsHttp l.fn.url → ⊥) → (l.link ≡ l.initial.link) × (l.hop.url ≡ l.fn.url);
   answered : IsTrue g.L.Links.tells → (before : List Exchange) → KeepsAnswers before (g.L.Links.state l.initial.link) (g.L.Links.state l.link);
 }
 

@@ -1,6 +1,7 @@
 use Rattle.std.proofs.Common.{◌≡◌, ◌+◌, ◌-◌, ◌∙◌, ℕ, refl, sym, ap, subst, arith}
 use Rattle.fetch_session.specs.Blocks.{AreReady, cut}
 use Rattle.fetch_session.proofs.Cuts.{cut_inside, cut_next}
+use Rattle.fetch_session.proofs.PartSteps.{may_rests}
 use Rattle.fetch_session.proofs.Ready.{none_ready}
 use Rattle.fetch_session.proofs.Taking.{begun_fetch}
 use Rattle.fetch_session.proofs.fetch.Fetch.begin.Goals as goal
@@ -12,7 +13,7 @@ invariant_of-result-clause-holds c =
     subst P (sym c.clear.ensures.len) (none_ready job.plan (job.run.first + job.run.count) job.run.first c.plan_laws.ensures.follow (let some = c.requires.some in omega (arith, some)) c.requires.within)
 
 pub returns-clause-fetch : goal.returns-clause-fetch
-returns-clause-fetch c = begun_fetch c.args.job _ c.plan_laws.ensures.follow c.requires refl refl refl c.clear.ensures.items refl c.new.ensures.chain c.new.ensures.brought
+returns-clause-fetch c = begun_fetch c.args.job _ c.plan_laws.ensures.follow c.requires refl refl refl c.clear.ensures.items refl c.new.ensures.source c.new.ensures.brought
 
 pub returns-clause-first : goal.returns-clause-first
 returns-clause-first c = cut_inside c.args.job.plan c.args.job.run.first (let some = c.requires.some in let within = c.requires.within in omega (arith, some, within))
@@ -28,4 +29,4 @@ returns-clause-end c =
 pub returns-clause-may : goal.returns-clause-may
 returns-clause-may c = λ link begins.
     let may = c.new.ensures.may link begins in
-    record { steps = λ none more. may; rests = λ none. may.rests }
+    record { steps = λ none more. may; rests = λ none. may_rests _ link may }

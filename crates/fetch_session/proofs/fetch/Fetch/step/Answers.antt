@@ -11,7 +11,7 @@ returns-in-Some-clause-reads g c = λ tells job before used handed is gains.
 pub returns-then-room-eq0-clause-reads : goal.returns-then-room-eq0-clause-reads
 returns-then-room-eq0-clause-reads g c = λ tells job before used handed is gains.
     let self = c.args.self.now in
-    steps_over c.fetched_bytes_fit_their_parts.ensures.fits c.plan_laws.ensures.follow job used handed _ (same_fetch job used handed self _ (record { plan = refl; end_is = refl; ready = refl; chain = refl; held = refl; lost = refl }) is) before _ gains c.args.allow
+    steps_over c.fetched_bytes_fit_their_parts.ensures.fits c.plan_laws.ensures.follow job used handed _ (same_fetch job used handed self _ (record { plan = refl; end_is = refl; ready = refl; source = refl; held = refl; lost = refl }) is) before _ gains c.args.allow
     c.got.result c.in_default.is c.requires.none_ready (omega (arith, c.missing-room.ensures.value, c.len.ensures, c.if-room-eq0.true))
     c.got.ensures.ready c.got.ensures.taken c.got.ensures.done
 
@@ -28,7 +28,7 @@ returns-then-is_err-clause-reads g c = λ tells job before used handed is gains.
 pub returns-clause-reads : goal.returns-clause-reads
 returns-clause-reads g c = λ tells job before used handed is gains.
     c.read_on.ensures.reads tells job before used handed
-    (c.refill.ensures.fetch job used handed (same_fetch job used handed c.args.self.now _ (record { plan = refl; end_is = refl; ready = refl; chain = refl; held = refl; lost = refl }) is)) gains
+    (c.refill.ensures.fetch job used handed (same_fetch job used handed c.args.self.now _ (record { plan = refl; end_is = refl; ready = refl; source = refl; held = refl; lost = refl }) is)) gains
 
 pub returns-in-Some-clause-known : goal.returns-in-Some-clause-known
 returns-in-Some-clause-known g c = c.args.self.now.known c.in-Some.loss c.in-Some.is
@@ -36,7 +36,7 @@ returns-in-Some-clause-known g c = c.args.self.now.known c.in-Some.loss c.in-Som
 pub returns-clause-answered : goal.returns-clause-answered
 returns-clause-answered g c = λ tells job before used handed is gains.
     c.read_on.ensures.answered tells job before used handed
-    (c.refill.ensures.fetch job used handed (same_fetch job used handed c.args.self.now _ (record { plan = refl; end_is = refl; ready = refl; chain = refl; held = refl; lost = refl }) is)) gains
+    (c.refill.ensures.fetch job used handed (same_fetch job used handed c.args.self.now _ (record { plan = refl; end_is = refl; ready = refl; source = refl; held = refl; lost = refl }) is)) gains
 
 pub returns-then-is_err-clause-whole : goal.returns-then-is_err-clause-whole
 returns-then-is_err-clause-whole g c = λ tells job before used handed is gains were. c.refill.ensures.whole _ were
@@ -44,5 +44,5 @@ returns-then-is_err-clause-whole g c = λ tells job before used handed is gains 
 pub returns-clause-whole : goal.returns-clause-whole
 returns-clause-whole g c = λ tells job before used handed is gains were.
     c.read_on.ensures.whole tells job before used handed
-    (c.refill.ensures.fetch job used handed (same_fetch job used handed c.args.self.now _ (record { plan = refl; end_is = refl; ready = refl; chain = refl; held = refl; lost = refl }) is)) gains
+    (c.refill.ensures.fetch job used handed (same_fetch job used handed c.args.self.now _ (record { plan = refl; end_is = refl; ready = refl; source = refl; held = refl; lost = refl }) is)) gains
     (c.refill.ensures.whole _ were)

@@ -38,10 +38,10 @@ returns-clause-reads g c told parts before used bytes is gains =
     )
 
 pub returns-in_err-turn-clause-answered : goal.returns-in_err-turn-clause-answered
-returns-in_err-turn-clause-answered g c told parts before used bytes is gains old were =
+returns-in_err-turn-clause-answered g c told parts before used bytes is gains since few old were =
     let so_far = c.turns.invariant.steps told parts before used bytes is gains in
-    c.turn.ensures.answered told parts before so_far.2.later (bytes ++ so_far.0) so_far.2.chain_is so_far.2.gains old
-    (c.turns.invariant.answered told parts before used bytes is gains old were)
+    c.turn.ensures.answered told parts before so_far.2.later (bytes ++ so_far.0) so_far.2.chain_is so_far.2.gains since few old
+    (c.turns.invariant.answered told parts before used bytes is gains since few old were)
 
 pub returns-in_err-turn-clause-whole : goal.returns-in_err-turn-clause-whole
 returns-in_err-turn-clause-whole g c told parts before used bytes is gains were =
@@ -68,10 +68,10 @@ turns-preserved g c = record {
           chain_is = subst P (append_assoc bytes so_far.0 last.0) last.2.chain_is;
         },
       );
-  answered = λ told parts before used bytes is gains old were.
+  answered = λ told parts before used bytes is gains since few old were.
       let so_far = c.turns.invariant.steps told parts before used bytes is gains in
-      c.turn.ensures.answered told parts before so_far.2.later (bytes ++ so_far.0) so_far.2.chain_is so_far.2.gains old
-      (c.turns.invariant.answered told parts before used bytes is gains old were);
+      c.turn.ensures.answered told parts before so_far.2.later (bytes ++ so_far.0) so_far.2.chain_is so_far.2.gains since few old
+      (c.turns.invariant.answered told parts before used bytes is gains since few old were);
   whole = λ told parts before used bytes is gains were.
       let so_far = c.turns.invariant.steps told parts before used bytes is gains in
       c.turn.ensures.whole told parts before so_far.2.later (bytes ++ so_far.0) so_far.2.chain_is so_far.2.gains;

@@ -1,5 +1,5 @@
-use Rattle.std.proofs.Common.{◌≡◌, ◌+◌, ◌-◌, ◌*◌, ◌≤◌, ◌++◌, ℕ, List, IsTrue, vec_len, vec_capacity}
-use Rattle.link_source.specs.Endpoint.{IsUsable}
+use Rattle.std.proofs.Common.{◌≡◌, ◌+◌, ◌-◌, ◌*◌, ◌≤◌, ◌++◌, ℕ, List, IsTrue, length, vec_len, vec_capacity}
+use Rattle.link_source.specs.Endpoint.{IsHttp}
 use Rattle.link_source.specs.Exchanges.{Exchange}
 use Rattle.span_map.specs.declared.jobs.JobPart.{JobPart}
 use Rattle.request_chain.specs.Chains.{IsChain, Gains}
@@ -20,11 +20,11 @@ invariant-turns g l = record {
       → (added : List ℕ) × (l.out.items ≡ l.initial.out.items ++ added) × Steps parts before used bytes (g.L.Links.state l.link).exchanges added 0 l.self;
   answered : IsTrue g.L.Links.tells → (parts : List JobPart) (before used : List Exchange) (bytes : List ℕ)
       → IsChain parts used bytes l.fn.self → Gains before (g.L.Links.state l.initial.link).exchanges used
-      → KeepsAnswers before (g.L.Links.state l.initial.link) (g.L.Links.state l.link);
+      → (since : List Exchange) → length since ≤ length before → KeepsAnswers since (g.L.Links.state l.initial.link) (g.L.Links.state l.link);
   whole : IsTrue g.L.Links.tells → (parts : List JobPart) (before used : List Exchange) (bytes : List ℕ)
       → IsChain parts used bytes l.fn.self → Gains before (g.L.Links.state l.initial.link).exchanges used
       → RestsWhole l.fn.self.room (g.L.Links.state l.initial.link).exchanges → RestsWhole l.self.room (g.L.Links.state l.link).exchanges;
-  untouched : (url : List ℕ) → AsksFor l.fn.self url → (IsUsable url → ⊥)
+  untouched : (url : List ℕ) → AsksFor l.fn.self url → (IsHttp url → ⊥)
       → (l.link ≡ l.initial.link) × (l.out ≡ l.initial.out) × AsksFor l.self url × (l.gained ≡ 0) × (l.self.taken ≡ 0);
   may : IsTrue g.L.Links.tells → MayGoOn l.self (g.L.Links.state l.link);
 }

@@ -55,39 +55,39 @@ returns-in_ok-check-in-Err-clause-receives g c told parts before used bytes is g
     link_loses parts before used _ _ self.course bytes _ _ _ refl c.in-Err.error _ self.stage c.link_loss.ensures.loss reading c.in_ok-check-in-Err.ensures.due c.requires.sent gains (c.in-Err.ensures.failed told)
 
 pub returns-in_ok-check-in-Ok-eq0-clause-answered : goal.returns-in_ok-check-in-Ok-eq0-clause-answered
-returns-in_ok-check-in-Ok-eq0-clause-answered g c told parts before used bytes is gains =
+returns-in_ok-check-in-Ok-eq0-clause-answered g c told parts before used bytes is gains since few =
     let self = c.args.self.now in
-    answered_received before _ _ c.refill.new.self
-    (sent_later parts before _ used self.course bytes self.room.inbox self.stage is.reading c.requires.sent gains) (c.requires.listens told)
+    answered_received since _ _ c.refill.new.self
+    (sent_later parts since before _ used self.course bytes self.room.inbox self.stage few is.reading c.requires.sent gains) (c.requires.listens told)
     (c.in-Ok-eq0.ensures.received told) (comes_due _ c.refill.new.self _ _ c.in-Ok-eq0.ensures.count (c.in-Ok-eq0.ensures.given told)) (c.refill.ensures.kept told)
     (little_newest c.replies_are_read_short.ensures.final_head c.replies_are_read_short.ensures.heads c.replies_are_read_short.ensures.not_final c.replies_are_read_short.ensures.slices
     parts before _ used self.course bytes c.refill.new.self c.most_asked.result (omega (arith, c.in-Ok-eq0.ensures.count, c.in-Ok-eq0.ensures.most)) (omega (arith, c.in-Ok-eq0.ensures.count, c.in-Ok-eq0.ensures.most, c.most_asked.ensures.few))
     self.stage c.most_asked.ensures.head c.requires.sent (subst (λ waiting. IsReading self.stage self.course waiting parts used bytes) c.requires.none_waits is.reading) gains)
 
 pub returns-in_err-check-in-Ok-eq0-clause-answered : goal.returns-in_err-check-in-Ok-eq0-clause-answered
-returns-in_err-check-in-Ok-eq0-clause-answered g c told parts before used bytes is gains =
+returns-in_err-check-in-Ok-eq0-clause-answered g c told parts before used bytes is gains since few =
     let self = c.args.self.now in
-    answered_received before _ _ c.refill.new.self
-    (sent_later parts before _ used self.course bytes self.room.inbox self.stage is.reading c.requires.sent gains) (c.requires.listens told)
+    answered_received since _ _ c.refill.new.self
+    (sent_later parts since before _ used self.course bytes self.room.inbox self.stage few is.reading c.requires.sent gains) (c.requires.listens told)
     (c.in-Ok-eq0.ensures.received told) (comes_due _ c.refill.new.self _ _ c.in-Ok-eq0.ensures.count (c.in-Ok-eq0.ensures.given told)) (c.refill.ensures.kept told)
     (little_newest c.replies_are_read_short.ensures.final_head c.replies_are_read_short.ensures.heads c.replies_are_read_short.ensures.not_final c.replies_are_read_short.ensures.slices
     parts before _ used self.course bytes c.refill.new.self c.most_asked.result (omega (arith, c.in-Ok-eq0.ensures.count, c.in-Ok-eq0.ensures.most)) (omega (arith, c.in-Ok-eq0.ensures.count, c.in-Ok-eq0.ensures.most, c.most_asked.ensures.few))
     self.stage c.most_asked.ensures.head c.requires.sent (subst (λ waiting. IsReading self.stage self.course waiting parts used bytes) c.requires.none_waits is.reading) gains)
 
 pub returns-in-Ok-clause-answered : goal.returns-in-Ok-clause-answered
-returns-in-Ok-clause-answered g c told parts before used bytes is gains =
+returns-in-Ok-clause-answered g c told parts before used bytes is gains since few =
     let self = c.args.self.now in
-    answered_received before _ _ c.refill.new.self
-    (sent_later parts before _ used self.course bytes self.room.inbox self.stage is.reading c.requires.sent gains) (c.requires.listens told)
+    answered_received since _ _ c.refill.new.self
+    (sent_later parts since before _ used self.course bytes self.room.inbox self.stage few is.reading c.requires.sent gains) (c.requires.listens told)
     (c.in-Ok.ensures.received told) (comes_due _ c.refill.new.self _ _ c.in-Ok.ensures.count (c.in-Ok.ensures.given told)) (c.refill.ensures.kept told)
     (little_newest c.replies_are_read_short.ensures.final_head c.replies_are_read_short.ensures.heads c.replies_are_read_short.ensures.not_final c.replies_are_read_short.ensures.slices
     parts before _ used self.course bytes c.refill.new.self c.most_asked.result (omega (arith, c.in-Ok.ensures.count, c.in-Ok.ensures.most)) (omega (arith, c.in-Ok.ensures.count, c.in-Ok.ensures.most, c.most_asked.ensures.few))
     self.stage c.most_asked.ensures.head c.requires.sent (subst (λ waiting. IsReading self.stage self.course waiting parts used bytes) c.requires.none_waits is.reading) gains)
 
 pub returns-in_err-check-in-Err-clause-answered : goal.returns-in_err-check-in-Err-clause-answered
-returns-in_err-check-in-Err-clause-answered g c told parts before used bytes is gains =
-    answered_still before _ _ (c.requires.listens told) (c.refill.ensures.kept told) (c.in-Err.ensures.failed told) (c.in-Err.ensures.held told)
+returns-in_err-check-in-Err-clause-answered g c told parts before used bytes is gains since few =
+    answered_still since _ _ (c.requires.listens told) (c.refill.ensures.kept told) (c.in-Err.ensures.failed told) (c.in-Err.ensures.held told)
 
 pub returns-in_ok-check-in-Err-clause-answered : goal.returns-in_ok-check-in-Err-clause-answered
-returns-in_ok-check-in-Err-clause-answered g c told parts before used bytes is gains =
-    answered_still before _ _ (c.requires.listens told) (c.refill.ensures.kept told) (c.in-Err.ensures.failed told) (c.in-Err.ensures.held told)
+returns-in_ok-check-in-Err-clause-answered g c told parts before used bytes is gains since few =
+    answered_still since _ _ (c.requires.listens told) (c.refill.ensures.kept told) (c.in-Err.ensures.failed told) (c.in-Err.ensures.held told)

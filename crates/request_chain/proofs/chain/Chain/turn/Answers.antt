@@ -42,7 +42,7 @@ returns-then-not-branch-clause-smaller g c =
     omega (arith, vain.1, vain.2, weight)
 
 pub returns-then-is_asking-clause-answered : goal.returns-then-is_asking-clause-answered
-returns-then-is_asking-clause-answered g c told parts before used bytes is gains = c.ask.ensures.answered told before
+returns-then-is_asking-clause-answered g c told parts before used bytes is gains since few = c.ask.ensures.answered told since
 
 pub returns-then-not-is_empty-clause-whole : goal.returns-then-not-is_empty-clause-whole
 returns-then-not-is_empty-clause-whole g c told parts before used bytes is gains rests =

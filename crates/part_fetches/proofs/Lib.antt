@@ -1,0 +1,4 @@
+pub mod Following
+mod Lengths
+mod Once
+pub mod Probing

@@ -1,0 +1,4 @@
+mod Losing
+mod Reading
+mod Sizing
+pub mod Telling
