@@ -9,7 +9,7 @@ use dl_kinds::{Blob, IoErr, Moment};
 use door_source::{Came, Doors};
 use link_source::{Links, MemLinks};
 use std::alloc::Global;
-use std::sync::atomic::{AtomicU64, Ordering};
+use std::sync::atomic::{AtomicBool, AtomicU64, Ordering};
 
 /// How often it is looked whether what is waited for has come, before the run goes on without it.
 const MOST_LOOKS: u64 = 1_000_000_000;
@@ -23,6 +23,8 @@ pub struct Gates {
     pub rested: AtomicU64,
     /// How many connections of clients have ended.
     pub answered: AtomicU64,
+    /// Whether the run told that it is over.
+    pub over: AtomicBool,
 }
 
 impl Gates {
@@ -31,6 +33,7 @@ impl Gates {
             asked: AtomicU64::new(0),
             rested: AtomicU64::new(0),
             answered: AtomicU64::new(0),
+            over: AtomicBool::new(false),
         }
     }
 }
@@ -49,14 +52,17 @@ pub struct GatedLinks<'a> {
     mirrors: MemLinks,
     gates: &'a Gates,
     waits_for: u64,
+    // Whether the mirrors end each connection once the run is over.
+    leaves: bool,
 }
 
 impl<'a> GatedLinks<'a> {
-    pub fn new(mirrors: MemLinks, gates: &'a Gates, waits_for: u64) -> Self {
+    pub fn new(mirrors: MemLinks, gates: &'a Gates, waits_for: u64, leaves: bool) -> Self {
         GatedLinks {
             mirrors,
             gates,
             waits_for,
+            leaves,
         }
     }
 }
@@ -95,6 +101,9 @@ impl<'a> Links for GatedLinks<'a> {
             return Err(IoErr::NoMemory);
         }
         wait_for(&self.gates.answered, self.waits_for);
+        if self.leaves && self.gates.over.load(Ordering::SeqCst) {
+            return Ok(0);
+        }
         self.mirrors.recv(into)
     }
 

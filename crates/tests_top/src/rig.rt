@@ -17,6 +17,8 @@ pub struct Rig {
     pub server: Server,
     /// So many clients have to be answered before the link receives anything.
     pub waits_for: u64,
+    /// Whether the mirrors end each connection once the run is over.
+    pub leaves: bool,
     /// When the next clients come, and when they end their connections.
     comes: When,
     ends: When,
@@ -98,6 +100,7 @@ impl Rig {
             mirrors: Vec::new(alloc),
             server: Server::new(alloc),
             waits_for: 0,
+            leaves: false,
             comes: When::Now,
             ends: When::Now,
             is_beside: false,
@@ -153,6 +156,7 @@ impl Rig {
     pub fn take(&mut self, key: &str, line: &str) {
         match key {
             "waits" => self.waits_for = u64_at(line, 0),
+            "leave" => self.leaves = true,
             "come" => self.comes = when(line),
             "stay" => self.ends = when(line),
             "beside" => self.is_beside = true,

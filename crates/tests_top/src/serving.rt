@@ -27,7 +27,7 @@ fn served<'a, R: Threads + Wait + Sync>(
     let mut links = Vec::with_capacity(rig.alloc, 1)?;
     links.push((rig.server.link(most, piece), GatedClock::new(gates)))?;
     let mut out = MemSink::new(rig.alloc, Vec::new(rig.alloc));
-    ran(threads, rig, links, Vec::new(rig.alloc), &mut out)
+    ran(threads, rig, gates, links, Vec::new(rig.alloc), &mut out)
 }
 
 // How a run ended, and what stands in the files of one that came to its end.

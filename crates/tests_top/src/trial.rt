@@ -14,7 +14,6 @@ use machine_core::{Event, Journal};
 use payload_repair::Unwatched;
 use std::alloc::Global;
 use std::sync::Wait;
-use std::sync::atomic::AtomicBool;
 use std::thread::Threads;
 use test_lines::{Output, after, before, set};
 
@@ -34,7 +33,7 @@ fn link_of<'a>(
     let memory = MemLinks::new(alloc, mirrors, Vec::new(alloc), CUT, Vec::new(alloc))?;
     let mut links = Vec::with_capacity(alloc, 1)?;
     links.push((
-        GatedLinks::new(memory, gates, rig.waits_for),
+        GatedLinks::new(memory, gates, rig.waits_for, rig.leaves),
         GatedClock::new(gates),
     ))?;
     Ok(links)
@@ -74,6 +73,7 @@ fn disk_of(rig: &Rig) -> Result<MemDisk, NoMemory> {
 pub fn ran<'a, R: Threads + Wait + Sync, L: Links + Send + Drop>(
     threads: &R,
     rig: &Rig,
+    gates: &'a Gates,
     links: Vec<(L, GatedClock<'a>)>,
     doors: Vec<(GatedDoors<'a>, GatedClock<'a>)>,
     out: &mut MemSink,
@@ -82,13 +82,12 @@ pub fn ran<'a, R: Threads + Wait + Sync, L: Links + Send + Drop>(
     requires doors { length doors.items ≤ 2 }
 {
     let disk = disk_of(rig)?;
-    let over = AtomicBool::new(false);
     Ok(run(
         threads,
         rig.alloc,
         &rig.words,
         disk,
-        &over,
+        &gates.over,
         links,
         doors,
         1,
@@ -151,7 +150,7 @@ fn fetched<'a, R: Threads + Wait + Sync>(
 ) -> Result<Ran<'a, GatedLinks<'a>>, NoMemory> {
     let links = link_of(rig, gates)?;
     let doors = doors_of(rig, gates)?;
-    ran(threads, rig, links, doors, out)
+    ran(threads, rig, gates, links, doors, out)
 }
 
 fn end<R: Threads + Wait + Sync>(threads: &R, rig: &mut Rig, output: &mut Output) {
